@@ -1,6 +1,6 @@
 -- An attribute stays a byte.
 use Rattle.std.proofs.Common.{◌≡◌, ℕ, ◌<◌, ◌^◌, Bool, true, false, refl, List, [], ◌∷◌, Option, Some, None, arith}
-use Rattle.std.specs.Prelude.{◌&&◌, ◌==◌, ◌%◌, nat_lt, IfSome, MatchOption, bit_and, bit_or, if◌then◌else◌}
+use Rattle.std.specs.Prelude.{◌&&◌, ◌==◌, ◌%◌, nat_lt, IfSome, bit_and, bit_or, if◌then◌else◌}
 use Rattle.std.specs.List.{list_all}
 use Rattle.std.proofs.lemmas.Bool.{ltb-true, and_parts}
 use Rattle.std.proofs.lemmas.Nat.{and_le_r, or_of_8}
@@ -8,6 +8,8 @@ use Rattle.std.specs.Int.Bits.{or_zero_r}
 use Rattle.std.proofs.lemmas.Grind.{and_numeral}
 use Rattle.ans_model.specs.Screen.Attribute.{Rendition, renditions, rendition_of, attribute_by, attribute_after}
 use Rattle.ans_model.specs.Screen.Attribute.{attribute_after_all}
+use Rattle.ans_model.specs.declared.attribute.Change.{Change}
+use Rattle.ans_model.proofs.Changes.{IsChangeBy}
 
 -- the mask and the set bits are bytes
 pub record IsByteRendition (r : Rendition) : Type 0 where
@@ -48,12 +50,11 @@ all_kept a h =
     let e : bit_and a 255 ≡ a % 256 = and_numeral a 254 refl in
     rw e (omega arith)
 
--- an attribute by the mask and the set bits of a rendition, or by those that change nothing
-pub attribute_by_found : (o : Option Rendition) (a mask set : ℕ) → a < 2 ^ 8
-    → MatchOption o ((mask ≡ 0xFF) × (set ≡ 0x00)) (λ (r : Rendition). (mask ≡ r.mask) × (set ≡ r.set))
-    → bit_or (bit_and a mask) set ≡ attribute_by o a
-attribute_by_found None a mask set h (m, s) = rw (m, s, or_zero_r (bit_and a 255)) (all_kept a h)
-attribute_by_found (Some r) a mask set h (m, s) = rw (m, s) refl
+-- an attribute by the change of a rendition, or by that which changes nothing
+pub attribute_by_found : (o : Option Rendition) (a : ℕ) (change : Change) → a < 2 ^ 8 → IsChangeBy o change
+    → bit_or (bit_and a change.mask) change.set ≡ attribute_by o a
+attribute_by_found None a change h (m, k, s) = rw (m, s, or_zero_r (bit_and a 255)) (all_kept a h)
+attribute_by_found (Some r) a change h (m, k, s) = rw (m, s) refl
 
 pub attribute_after_lt : (a p : ℕ) → a < 256 → attribute_after a p < 256
 attribute_after_lt a p h = attribute_by_lt (rendition_of renditions p) a (rendition_fits p) h

@@ -16,5 +16,6 @@ pub mod OneCause
 pub mod OneAnswer
 pub mod AcceptedFiles
 pub mod FirstRefusal
+pub mod Changes
 pub mod CellsBack
 pub mod AfterPart

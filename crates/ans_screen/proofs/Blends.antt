@@ -95,7 +95,7 @@ blended_plane xs new from count ln le room =
     ∙ ap (λ (ys : List ℕ). take count new ++ ys) (lanes_behind xs from count le room)))
 
 -- equal lanes are a short fill
-pub short_run : (xs : List ℕ) (from count byte : ℕ) → count ≤ 16
+short_run : (xs : List ℕ) (from count byte : ℕ) → count ≤ 16
     → written xs from (take count (replicate 16 byte)) ≡ filled xs from (from + count) byte
 short_run xs from count byte short =
     ap (λ (ys : List ℕ). written xs from ys) (take-replicate count 16 byte short)

@@ -3,11 +3,15 @@ use Rattle.std.proofs.Common.{◌≡◌, ℕ, ◌+◌, ◌<◌, ◌^◌, ◌%◌
 use Rattle.std.proofs.Common.{lit<, refl}
 use Rattle.std.specs.Prelude.{IfSome, bit_and, bit_or, bit_xor}
 use Rattle.std.specs.Int.{bit_at}
+use Rattle.std.specs.Int.Bits.{or_zero_r}
 use Rattle.std.proofs.lemmas.Nat.{and_le_r, or_of_8, xor_of_8}
-use Rattle.std.proofs.lemmas.Nat.Bits.{bit_at_and, bit_at_or, bit_at_xor, bit_at-lt, bit_at_ones, same_from_bits_below}
+use Rattle.std.proofs.lemmas.Nat.Bits.{bit_at_and, bit_at_or, bit_at_xor, bit_at-lt, bit_at_ones, same_from_bits}
+use Rattle.std.proofs.lemmas.Nat.Bits.{same_from_bits_below}
 use Rattle.ans_model.specs.Screen.Attribute.{Rendition, renditions, rendition_of, attribute_by, attribute_after}
-use Rattle.ans_model.proofs.AttributeBytes.{IsByteRendition, rendition_fits}
-use Rattle.ans_screen.specs.KnownBits.{KnownBits, IsKnownBits, Agrees, known_by, known_after}
+use Rattle.ans_model.specs.declared.attribute.Change.{Change}
+use Rattle.ans_model.proofs.AttributeBytes.{IsByteRendition, rendition_fits, all_kept}
+use Rattle.ans_model.proofs.Changes.{IsChangeBy}
+use Rattle.ans_screen.specs.KnownBits.{KnownBits, known_bits, IsKnownBits, Agrees, known_by, known_after}
 use Rattle.ans_screen.specs.KnownBits.{AgreesAfter, KnowsJust}
 
 -- ---- a mask m and set bits s, of an attribute a or of the known values, and of the known bits k
@@ -149,10 +153,41 @@ pub record IsAfter (a : KnownBits) (parameter : ℕ) (b : KnownBits) : Type 0 wh
   pub sound : AgreesAfter a parameter b
   pub exact : KnowsJust a parameter b
 
-pub is_after : (a b : KnownBits) (n : ℕ) → IsKnownBits a → known_after a n ≡ b → IsAfter a n b
+is_after : (a b : KnownBits) (n : ℕ) → IsKnownBits a → known_after a n ≡ b → IsAfter a n b
 is_after a b n is e = subst (λ (k : KnownBits). IsAfter a n k) e (record {
   known_bits = known_bits_after a n is;
   bits = refl;
   sound = λ x byte agrees. agrees_after a x n agrees;
   exact = knows_just a n is;
 })
+
+-- what the program makes of known bits by a change
+abbrev changed : KnownBits → Change → KnownBits
+changed k change =
+    known_bits (bit_or (bit_and k.known change.mask) change.known) (masked k.value change.mask change.set)
+
+or_or : (a b c : ℕ) → bit_or (bit_or a b) c ≡ bit_or a (bit_or b c)
+or_or a b c = same_from_bits _ _ (λ i. simp bit_at_or (omega arith))
+
+-- the known bits by the change of a rendition, or by that which changes nothing
+known_by_found : (o : Option Rendition) (k : KnownBits) (change : Change) → IsKnownBits k → IsChangeBy o change
+    → known_by o k ≡ changed k change
+known_by_found None k change is (m, n, s) =
+    let byte : k.value < 2 ^ 8 = rw (← is.within) (and_is_byte k.value k.known is.byte) in
+    rw (
+      m,
+      n,
+      s,
+      or_zero_r (bit_and k.known 255),
+      or_zero_r (bit_and k.value 255),
+      all_kept k.known is.byte,
+      all_kept k.value byte,
+    ) refl
+known_by_found (Some r) k change is (m, n, s) = rw (m, n, s, or_or) refl
+
+-- by the change that the program finds
+pub after_found : (inside a : KnownBits) (n : ℕ) (change : Change) → inside ≡ a → IsKnownBits inside
+    → IsChangeBy (rendition_of renditions n) change → IsAfter a n (changed inside change)
+after_found inside a n change e is f =
+    subst (λ (k : KnownBits). IsAfter k n (changed inside change)) e
+    (is_after inside _ n is (known_by_found (rendition_of renditions n) inside change is f))

@@ -1,5 +1,4 @@
 pub mod KnownAfter
-mod Steps
 pub mod Copies
 pub mod KnownChunks
 pub mod FirstGap

@@ -148,14 +148,6 @@ module _ (g : Planes) where
   known_byte_is Attribute i e lt =
       ap attribute_byte (cell_in_state g Known i e) ∙ (and_mask (get_or g.values i 0) 8 ∙ omega arith)
 
-  pub whole_shown : (which : CellByte) → length (shown_plane which g) ≡ g.width * g.rows
-  whole_shown Glyph = g.whole_glyphs
-  whole_shown Attribute = g.whole_values
-
-  pub whole_known : (which : CellByte) → length (known_plane which g) ≡ g.width * g.rows
-  whole_known Glyph = g.whole_glyphs_known
-  whole_known Attribute = g.whole_bits_known
-
 -- a part of a list that is written
 put_is_written : (a k : ℕ) (xs ys : List ℕ) → k ≡ length ys → put_mid a k xs ys ≡ written xs a ys
 put_is_written a k xs ys e =

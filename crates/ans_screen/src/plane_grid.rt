@@ -15,8 +15,9 @@ use crate::row_planes::{Frame, NEVER, Row, RowPlanes, cells, copies};
 use std::alloc::{AllocError, Global};
 
 /// Cell `i` is byte `i` of each of four planes where its row holds it, and else the blank. A fill of
-/// the whole grid writes neither planes nor rows. No more of the planes' memory is touched than is
-/// written, and none of two of them before a row is written of which not all is known.
+/// the whole grid writes neither planes nor rows. The planes' memory is touched from the front as far as
+/// cells were written, in steps of 64 KiB, and that of two of them only once a row is written of which
+/// not all is known.
 #[derive(Drop)]
 pub struct PlaneGrid {
     frame: Frame,

@@ -1,4 +1,4 @@
-//! Two planes of bytes of which no more is held than was written.
+//! Two planes of bytes, held from the front as far as cells were written.
 
 ghost use Rattle.std.specs.Prelude.{◌≡◌, ◌+◌, ◌<◌, ◌≤◌, ℕ, length, take, replicate, slice_index};
 ghost use Rattle.std.specs.Prelude.{vec_capacity, IfOk, IsTrue};
@@ -6,7 +6,6 @@ ghost use Rattle.ans_model.specs.Screen.Step.{filled};
 ghost use Rattle.ans_screen.specs.CellPlanes.{with_zeros, IsFront};
 ghost use Rattle.ans_screen.specs.GridEdits.{written};
 
-use crate::cell::CellByte;
 use crate::planes::{blend_fill, blend_run, fill_bytes, write_bytes};
 use std::alloc::{AllocError, Global};
 

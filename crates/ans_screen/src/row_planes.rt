@@ -1,7 +1,7 @@
 //! Byte planes whose rows are held only once they are written, wherever their memory comes from.
 
-ghost use Rattle.std.specs.Prelude.{◌≡◌, ◌+◌, ◌*◌, ◌<◌, ◌≤◌, length, take, replicate};
-ghost use Rattle.std.specs.Prelude.{slice_index, slice_index_or, slice_range, MatchOption};
+ghost use Rattle.std.specs.Prelude.{◌≡◌, ◌+◌, ◌*◌, ◌<◌, ◌≤◌, length, take};
+ghost use Rattle.std.specs.Prelude.{slice_index, slice_index_or};
 ghost use Rattle.ans_model.specs.Screen.Step.{filled};
 ghost use Rattle.ans_screen.specs.CellPlanes.{IsFront};
 ghost use Rattle.ans_screen.specs.GridEdits.{written};

@@ -4,5 +4,5 @@ use Rattle.ans_model.proofs.attribute.attribute_after.Goals as goal
 
 pub returns : goal.returns
 returns c =
-    attribute_by_found (rendition_of renditions c.args.parameter) c.args.old _ _ c.ranges.old.fits
-    c.change_of-mask.ensures
+    attribute_by_found (rendition_of renditions c.args.parameter) c.args.old c.change_of-change.result
+    c.ranges.old.fits c.change_of-change.ensures
