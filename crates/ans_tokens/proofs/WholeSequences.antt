@@ -6,7 +6,7 @@ use Rattle.std.specs.List.{list_all, list_any}
 use Rattle.std.specs.Char.{is_ascii_digit, is_ascii_alphabetic}
 use Rattle.std.specs.Str.Parse.{digits_value}
 use Rattle.std.proofs.Math.Seq.{take-suc, take-add}
-use Rattle.std.proofs.lemmas.List.{append-nil, length-map, map-append, take_rest}
+use Rattle.std.proofs.lemmas.List.{append-nil, length-map, map-append}
 use Rattle.std.proofs.lemmas.Int.Digits.{digits_value_more}
 use Rattle.ans_model.specs.Bytes.{escape, bracket, semicolon, largest_number, most_parameters}
 use Rattle.ans_model.specs.Sequence.Spelling.{Member, mark_bytes, SpellsMember, Number, Raw, Spells}
@@ -116,14 +116,6 @@ number_from mark numbers bytes value digits start within kept read = (
   rw take-add (number_read mark numbers (take start bytes) (drop start bytes) value digits kept read),
   omega (arith, read.followed, length-drop start bytes),
 )
-
--- in a slice of the bytes from an index on
-pub number_at : (mark : Mark) (numbers bytes : List ℕ) (value digits start : ℕ) → start ≤ length bytes
-    → Keeps (Sequence mark numbers false view.Fresh) (take start bytes)
-    → IsNumberFront (take (length bytes - start) (drop start bytes)) value digits
-    → EndsInNumber mark numbers value digits (take (start + digits) bytes) × (start + digits < length bytes)
-number_at mark numbers bytes value digits start within kept read =
-    number_from mark numbers bytes value digits start within kept (rw take_rest at read)
 
 -- a `;` ends the member
 member_read : (mark : Mark) (numbers y : List ℕ) (value digits : ℕ) → EndsInNumber mark numbers value digits y

@@ -40,11 +40,13 @@ fn text_of_chunk(bytes: &[u8], from: usize) -> usize
 /// bytes tell. They are glyphs.
 #[inline(always)]
 pub fn count_text(bytes: &[u8], most: usize) -> usize
-    requires { 16 ≤ length bytes.now }
     ensures most { result ≤ most }
     ensures within { result ≤ length bytes.now }
     ensures glyphs { All IsGlyphByte (take result bytes.now) }
 {
+    if bytes.len() < 16 {
+        return 0;
+    }
     let mut count = text_of_chunk(bytes, 0);
     if count < 16 {
         return count.min(most);
@@ -59,24 +61,12 @@ pub fn count_text(bytes: &[u8], most: usize) -> usize
     count.min(most)
 }
 
-/// How many bytes stand before the first one below 20h, as far as whole chunks of 16 bytes tell.
-/// They are glyphs.
-fn text_front(bytes: &[u8]) -> usize
-    ensures within { result ≤ length bytes.now }
-    ensures glyphs { All IsGlyphByte (take result bytes.now) }
-{
-    if bytes.len() < 16 {
-        return 0;
-    }
-    count_text(bytes, bytes.len())
-}
-
 /// How many glyphs stand before the first byte that is none. All bytes but BEL, BS, TAB, LF, CR and
 /// ESC are glyphs (ANSI.SYS).
 pub fn count_glyphs(bytes: &[u8]) -> usize
     ensures { IsGlyphFront bytes.now result }
 {
-    for i in text_front(bytes)..bytes.len() {
+    for i in count_text(bytes, bytes.len())..bytes.len() {
         if !is_glyph(bytes[i]) {
             return i;
         }

@@ -45,26 +45,6 @@ fn read_digits(bytes: &[u8]) -> Option<(u8, usize)>
     None
 }
 
-/// Reads as `read_digits` does. Most numbers have one digit or two, and these need no loop.
-#[inline(always)]
-fn read_number(bytes: &[u8]) -> Option<(u8, usize)>
-    ensures { IfSome result (λ read. IsNumberFront bytes.now read.0 read.1) }
-{
-    let [first, second, third, ..] = bytes else {
-        return read_digits(bytes);
-    };
-    if !first.is_ascii_digit() {
-        return Some((0, 0));
-    }
-    if !second.is_ascii_digit() {
-        return Some((*first - b'0', 1));
-    }
-    if !third.is_ascii_digit() {
-        return Some(((*first - b'0') * 10 + (*second - b'0'), 2));
-    }
-    read_digits(bytes)
-}
-
 /// The value of the digits that stand at an index of the bytes, three at most, and their count: 0 and 0
 /// where there are none. It declines where the value is above 255, or where there are more digits.
 #[inline(always)]
@@ -91,6 +71,20 @@ pub fn number_at(bytes: &[u8], at: usize) -> Option<(u8, usize)>
         return None;
     }
     Some((three as u8, 3))
+}
+
+/// Reads as `read_digits` does, at an index of the bytes. Most numbers are short, and these need no loop.
+#[inline(always)]
+fn read_number(bytes: &[u8], at: usize) -> Option<(u8, usize)>
+    requires { at ≤ length bytes.now }
+    ensures { IfSome result (λ read. IsNumberFront (drop at bytes.now) read.0 read.1) }
+{
+    if bytes.len() - at >= 4 {
+        if let Some(read) = number_at(bytes, at) {
+            return Some(read);
+        }
+    }
+    read_digits(&bytes[at..])
 }
 
 /// Adds the number of the last member, where the letter comes next. There is no member at all where
@@ -125,7 +119,7 @@ fn read_members(
 {
     let mut at = from;
     for _ in 0..MAX_PARAMETERS {
-        let (value, digits) = read_number(&bytes[at..])?;
+        let (value, digits) = read_number(bytes, at)?;
         let stop = at + digits;
         let byte = bytes[stop];
         at = stop + 1;
