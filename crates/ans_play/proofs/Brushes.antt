@@ -1,7 +1,8 @@
 -- What is played by a brush: bytes, runs and sequences in front, and one after the other.
-use Rattle.std.proofs.Common.{◌≡◌, ◌≢◌, ℕ, ◌+◌, ◌<◌, ◌≤◌, List, [], ◌∷◌, length, take, map, get_or, refl, ap, arith}
+use Rattle.std.proofs.Common.{◌≡◌, ◌≢◌, ℕ, ◌+◌, ◌<◌, ◌≤◌, List, [], ◌∷◌, length, map, get_or, refl, ap, arith}
 use Rattle.std.proofs.Common.{true, false, sym, ◌∙◌, Ok, None, ◌⊎◌, inl, inr, ◌++◌, length-append, drop}
 use Rattle.std.specs.Char.{is_ascii_alphabetic}
+use Rattle.std.specs.Prelude.{◌==◌, if◌then◌else◌}
 use Rattle.std.proofs.lemmas.Bool.{cases_lt}
 use Rattle.std.proofs.lemmas.Bool.Decides.{eqb_tells}
 use Rattle.std.proofs.lemmas.List.Sums.{fold-append}
@@ -22,7 +23,7 @@ use Rattle.ans_play.specs.HalfStep.{known_after_all}
 use Rattle.ans_play.specs.HalfFault.{half_fault}
 use Rattle.ans_play.specs.PlayView.{PlayView}
 use Rattle.ans_play.specs.Plays.{after_token, PlaysLetter}
-use Rattle.ans_play.specs.Brushes.{with_brush, IsBrush, BrushPlays, colour_numbers, IsRead, IsReading}
+use Rattle.ans_play.specs.Brushes.{with_brush, IsBrush, BrushPlays, colour_numbers, few_numbers, IsRead, IsReading}
 use Rattle.ans_play.proofs.Letters.{first_goes_over, letter_goes_over}
 use Rattle.ans_play.proofs.WholeTokens.{plays_no_tokens}
 
@@ -67,33 +68,25 @@ reading_begun bytes a long e b = record {
   count = refl;
   low = omega arith;
   high = omega arith;
-  first_is = λ rest n e. cc;
+  previous_is = λ e. absurd (omega (arith, e));
   coloured_is = refl;
 }
 
--- the first number, once one more is read
-first_after : (numbers : List ℕ) (value first next : ℕ) → (length numbers ≡ 0 → next ≡ value)
-    → (length numbers ≢ 0 → next ≡ first) → ((rest : List ℕ) (n : ℕ) → numbers ≡ n ∷ rest → n ≡ first)
-    → (rest : List ℕ) (n : ℕ) → numbers ++ value ∷ [] ≡ n ∷ rest → n ≡ next
-first_after [] value first next begin go before rest n e = cc (begin refl)
-first_after (m ∷ numbers) value first next begin go before rest n e =
-    let same : m ≡ first = before numbers m refl in
-    let stays : next ≡ first = go (λ z. cc) in
-    cc
+no_numbers : (numbers : List ℕ) → length numbers ≡ 0 → numbers ≡ []
+no_numbers [] e = refl
+no_numbers (n ∷ numbers) e = absurd (omega (arith, e))
 
-coloured_more : (a : KnownBits) (numbers : List ℕ) (value : ℕ) (coloured new : KnownBits)
-    → coloured ≡ known_after_all a numbers → new ≡ known_after coloured value
-    → new ≡ known_after_all a (numbers ++ value ∷ [])
-coloured_more a numbers value coloured new before is =
-    is ∙ ap (λ (k : KnownBits). known_after k value) before ∙ sym (fold-append known_after a numbers (value ∷ []))
+coloured_more : (a : KnownBits) (numbers : List ℕ) (value : ℕ) (coloured : KnownBits)
+    → coloured ≡ known_after_all a numbers → known_after coloured value ≡ known_after_all a (numbers ++ value ∷ [])
+coloured_more a numbers value coloured before =
+    ap (λ (k : KnownBits). known_after k value) before ∙ sym (fold-append known_after a numbers (value ∷ []))
 
 -- behind the semicolon after one more number
-pub reading_on : (bytes : List ℕ) (a : KnownBits) (semicolons at first value digits next : ℕ) (coloured new : KnownBits)
-    → at ≤ length bytes → semicolons < most_parameters → IsReading bytes a semicolons at first coloured
+pub reading_on : (bytes : List ℕ) (a : KnownBits) (semicolons at previous value digits : ℕ) (coloured new : KnownBits)
+    → at ≤ length bytes → semicolons < most_parameters → IsReading bytes a semicolons at previous coloured
     → IsNumberFront (drop at bytes) value digits → digits ≤ 3 → get_or bytes (at + digits) 0 ≡ semicolon
-    → (semicolons ≡ 0 → next ≡ value) → (semicolons ≢ 0 → next ≡ first) → new ≡ known_after coloured value
-    → IsReading bytes a (semicolons + 1) (at + digits + 1) next new
-reading_on bytes a semicolons at first value digits next coloured new within room h read short is begin go made =
+    → new ≡ known_after coloured value → IsReading bytes a (semicolons + 1) (at + digits + 1) value new
+reading_on bytes a semicolons at previous value digits coloured new within room h read short is made =
     let ended = number_from Unmarked h.numbers bytes value digits at within (h.kept room) read in
     record {
       numbers = h.numbers ++ value ∷ [];
@@ -102,43 +95,30 @@ reading_on bytes a semicolons at first value digits next coloured new within roo
       count = omega (arith, length-append h.numbers (value ∷ []), h.count);
       low = omega (arith, h.low);
       high = omega (arith, h.high, short);
-      first_is = first_after h.numbers value first next (λ z. begin (sym h.count ∙ z)) (λ z. go (λ e. z (h.count ∙ e)))
-          h.first_is;
-      coloured_is = coloured_more a h.numbers value coloured new h.coloured_is made;
+      previous_is = λ e. rw (no_numbers h.numbers (omega (arith, h.count, e))) refl;
+      coloured_is = made ∙ coloured_more a h.numbers value coloured h.coloured_is;
     }
-
-no_numbers : (numbers : List ℕ) → length numbers ≡ 0 → numbers ≡ []
-no_numbers [] e = refl
-no_numbers (n ∷ numbers) e = absurd (omega (arith, e))
 
 some_numbers : (numbers : List ℕ) (value : ℕ) → colour_numbers (numbers ++ value ∷ []) ≡ numbers ++ value ∷ []
 some_numbers [] value = refl
 some_numbers (n ∷ numbers) value = refl
 
-two_numbers : (numbers : List ℕ) (value first next : ℕ) → length numbers ≡ 1
-    → ((rest : List ℕ) (n : ℕ) → numbers ≡ n ∷ rest → n ≡ first) → next ≡ first
-    → numbers ++ value ∷ [] ≡ next ∷ value ∷ []
-two_numbers [] value first next e before is = absurd (omega (arith, e))
-two_numbers (n ∷ []) value first next e before is = rw (is, before [] n refl) refl
-two_numbers (n ∷ m ∷ numbers) value first next e before is = absurd (omega (arith, e))
-
 -- what is kept of a sequence
 abbrev pub read_of : ℕ → ℕ → ℕ → ℕ → ℕ → KnownBits → ReadSequence
-read_of letter end semicolons first last coloured = record {
+read_of letter end semicolons previous last coloured = record {
   letter = letter;
   end = end;
   semicolons = semicolons;
-  first = first;
+  previous = previous;
   last = last;
   coloured = coloured;
 }
 
-module _ (bytes : List ℕ) (a : KnownBits) (semicolons at first value digits next : ℕ) (coloured new : KnownBits)
-    (within : at ≤ length bytes) (room : semicolons < most_parameters) (h : IsReading bytes a semicolons at first coloured)
-    (read : IsNumberFront (drop at bytes) value digits) (begin : semicolons ≡ 0 → next ≡ value)
-    (go : semicolons ≢ 0 → next ≡ first) (made : new ≡ known_after coloured value) where
+module _ (bytes : List ℕ) (a : KnownBits) (semicolons at previous value digits : ℕ) (coloured : KnownBits)
+    (within : at ≤ length bytes) (room : semicolons < most_parameters)
+    (h : IsReading bytes a semicolons at previous coloured) (read : IsNumberFront (drop at bytes) value digits) where
   abbrev found : ReadSequence
-  found = read_of (get_or bytes (at + digits) 0) (at + digits + 1) semicolons next value new
+  found = read_of (get_or bytes (at + digits) 0) (at + digits + 1) semicolons previous value coloured
 
   -- the letter stands behind `[`
   ends_at_once : digits ≡ 0 → h.numbers ≡ [] → IsRead bytes a found
@@ -153,10 +133,8 @@ module _ (bytes : List ℕ) (a : KnownBits) (semicolons at first value digits ne
         some = omega (arith, end);
         front = λ letter. letter_at Unmarked h.numbers [] bytes value digits (at + digits) ended.0 (λ z e. refl)
             (λ s. absurd (elim s [ inl l ↦ omega (arith, d, l) | inr ne ↦ ne n ])) ended.1 letter;
-        none = λ e. refl;
-        one = λ ne e. absurd (ne end);
-        two = λ ne e. absurd (ne end);
-        coloured = made ∙ rw (start, sym zero) refl;
+        few = λ e. rw end refl;
+        coloured = rw (start, sym zero) refl;
       }
 
   -- the letter stands behind a member
@@ -170,14 +148,22 @@ module _ (bytes : List ℕ) (a : KnownBits) (semicolons at first value digits ne
       record {
         numbers = h.numbers ++ value ∷ [];
         some = omega (arith, h.low);
-        front = λ letter. letter_at Unmarked h.numbers (h.numbers ++ value ∷ []) bytes value digits (at + digits) ended.0
-            (λ z n. absurd (elim s [ inl l ↦ omega (arith, z, l) | inr ne ↦ ne n ])) (λ t. refl) ended.1 letter;
-        none = λ e. absurd (later e);
-        one = λ ne e. rw (no_numbers h.numbers (h.count ∙ e), begin e) refl;
-        two = λ ne e. two_numbers h.numbers value first next (h.count ∙ e) h.first_is (go (λ z. omega (arith, z, e)));
-        coloured = coloured_more a h.numbers value coloured new h.coloured_is made
+        front = λ letter. letter_at Unmarked h.numbers (h.numbers ++ value ∷ []) bytes value digits (at + digits)
+            ended.0 (λ z n. absurd (elim s [ inl l ↦ omega (arith, z, l) | inr ne ↦ ne n ])) (λ t. refl) ended.1 letter;
+        few = λ few. elim (eqb_tells (at + digits + 1) 3) [
+          | inl end ↦ absurd (later end.1)
+          | inr more ↦ rw more.0 (few_are few)
+        ];
+        coloured = coloured_more a h.numbers value coloured h.coloured_is
             ∙ ap (known_after_all a) (sym (some_numbers h.numbers value));
       }
+    where
+      few_are : semicolons ≤ 1 → (if semicolons == 0 then value ∷ [] else previous ∷ value ∷ [])
+          ≡ h.numbers ++ value ∷ []
+      few_are few = elim (eqb_tells semicolons 0) [
+        | inl none ↦ rw (none.1, no_numbers h.numbers (h.count ∙ none.1)) refl
+        | inr one ↦ rw (one.0, h.previous_is (omega (arith, few, one.1))) refl
+      ]
 
   ends_by : (numbers : List ℕ) → h.numbers ≡ numbers → IsRead bytes a found
   ends_by [] e = elim (cases_lt 0 digits) [
@@ -192,14 +178,15 @@ module _ (bytes : List ℕ) (a : KnownBits) (semicolons at first value digits ne
 
 -- ---- and its letter
 -- colours in front
-pub colours_in_front : (p : PlayView) (b : Brush) (bytes : List ℕ) (read : ReadSequence) → IsBrush p.size b
-    → read.letter ≡ 0x6D → IsByte read.coloured.value → IsRead bytes b.attribute read
-    → BrushPlays p b bytes read.end p (record { position = b.position; attribute = read.coloured })
-colours_in_front p b bytes read on letter byte h =
-    let after : Brush = record { position = b.position; attribute = read.coloured } in
+pub colours_in_front : (p : PlayView) (b : Brush) (bytes : List ℕ) (read : ReadSequence) (attribute : KnownBits)
+    → IsBrush p.size b → read.letter ≡ 0x6D → IsByte attribute.value → attribute ≡ known_after read.coloured read.last
+    → IsRead bytes b.attribute read
+    → BrushPlays p b bytes read.end p (record { position = b.position; attribute = attribute })
+colours_in_front p b bytes read attribute on letter byte is h =
+    let after : Brush = record { position = b.position; attribute = attribute } in
     let front = h.front (rw letter refl) in
     let plays : PlaysLetter (with_brush p b) (with_brush p after) read.letter h.numbers =
-    rw (letter, colours_mean h.numbers, h.coloured) (refl, refl) in
+    rw (letter, colours_mean h.numbers, is ∙ h.coloured) (refl, refl) in
     record {
       on = record { on_screen = on.on_screen; attribute = byte };
       within = front.within;
@@ -207,34 +194,18 @@ colours_in_front p b bytes read on letter byte h =
       none = λ zero. absurd (omega (arith, zero, h.some));
     }
 
--- at most two numbers are those kept
-few_numbers : (bytes : List ℕ) (a : KnownBits) (read : ReadSequence) (count : ℕ) (h : IsRead bytes a read)
-    → read.semicolons ≤ 1 → (read.end ≡ 3 → count ≡ 0) → (read.end ≢ 3 → count ≡ read.semicolons + 1)
-    → take count (read.first ∷ read.last ∷ []) ≡ h.numbers
-few_numbers bytes a read count h few empty some = elim (eqb_tells read.end 3) [
-  | inl same ↦ rw (empty same.1, h.none same.1) refl
-  | inr other ↦ elim (cases_lt read.semicolons 1) [
-    | inl none ↦
-        let e : read.semicolons ≡ 0 = omega (arith, none) in
-        rw (some other.1, e, h.one other.1 e) refl
-    | inr one ↦
-        let e : read.semicolons ≡ 1 = omega (arith, one, few) in
-        rw (some other.1, e, h.two other.1 e) refl
-  ]
-]
-
 -- another letter in front
-pub letter_in_front : (p new : PlayView) (b after : Brush) (bytes : List ℕ) (read : ReadSequence) (count : ℕ)
-    → IsRead bytes b.attribute read → read.semicolons ≤ 1 → (read.end ≡ 3 → count ≡ 0)
-    → (read.end ≢ 3 → count ≡ read.semicolons + 1) → IsBrush new.size after → is_ascii_alphabetic read.letter ≡ true
-    → PlaysLetter (with_brush p b) (with_brush new after) read.letter (take count (read.first ∷ read.last ∷ []))
+pub letter_in_front : (p new : PlayView) (b after : Brush) (bytes : List ℕ) (read : ReadSequence)
+    → IsRead bytes b.attribute read → read.semicolons ≤ 1 → IsBrush new.size after
+    → is_ascii_alphabetic read.letter ≡ true
+    → PlaysLetter (with_brush p b) (with_brush new after) read.letter (few_numbers read)
     → BrushPlays p b bytes read.end new after
-letter_in_front p new b after bytes read count h few none some on letter plays =
+letter_in_front p new b after bytes read h few on letter plays =
     let front = h.front letter in
     record {
       on = on;
       within = front.within;
       played = letter_goes_over (with_brush p b) (with_brush new after) bytes h.numbers read.letter read.end front
-          (rw (few_numbers bytes b.attribute read count h few none some) at plays);
+          (rw (h.few few) at plays);
       none = λ zero. absurd (omega (arith, zero, h.some));
     }

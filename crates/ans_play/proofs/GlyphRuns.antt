@@ -11,7 +11,6 @@ use Rattle.std.proofs.lemmas.Bool.Decides.{nat_tests}
 use Rattle.ans_model.specs.Bytes.{IsByte}
 use Rattle.ans_model.specs.Sequence.TokenKind.{Glyph}
 use Rattle.ans_model.specs.Screen.State.{Size, at, index, cell_count}
-use Rattle.ans_model.specs.declared.cell.Position.{Position}
 use Rattle.ans_model.specs.declared.fault.Cause.{Cause}
 use Rattle.ans_model.specs.declared.fault.Cause.TheVariants.{PrintBelow, PrintUnknownPlace}
 use Rattle.ans_model.specs.declared.start.Start.{Start}
@@ -23,7 +22,9 @@ use Rattle.ans_screen.specs.GridEdits.{written, printed_run}
 use Rattle.ans_screen.specs.declared.cell.HalfCell.{HalfCell}
 use Rattle.ans_play.specs.declared.span.Span.{Span}
 use Rattle.ans_play.specs.declared.wrap.WrapMode.{WrapMode}
-use Rattle.ans_play.specs.HalfState.{HalfState, half_state, span, one_position, IsSpanOnScreen}
+use Rattle.ans_play.specs.declared.play.brush.Brush.{Brush}
+use Rattle.ans_play.specs.Brushes.{with_brush, IsBrush}
+use Rattle.ans_play.specs.HalfState.{HalfState, half_state, one_position}
 use Rattle.ans_play.specs.HalfStep.{half_step}
 use Rattle.ans_play.specs.HalfFault.{half_fault, is_one_position}
 use Rattle.ans_play.specs.Stands.{IsPlayed, PlaysWholeTokens}
@@ -31,7 +32,6 @@ use Rattle.ans_play.specs.Plays.{AreFree, IsLongestRun}
 use Rattle.ans_play.specs.PlayView.{PlayView, play_view, IsByteHalfCell}
 use Rattle.ans_tokens.proofs.ReadSoFar.{scanner_after-none, scanner_after-more}
 use Rattle.ans_play.proofs.Feeding.{whole_token_played}
-use Rattle.ans_play.proofs.Positions.{one_position_if}
 
 -- ---- cells
 written_none : {A : Type 0} (xs : List A) (i : ℕ) → written xs i [] ≡ xs
@@ -89,18 +89,15 @@ plays_glyph z class s scanner screen row column saved attribute wrap b p between
     (prints_here z screen row column saved attribute wrap b above))
 
 -- where a glyph is printed, the cursor stands at one position above the spare row
-prints_at_one_position : (z : Size) (h : HalfState) (b : ℕ) → IsSpanOnScreen z h.cursor → half_fault z h (Glyph b)
-    ≡ None → (h.cursor ≡ one_position h.cursor.low.row h.cursor.low.column) × (h.cursor.low.row < z.lines)
-prints_at_one_position z h b on e = by_tests (is_one_position h.cursor) (h.cursor.low.row == z.lines) refl refl e
+prints_at_one_position : (z : Size) (h : HalfState) (b : ℕ) → half_fault z h (Glyph b) ≡ None
+    → (is_one_position h.cursor ≡ true) × (h.cursor.low.row ≢ z.lines)
+prints_at_one_position z h b e = by_tests (is_one_position h.cursor) (h.cursor.low.row == z.lines) refl refl e
   where
     by_tests : (p q : Bool) → is_one_position h.cursor ≡ p → (h.cursor.low.row == z.lines) ≡ q →
         (if p then (if q then Some PrintBelow else None) else Some PrintUnknownPlace) ≡ None →
-        (h.cursor ≡ one_position h.cursor.low.row h.cursor.low.column) × (h.cursor.low.row < z.lines)
+        (is_one_position h.cursor ≡ true) × (h.cursor.low.row ≢ z.lines)
     by_tests true true one bottom n = absurd (cc)
-    by_tests true false one bottom n =
-        let ne : h.cursor.low.row ≢ z.lines = eqb-false h.cursor.low.row z.lines bottom in
-        let same : h.cursor.low ≡ h.cursor.high = one_position_if h.cursor one in
-        (ap (λ (p : Position). span h.cursor.low p) (sym same), omega (arith, on.rows, on.on_screen.0))
+    by_tests true false one bottom n = (one, eqb-false h.cursor.low.row z.lines bottom)
     by_tests false q one bottom n = absurd (cc)
 
 -- ---- a run
@@ -148,25 +145,6 @@ plays_run z class (b ∷ run) s scanner screen row column saved attribute wrap p
     same_run xs ys c d row saved attribute wrap e f = cc
 
 -- ---- what the code of a run gives
--- the cursor stands at one position of the stated lines, with count columns free and one more
-pub record HasRoom (z : Size) (cursor : Span) (count : ℕ) : Type 0 where
-  pub one : cursor ≡ one_position cursor.low.row cursor.low.column
-  pub above : cursor.low.row < z.lines
-  pub columns : cursor.low.column + count < z.width
-
--- where count columns are free, the cursor stands at one position
-has_room : (p : PlayView) (columns count : ℕ) → IsSpanOnScreen p.size p.state.cursor → AreFree p columns →
-    0 < count → count ≤ columns → HasRoom p.size p.state.cursor count
-has_room p columns count on free some within = by_fault (half_fault p.size p.state (Glyph 0)) refl
-  where
-    by_fault : (o : Option Cause) → half_fault p.size p.state (Glyph 0) ≡ o → HasRoom p.size p.state.cursor count
-    by_fault (Some cause) e =
-        absurd (let none : columns ≡ 0 = free.refused 0 cause e in let no : ⊥ = omega arith in no)
-    by_fault None e =
-        let one = prints_at_one_position p.size p.state 0 on e in
-        let width : p.state.cursor.low.column + columns + 1 ≡ p.size.width = free.printed 0 e in
-        record { one = one.0; above = one.1; columns = omega arith }
-
 -- the run ends on the screen
 room_on_screen : (width lines row column count cells : ℕ) → row < lines → column + count < width →
     cells ≡ (lines + 1) * width → row * width + column + count ≤ cells
@@ -176,61 +154,67 @@ room_on_screen width lines row column count cells above within e =
 
 -- glyphs at the start of a front
 front_of_front : (bytes : List ℕ) (m count : ℕ) → IsGlyphFront (take m bytes) count →
-    (count ≤ m) × (count ≤ length bytes) × All IsGlyphByte (take count bytes)
+    (count ≤ m) × All IsGlyphByte (take count bytes)
 front_of_front bytes m count f =
     let within : count ≤ m = omega (arith, f.within, length-take m bytes) in
-    (within, omega (arith, f.within, length-take m bytes), rw take-take at f.glyphs)
+    (within, rw take-take at f.glyphs)
 
--- the first count bytes are glyphs, and have room in the cursor's row
-pub record IsRun (p : PlayView) (bytes : List ℕ) (count : ℕ) : Type 0 where
+-- the first count bytes are glyphs, and have room in the row of a brush that the play has already
+pub record IsRun (p : PlayView) (b : Brush) (bytes : List ℕ) (count : ℕ) : Type 0 where
+  pub same : with_brush p b ≡ p
+  pub above : b.position.row < p.size.lines
+  pub columns : b.position.column + count < p.size.width
   pub within : count ≤ length bytes
-  pub taken : length (take count bytes) ≡ count
   pub glyphs : All IsGlyphByte (take count bytes)
-  pub room : HasRoom p.size p.state.cursor count
 
 -- the glyphs that the scanner counts in the free columns
-pub is_run : {p old : PlayView} {bytes : List ℕ} {columns m count : ℕ} → p ≡ old →
-    IsSpanOnScreen p.size p.state.cursor →
-    AreFree old columns → m ≤ columns → IsGlyphFront (take m bytes) count → 0 < count → IsRun p bytes count
-is_run {p = p} {bytes = bytes} {columns = columns} {m = m} {count = count} same on free below glyphs some =
-    let front = front_of_front bytes m count glyphs in
-    record {
-      within = front.1;
-      taken = length-take-le count bytes front.1;
-      glyphs = front.2;
-      room = has_room p columns count on (subst (λ (q : PlayView). AreFree q columns) (sym same) free) some
-          (omega (arith, front.0));
-    }
+pub is_run : {p : PlayView} {b : Brush} {bytes : List ℕ} {columns m count : ℕ} → IsBrush p.size b →
+    (is_one_position p.state.cursor ≡ true → with_brush p b ≡ p) → AreFree p columns → m ≤ columns →
+    IsGlyphFront (take m bytes) count → 0 < count → IsRun p b bytes count
+is_run {p = p} {b = b} {bytes = bytes} {columns = columns} {m = m} {count = count} on kept free below front some =
+    by_fault (half_fault p.size p.state (Glyph 0)) refl
+  where
+    by_fault : (o : Option Cause) → half_fault p.size p.state (Glyph 0) ≡ o → IsRun p b bytes count
+    by_fault (Some cause) e = absurd (omega (arith, free.refused 0 cause e, (front_of_front bytes m count front).0))
+    by_fault None e =
+        let one = prints_at_one_position p.size p.state 0 e in
+        let same = kept one.0 in
+        let row : b.position.row ≡ p.state.cursor.low.row = ap (λ (q : PlayView). q.state.cursor.low.row) same in
+        let column : b.position.column ≡ p.state.cursor.low.column =
+        ap (λ (q : PlayView). q.state.cursor.low.column) same in
+        let glyphs = front_of_front bytes m count front in
+        record {
+          same = same;
+          above = omega (arith, on.on_screen.0, row, one.1);
+          columns = omega (arith, column, free.printed 0 e, glyphs.0);
+          within = omega (arith, front.within, length-take m bytes);
+          glyphs = glyphs.1;
+        }
 
 -- a run is played
-pub run_is_played : (z : Size) (scanner : ScannerView) (screen new : List HalfCell) (cursor saved : Span)
+pub run_is_played : (z : Size) (scanner : ScannerView) (screen new : List HalfCell) (row column : ℕ) (saved : Span)
     (attribute : KnownBits) (wrap : WrapMode)
-    (bytes : List ℕ) (count : ℕ) → count ≤ length bytes → HasRoom z cursor count →
+    (bytes : List ℕ) (count : ℕ) → count ≤ length bytes → row < z.lines → column + count < z.width →
     All IsGlyphByte (take count bytes) → length screen ≡ cell_count z →
-    new ≡ written screen (index z cursor.low) (printed_run attribute (take count bytes)) →
+    new ≡ written screen (index z (at row column)) (printed_run attribute (take count bytes)) →
     PlaysWholeTokens
-    (play_view z scanner (half_state screen cursor saved attribute wrap))
+    (play_view z scanner (half_state screen (one_position row column) saved attribute wrap))
     (take count bytes)
-    (play_view z scanner
-    (half_state new (one_position cursor.low.row (cursor.low.column + count)) saved attribute wrap))
-run_is_played z scanner screen new cursor saved attribute wrap bytes count within room glyphs cells is_new =
+    (play_view z scanner (half_state new (one_position row (column + count)) saved attribute wrap))
+run_is_played z scanner screen new row column saved attribute wrap bytes count within above columns glyphs cells is =
     let n : length (take count bytes) ≡ count = length-take-le count bytes within in
-    let fits : index z cursor.low + length (take count bytes) ≤ length screen =
-    rw n (room_on_screen z.width z.lines cursor.low.row cursor.low.column count
-    (length screen) room.above room.columns cells) in
-    let columns : cursor.low.column + length (take count bytes) < z.width = rw n room.columns in
+    let fits : index z (at row column) + length (take count bytes) ≤ length screen =
+    rw n (room_on_screen z.width z.lines row column count (length screen) above columns cells) in
+    let room : column + length (take count bytes) < z.width = rw n columns in
     record {
       scanner = refl;
       played = λ s between. record {
         size = refl;
         offset = refl;
         played = λ class text p.
-            let before : IsPlayed z class text s
-            (half_state screen (one_position cursor.low.row cursor.low.column) saved attribute wrap)
-            = subst (λ (c : Span). IsPlayed z class text s (half_state screen c saved attribute wrap)) room.one p in
-            let on = plays_run z class (take count bytes) text s screen cursor.low.row cursor.low.column saved
-            attribute wrap before between glyphs room.above columns fits in
-            rw (n, is_new) (rw n at on);
+            let on = plays_run z class (take count bytes) text s screen row column saved attribute wrap p between
+            glyphs above room fits in
+            rw (n, is) (rw n at on);
       };
     }
 

@@ -1,10 +1,11 @@
 -- A play whose cursor stands at one position: where it stands, and the attribute, are kept beside it as a brush.
-use Rattle.std.specs.Prelude.{◌≡◌, ◌≢◌, ◌+◌, ◌*◌, ◌≤◌, ◌<◌, ℕ, List, [], ◌∷◌, true, false, length, take}
+use Rattle.std.specs.Prelude.{◌≡◌, ◌==◌, ◌+◌, ◌*◌, ◌≤◌, ◌<◌, ℕ, List, [], ◌∷◌, true, false, length, take}
+use Rattle.std.specs.Prelude.{if◌then◌else◌}
 use Rattle.std.specs.Char.{is_ascii_alphabetic}
 use Rattle.ans_model.specs.Bytes.{IsByte, most_parameters}
 use Rattle.ans_model.specs.Screen.State.{Size, IsOnScreen}
 use Rattle.ans_model.specs.declared.mark.Mark.TheVariants.{Unmarked}
-use Rattle.ans_screen.specs.KnownBits.{KnownBits}
+use Rattle.ans_screen.specs.KnownBits.{KnownBits, known_after}
 use Rattle.ans_tokens.specs.ScannerView as view
 use Rattle.ans_tokens.specs.ScannerView.{Keeps, Fresh}
 use Rattle.ans_tokens.specs.WholeToken.{IsSequenceFront}
@@ -42,24 +43,29 @@ abbrev pub colour_numbers : List ℕ → List ℕ
 colour_numbers [] = 0 ∷ []
 colour_numbers (n ∷ numbers) = n ∷ numbers
 
--- There are numbers which the first bytes spell with the letter. The reader keeps the first and the last of them, how
--- many semicolons stand between them, and the attribute after all of them as colours.
+-- the numbers of a sequence that has two at most
+abbrev pub few_numbers : ReadSequence → List ℕ
+few_numbers read =
+    if read.end == 3 then []
+    else (if read.semicolons == 0 then read.last ∷ [] else read.previous ∷ read.last ∷ [])
+
+-- There are numbers which the first bytes spell with the letter. The reader keeps the last two of them, how many
+-- semicolons stand between them, and the attribute after all but the last as colours.
 pub record IsRead (bytes : List ℕ) (attribute : KnownBits) (read : ReadSequence) : Type 0 where
   pub numbers : List ℕ
   pub some : 3 ≤ read.end
   pub front : is_ascii_alphabetic read.letter ≡ true
       → IsSequenceFront bytes Unmarked numbers read.letter read.end
-  pub none : read.end ≡ 3 → numbers ≡ []
-  pub one : read.end ≢ 3 → read.semicolons ≡ 0 → numbers ≡ read.first ∷ []
-  pub two : read.end ≢ 3 → read.semicolons ≡ 1 → numbers ≡ read.first ∷ read.last ∷ []
-  pub coloured : read.coloured ≡ known_after_all attribute (colour_numbers numbers)
+  pub few : read.semicolons ≤ 1 → few_numbers read ≡ numbers
+  pub coloured : known_after read.coloured read.last ≡ known_after_all attribute (colour_numbers numbers)
 
 -- A reader has come to an index behind `[` or a semicolon. There are numbers whose members the bytes before it spell.
-pub record IsReading (bytes : List ℕ) (attribute : KnownBits) (semicolons at first : ℕ) (coloured : KnownBits) : Type 0 where
+pub record IsReading (bytes : List ℕ) (attribute : KnownBits) (semicolons at previous : ℕ)
+    (coloured : KnownBits) : Type 0 where
   pub numbers : List ℕ
   pub kept : semicolons < most_parameters → Keeps (view.Sequence Unmarked numbers false Fresh) (take at bytes)
   pub count : length numbers ≡ semicolons
   pub low : 2 + semicolons ≤ at
   pub high : at ≤ 2 + 4 * semicolons
-  pub first_is : (rest : List ℕ) (n : ℕ) → numbers ≡ n ∷ rest → n ≡ first
+  pub previous_is : semicolons ≡ 1 → numbers ≡ previous ∷ []
   pub coloured_is : coloured ≡ known_after_all attribute numbers

@@ -313,10 +313,9 @@ impl<G: Screen> Play<G> {
         let columns = self.columns_before_last();
         let count = count_glyphs(&bytes[..bytes.len().min(columns)]);
         if count > 0 {
-            let Position { row, column } = self.cursor.low;
-            self.grid
-                .write_run(row, column, bytes, count, self.attribute);
-            self.cursor = Span::at(row, column + count);
+            let mut brush = self.brush();
+            self.brush_glyphs(&mut brush, bytes, count);
+            self.lay(brush);
         }
         count
     }

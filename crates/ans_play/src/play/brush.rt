@@ -6,12 +6,12 @@ ghost use Rattle.ans_model.specs.Inside.ShownKind.{shown_kind};
 ghost use Rattle.ans_model.specs.Screen.Step.{destination};
 ghost use Rattle.ans_model.specs.Sequence.TokenKind.{Place, Clear, EraseLine, Save, Restore};
 ghost use Rattle.ans_tokens.specs.Glyphs.{IsGlyphByte};
-ghost use Rattle.ans_play.specs.Brushes.{with_brush, IsBrush, BrushPlays};
+ghost use Rattle.ans_play.specs.Brushes.{with_brush, IsBrush, BrushPlays, few_numbers};
 ghost use Rattle.ans_play.specs.HalfFault.{is_one_position};
 ghost use Rattle.ans_play.specs.Plays.{Plays, PlaysLetter, after_token};
 
 use super::Play;
-use super::sequence::read_front;
+use super::sequence::{ReadSequence, read_front};
 use crate::span::{Span, destination};
 use ans_model::cell::Position;
 use ans_model::fault::Cause;
@@ -103,7 +103,7 @@ impl<G: Screen> Play<G> {
 
     /// Prints this many glyphs, for which there is room in the cursor's row before its last column.
     #[inline(always)]
-    fn brush_glyphs(&mut self, brush: &mut Brush, bytes: &[u8], count: usize)
+    pub(super) fn brush_glyphs(&mut self, brush: &mut Brush, bytes: &[u8], count: usize)
         requires on { IsBrush self.old.size brush.old }
         requires above { 0 < count → brush.old.position.row < self.old.size.lines }
         requires columns { 0 < count → brush.old.position.column + count < self.old.size.width }
@@ -152,22 +152,36 @@ impl<G: Screen> Play<G> {
             return 0;
         };
         if read.letter == b'm' {
-            brush.attribute = read.coloured;
+            brush.attribute = read.coloured.apply(read.last);
             return read.end;
         }
         if read.semicolons > 1 {
             return 0;
         }
-        let numbers = [read.first, read.last];
-        let count = if read.end == 3 {
-            0
-        } else {
-            read.semicolons + 1
-        };
-        match self.brush_letter(brush, read.letter, &numbers[..count]) {
+        match self.brush_read(brush, &read) {
             Ok(()) => read.end,
             Err(_) => 0,
         }
+    }
+
+    /// Plays as `brush_letter` does what was read of a sequence of two numbers at most.
+    // a call for each count, so that the numbers stay in registers
+    #[inline(always)]
+    fn brush_read(&mut self, brush: &mut Brush, read: &ReadSequence) -> Result<(), Cause>
+        requires on { IsBrush self.old.size brush.old }
+        ensures on { IsBrush self.new.size brush.new }
+        ensures letter { OnOk result (is_ascii_alphabetic read.now.letter ≡ true) }
+        ensures played { OnOk result (PlaysLetter (with_brush self.old brush.old)
+            (with_brush self.new brush.new) read.now.letter (few_numbers read.now)) }
+        ensures stopped { OnErr result (with_brush self.new brush.new ≡ with_brush self.old brush.old) }
+    {
+        if read.end == 3 {
+            return self.brush_letter(brush, read.letter, &[]);
+        }
+        if read.semicolons == 0 {
+            return self.brush_letter(brush, read.letter, &[read.last]);
+        }
+        self.brush_letter(brush, read.letter, &[read.previous, read.last])
     }
 
     /// Plays the sequence of these numbers and this letter, where it moves or keeps the cursor, clears the
@@ -244,7 +258,7 @@ impl<G: Screen> Play<G> {
     }
 
     #[inline(always)]
-    fn brush_erase(&mut self, brush: &Brush) -> Result<(), Cause>
+    pub(super) fn brush_erase(&mut self, brush: &Brush) -> Result<(), Cause>
         requires on { IsBrush self.old.size brush.now }
         ensures { Plays (with_brush self.old brush.now) (with_brush self.new brush.now) EraseLine result }
     {

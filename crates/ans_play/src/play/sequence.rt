@@ -20,18 +20,18 @@ pub(super) struct ReadSequence {
     pub(super) end: usize,
     /// How many semicolons stand between its numbers.
     pub(super) semicolons: usize,
-    /// The first number, 0 where there is none.
-    pub(super) first: u8,
+    /// The last number but one, 0 where there is none.
+    pub(super) previous: u8,
     /// The last number, 0 where there is none.
     pub(super) last: u8,
-    /// The attribute after the numbers as colours.
+    /// The attribute after all numbers but the last as colours.
     pub(super) coloured: Attr,
 }
 
 /// Reads the numbers that stand behind `ESC [`, at most 16, each of three digits at most and not above
 /// 255, and the byte behind them. Where that is a letter, the bytes begin with the sequence; else they
 /// begin with none that is read here. The numbers are put into an attribute as colours while they are
-/// read.
+/// read, all but the last.
 #[inline(always)]
 pub(super) fn read_front(bytes: &[u8], attribute: Attr) -> Option<ReadSequence>
     requires { 66 ≤ length bytes.now }
@@ -41,26 +41,24 @@ pub(super) fn read_front(bytes: &[u8], attribute: Attr) -> Option<ReadSequence>
         return None;
     }
     let mut coloured = attribute;
-    let mut first = 0;
+    let mut previous = 0;
     let mut at = 2;
     for semicolons in 0..MAX_PARAMETERS {
         let (last, digits) = number_at(bytes, at)?;
         let letter = bytes[at + digits];
         at = at + digits + 1;
-        coloured = coloured.apply(last);
-        if semicolons == 0 {
-            first = last;
-        }
         if letter != b';' {
             return Some(ReadSequence {
                 letter,
                 end: at,
                 semicolons,
-                first,
+                previous,
                 last,
                 coloured,
             });
         }
+        coloured = coloured.apply(last);
+        previous = last;
     }
     None
 }

@@ -162,10 +162,10 @@ impl<G: Screen> Play<G> {
         if !self.cursor.is_one_position() {
             return Err(Cause::EraseUnknownPlace);
         }
-        let Position { row, column } = self.cursor.low;
-        let blank = self.blank();
-        self.grid.fill_row(row, column, self.size.width(), blank);
-        Ok(())
+        let brush = self.brush();
+        let result = self.brush_erase(&brush);
+        self.lay(brush);
+        result
     }
 
     /// Blanks the screen, and takes the cursor home.
