@@ -23,11 +23,10 @@ what the class has to know; `needs` is refused and the cleared check otherwise; 
 not told by each command; or `tokens` and `check` differ on a sequence.
 
 Each run may have 96 MiB of address space (RLIMIT_AS): what the README states for the largest file and
-the largest screen, 50,343,937 bytes, and 50,319,359 more, since a worker needs some to start a program
-under its own limit; `bad_inputs.py` gives less. A run in which memory ran out would be seen as a wrong
-status. Files have at most 128 KiB here, most of them less than 1 KiB. Each case that goes wrong is printed,
-and its file is kept in a folder that is named. The last line has the figures; the status is 1 where
-something went wrong.
+the largest screen, 50,343,937 bytes, and 50,319,359 more; `bad_inputs.py` gives less. A run in which
+memory ran out would be seen as a wrong status. Files have at most 128 KiB here, most of them less than
+1 KiB. Each case that goes wrong is printed, and its file is kept in a folder that is named. The last
+line has the figures; the status is 1 where something went wrong.
 """
 import ast
 import collections
@@ -36,7 +35,6 @@ import multiprocessing
 import os
 import random
 import re
-import resource
 import signal
 import sys
 import tempfile
@@ -302,11 +300,9 @@ class Room:
     def start(self, words, stdin):
         to = os.O_WRONLY | os.O_CREAT | os.O_TRUNC
         actions = [stdin, (os.POSIX_SPAWN_OPEN, 1, self.out, to, 0o600), (os.POSIX_SPAWN_OPEN, 2, self.err, to, 0o600)]
-        before = resource.getrlimit(resource.RLIMIT_AS)
-        resource.setrlimit(resource.RLIMIT_AS, (MEMORY, before[1]))
-        self.child = os.posix_spawn(
-            self.program, [self.program, *words], {}, file_actions=actions, setsigdef=[signal.SIGPIPE])
-        resource.setrlimit(resource.RLIMIT_AS, before)
+        # a shell sets the limit, since a worker may have more memory itself than a run may have
+        limited = ["/bin/sh", "-c", f'ulimit -v {MEMORY // 1024}; exec "$0" "$@"', self.program, *words]
+        self.child = os.posix_spawn(limited[0], limited, {}, file_actions=actions, setsigdef=[signal.SIGPIPE])
         signal.alarm(CLOCK_SECONDS)
 
     def finish(self, words, way):
