@@ -12,9 +12,10 @@ use Rattle.ans_players.specs.declared.kind.Kind.{Kind}
 use Rattle.ans_players.specs.declared.kind.Kind.TheVariants.{HomeOnClear, SavePlaceOnly}
 use Rattle.ans_players.specs.Kinds.{kind_number}
 use Rattle.ans_players.specs.Grips.{Grip, Firm, Adrift, grip_after, is_held, is_home}
+use Rattle.ans_players.specs.Names.{Names}
 use Rattle.ans_players.specs.OwnKind.{all_but}
 use Rattle.ans_players.specs.Players.{IsPlayer}
-use Rattle.ans_players.specs.Situations.{is_agreed, token_kinds, spelling_kinds}
+use Rattle.ans_players.specs.Situations.{is_agreed, token_kinds, spelling_kinds, name_kinds}
 use Rattle.ans_players.specs.Witnesses.{DriftsFor, drifting, is_adrift, saving, saving_step, staying, staying_step}
 use Rattle.ans_players.proofs.OneOfTwo.{parts_agreed}
 
@@ -50,32 +51,34 @@ module _ (kind : Kind) where
       → DriftsFor kind (grip_after z g s t) (plays z s t) (step z s t))
       (held : (s : State) (t : TokenKind) → IsTrue (is_held (Adrift kind) t) → plays z s t ≡ step z s t) where
     -- adrift it goes on through what is held alone
-    from_adrift : (g : Grip) (m s : State) (t : TokenKind) (text : List ℕ) → IsTrue (is_adrift kind g)
+    from_adrift : (g : Grip) (n : Names) (m s : State) (t : TokenKind) (text : List ℕ) → IsTrue (is_adrift kind g)
         → record m { cursor = s.cursor } ≡ s
-        → IsTrue (is_agreed (all_but kind) z (record { grip = g; state = s }) (record { token = t; text = text }))
+        → IsTrue (is_agreed (all_but kind) z (record { grip = g; names = n; state = s })
+        (record { token = t; text = text }))
         → DriftsFor kind (grip_after z g s t) (plays z m t) (step z s t)
-    from_adrift (Adrift other) m s (Place row column) text is e agrees =
+    from_adrift (Adrift other) n m s (Place row column) text is e agrees =
         held m (Place row column) refl ∙ ap (λ (v : State). step z v (Place row column)) e
-    from_adrift (Adrift other) m s (Colours parameters) text is e agrees =
+    from_adrift (Adrift other) n m s (Colours parameters) text is e agrees =
         rw (is, held m (Colours parameters) refl) (ap (λ (v : State). step z v (Colours parameters)) e)
-    from_adrift (Adrift other) m s Bell text is e agrees = rw (is, held m Bell refl) e
-    from_adrift (Adrift other) m s t text is e agrees =
+    from_adrift (Adrift other) n m s Bell text is e agrees = rw (is, held m Bell refl) e
+    from_adrift (Adrift other) n m s t text is e agrees =
         let not_so : not (is_adrift kind (Adrift other)) ≡ true =
         (and_parts (all_but kind other)
-        (list_all (all_but kind) (token_kinds z s t ++ spelling_kinds s t text)) agrees).0 in
+        (list_all (all_but kind) ((token_kinds z s t ++ spelling_kinds s t text) ++ name_kinds n t)) agrees).0 in
         let no : false ≡ true = sym (ap not is) ∙ not_so in
         absurd (let none : ⊥ = cc in none)
-    from_adrift g m s t text is e agrees = absurd (let none : ⊥ = cc in none)
+    from_adrift g n m s t text is e agrees = absurd (let none : ⊥ = cc in none)
 
-    along : (g : Grip) (m s : State) (t : TokenKind) (text : List ℕ) → DriftsFor kind g m s
-        → IsTrue (is_agreed (all_but kind) z (record { grip = g; state = s }) (record { token = t; text = text }))
+    along : (g : Grip) (n : Names) (m s : State) (t : TokenKind) (text : List ℕ) → DriftsFor kind g m s
+        → IsTrue (is_agreed (all_but kind) z (record { grip = g; names = n; state = s })
+        (record { token = t; text = text }))
         → DriftsFor kind (grip_after z g s t) (plays z m t) (step z s t)
-    along g m s t text h agrees = elim (cases_Bool (is_adrift kind g)) [
-      | inl adrift ↦ from_adrift g m s t text adrift (same_but_cursor g m s h) agrees
+    along g n m s t text h agrees = elim (cases_Bool (is_adrift kind g)) [
+      | inl adrift ↦ from_adrift g n m s t text adrift (same_but_cursor g m s h) agrees
       | inr firm ↦
           let same : m ≡ s = rw firm at h in
           subst (λ (v : State). DriftsFor kind (grip_after z g s t) (plays z v t) (step z s t)) (sym same)
-          (from_one g s t (parts_agreed z (all_but kind) (record { grip = g; state = s })
+          (from_one g s t (parts_agreed z (all_but kind) (record { grip = g; names = n; state = s })
           (record { token = t; text = text }) agrees).token)
     ]
 
@@ -83,7 +86,7 @@ module _ (kind : Kind) where
     drifts = record {
       shows_the_same = λ m h p e stated.
           ap (λ (v : State). cell_at z v.screen p) (same_but_cursor h.grip m h.state e);
-      goes_along = λ m h x e allowed agrees. along h.grip m h.state x.token x.text e agrees;
+      goes_along = λ m h x e allowed agrees. along h.grip h.names m h.state x.token x.text e agrees;
     }
 
 -- ---- stays on a clear

@@ -11,6 +11,7 @@ use Rattle.ans_model.proofs.PositionLemmas.{same_position}
 use Rattle.ans_players.specs.declared.kind.Kind.TheVariants.{LineEnds, HomeOnClear, SavePlaceOnly}
 use Rattle.ans_players.specs.Grips.{Grip, Firm, Wrapped, BehindFeed, BehindReturn, Adrift, grip_after, is_home}
 use Rattle.ans_players.specs.Situations.{is_agreed}
+use Rattle.ans_players.specs.Names.{Names}
 use Rattle.ans_players.specs.OwnKind.{all_but}
 use Rattle.ans_players.specs.Players.{IsPlayer, StaysAbove}
 use Rattle.ans_players.specs.Witnesses.{feeding, feeding_step, FeedingStandsFor}
@@ -96,39 +97,41 @@ module _ (z : Size) where
   from_other g m s t other e above =
       other_stands (grip_after z g s t) _ _ (other_after g s t other tt) (ap (λ (v : State). step z v t) e)
 
-  from_feed : (m s : State) (t : TokenKind) (text : List ℕ) → FeedingStandsFor BehindFeed m s
-      → IsTrue (is_agreed (all_but LineEnds) z (record { grip = BehindFeed; state = s })
+  from_feed : (n : Names) (m s : State) (t : TokenKind) (text : List ℕ) → FeedingStandsFor BehindFeed m s
+      → IsTrue (is_agreed (all_but LineEnds) z (record { grip = BehindFeed; names = n; state = s })
       (record { token = t; text = text }))
       → FeedingStandsFor (grip_after z BehindFeed s t) (feeding_step z m t) (step z s t)
-  from_feed m s (Place row column) text h a = ap (λ (v : State). step z v (Place row column)) h.1
-  from_feed m s (Colours parameters) text h a = (h.0, ap (λ (v : State). step z v (Colours parameters)) h.1)
-  from_feed m s Bell text h a = h
-  from_feed m s CarriageReturn text h a =
+  from_feed n m s (Place row column) text h a = ap (λ (v : State). step z v (Place row column)) h.1
+  from_feed n m s (Colours parameters) text h a = (h.0, ap (λ (v : State). step z v (Colours parameters)) h.1)
+  from_feed n m s Bell text h a = h
+  from_feed n m s CarriageReturn text h a =
       ap (λ (c : Position). record m { cursor = c }) h.0
       ∙ ap (λ (v : State). record v { cursor = at v.cursor.row 0 }) h.1
-  from_feed m s t text h a = let no : false ≡ true = a in absurd (let none : ⊥ = cc in none)
+  from_feed n m s t text h a = let no : false ≡ true = a in absurd (let none : ⊥ = cc in none)
 
-  from_return : (m s : State) (t : TokenKind) (text : List ℕ) → FeedingStandsFor BehindReturn m s
-      → IsTrue (is_agreed (all_but LineEnds) z (record { grip = BehindReturn; state = s })
+  from_return : (n : Names) (m s : State) (t : TokenKind) (text : List ℕ) → FeedingStandsFor BehindReturn m s
+      → IsTrue (is_agreed (all_but LineEnds) z (record { grip = BehindReturn; names = n; state = s })
       (record { token = t; text = text }))
       → FeedingStandsFor (grip_after z BehindReturn s t) (feeding_step z m t) (step z s t)
-  from_return m s (Place row column) text h a = ap (λ (v : State). step z v (Place row column)) h.2
-  from_return m s (Colours parameters) text h a = (h.0, h.1, ap (λ (v : State). step z v (Colours parameters)) h.2)
-  from_return m s Bell text h a = h
-  from_return m s CarriageReturn text h a =
+  from_return n m s (Place row column) text h a = ap (λ (v : State). step z v (Place row column)) h.2
+  from_return n m s (Colours parameters) text h a = (h.0, h.1, ap (λ (v : State). step z v (Colours parameters)) h.2)
+  from_return n m s Bell text h a = h
+  from_return n m s CarriageReturn text h a =
       (h.0, refl, ap (λ (v : State). record v { cursor = at v.cursor.row 0 }) h.2)
-  from_return m s LineFeed text h a =
+  from_return n m s LineFeed text h a =
       rw (eq-eqb s.cursor.column 0 h.1) (ap (line_feed z)
       (ap (λ (c : Position). record m { cursor = c })
       (same_position (at m.cursor.row 0) s.cursor h.0 (sym h.1)) ∙ h.2))
-  from_return m s t text h a = let no : false ≡ true = a in absurd (let none : ⊥ = cc in none)
+  from_return n m s t text h a = let no : false ≡ true = a in absurd (let none : ⊥ = cc in none)
 
-  along : (g : Grip) (m s : State) (t : TokenKind) (text : List ℕ) → FeedingStandsFor g m s → StaysAbove z s t
-      → IsTrue (is_agreed (all_but LineEnds) z (record { grip = g; state = s }) (record { token = t; text = text }))
+  along : (g : Grip) (n : Names) (m s : State) (t : TokenKind) (text : List ℕ) → FeedingStandsFor g m s
+      → StaysAbove z s t
+      → IsTrue (is_agreed (all_but LineEnds) z (record { grip = g; names = n; state = s })
+      (record { token = t; text = text }))
       → FeedingStandsFor (grip_after z g s t) (feeding_step z m t) (step z s t)
-  along BehindFeed m s t text h above a = from_feed m s t text h a
-  along BehindReturn m s t text h above a = from_return m s t text h a
-  along g m s t text h above a = from_other g m s t tt h above
+  along BehindFeed n m s t text h above a = from_feed n m s t text h a
+  along BehindReturn n m s t text h above a = from_return n m s t text h a
+  along g n m s t text h above a = from_other g m s t tt h above
 
   shows_the_cells : (g : Grip) (m s : State) (p : Position) → FeedingStandsFor g m s
       → cell_at z m.screen p ≡ cell_at z s.screen p
@@ -139,5 +142,5 @@ module _ (z : Size) where
 pub feeds : (z : Size) → IsPlayer z (all_but LineEnds) (feeding z)
 feeds z = record {
   shows_the_same = λ m h p stands stated. shows_the_cells z h.grip m h.state p stands;
-  goes_along = λ m h x stands allowed a. along z h.grip m h.state x.token x.text stands allowed.stays_above a;
+  goes_along = λ m h x stands allowed a. along z h.grip h.names m h.state x.token x.text stands allowed.stays_above a;
 }

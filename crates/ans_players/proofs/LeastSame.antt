@@ -120,6 +120,7 @@ module _ (agreed : Kind → Bool) (z : Size) (content : List ℕ) (needs : Start
         saved = inl (start.saved refl);
         attribute = inl (start.attribute refl);
         wrap = inl (start.wrap refl);
+        names = refl;
       }) k x e there there)
 
   -- it is the same for a class, or not

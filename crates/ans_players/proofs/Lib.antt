@@ -8,6 +8,7 @@ pub mod OneSpelling
 pub mod Search
 pub mod LeastSame
 pub mod Spellings
+pub mod MoreNames
 pub mod MendedPlayers
 pub mod Waits
 pub mod Drifting

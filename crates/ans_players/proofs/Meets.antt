@@ -144,6 +144,7 @@ mixed_beside z a b s start = record {
   saved = part_of_one Position a.saved b.saved (cleared z).saved s.saved start.saved;
   attribute = part_of_one ℕ a.colours b.colours (cleared z).attribute s.attribute start.attribute;
   wrap = part_of_one Bool a.wrap b.wrap (cleared z).wrap s.wrap start.wrap;
+  names = refl;
 }
 
 pub agreed_meet : AgreedMeet

@@ -13,7 +13,7 @@ use Rattle.ans_players.specs.declared.kind.Kind.{Kind}
 use Rattle.ans_players.specs.declared.kind.Kind.TheVariants.{WrapAtOnce, LineEnds, HomeOnClear, ClearInColour}
 use Rattle.ans_players.specs.declared.kind.Kind.TheVariants.{SavePlaceOnly, DosColours}
 use Rattle.ans_players.specs.declared.kind.Kind.TheVariants.{TabPrints, LineErased, WrapOff, StopsAtEdge}
-use Rattle.ans_players.specs.declared.kind.Kind.TheVariants.{PageControls, TerminalControls}
+use Rattle.ans_players.specs.declared.kind.Kind.TheVariants.{PageControls, TerminalControls, OwnColours}
 use Rattle.ans_players.specs.Grips.{Stand, firmly}
 use Rattle.ans_players.specs.Situations.{Spelled, situations, is_agreed, spelled, stand_behind, stand_of, AreAgreed}
 use Rattle.ans_players.specs.Kinds.{all_kinds, is_kind, kind_number}
@@ -37,8 +37,9 @@ at_number WrapOff = refl
 at_number StopsAtEdge = refl
 at_number PageControls = refl
 at_number TerminalControls = refl
+at_number OwnColours = refl
 
-same_kind : (k l : Kind) → kind_number k ≡ kind_number l → k ≡ l
+pub same_kind : (k l : Kind) → kind_number k ≡ kind_number l → k ≡ l
 same_kind k l e =
     let same : Some k ≡ Some l = sym (at_number k) ∙ ap (λ (n : ℕ). slice_get all_kinds n) e ∙ at_number l in cc
 
@@ -66,7 +67,7 @@ module _ (agreed : Kind → Bool) (kind : Kind) where
         → 0 < times kind z h xs → IsTrue (agreed kind)
     agreed_kind [] h each some = absurd (let no : ⊥ = omega (arith, some) in no)
     agreed_kind (x ∷ xs) h each some = elim (cases_Bool (arises kind z h x)) [
-      | inl there ↦ member (situations z h.grip h.state x) (each 0 x refl) there
+      | inl there ↦ member (situations z h x) (each 0 x refl) there
       | inr elsewhere ↦
           let none : ◌≡◌ {A = ℕ} (if arises kind z h x then 1 else 0) 0 = ap one_if elsewhere in
           agreed_kind xs (stand_behind z h x) (λ k y e. each (suc k) y e) (omega (arith, none, some))
@@ -99,7 +100,7 @@ module _ (z : Size) (agreed : Kind → Bool) (xs : List Spelled) (w : 0 < z.widt
   and_back : ((kind : Kind) → 0 < times kind z (firmly (cleared z)) xs → IsTrue (agreed kind))
       → AreAgreed agreed z all_known xs
   and_back each s k x start e =
-      all_from_each agreed (situations z (stand_of z s (take k xs)).grip (stand_of z s (take k xs)).state x)
+      all_from_each agreed (situations z (stand_of z s (take k xs)) x)
       (λ kind any. each kind (counted agreed kind z xs (firmly (cleared z)) k x e
       (subst (λ (v : State). IsTrue (arises kind z (stand_of z v (take k xs)) x))
       (is_cleared z s start) any)))

@@ -1,6 +1,6 @@
 -- A play beside two others: each of its parts is that of one of the two.
 use Rattle.std.proofs.Common.{◌≡◌, ◌⊎◌, inl, inr, ℕ, zero, suc, Bool, true, refl, ap, ap₂, ◌∙◌, sym, List}
-use Rattle.std.proofs.Common.{[], ◌∷◌, fold, take, Some}
+use Rattle.std.proofs.Common.{[], ◌∷◌, ◌++◌, fold, take, Some}
 use Rattle.std.proofs.lemmas.Bool.{and_parts, and_from}
 use Rattle.std.proofs.lemmas.List.Folds.{list_all-append}
 use Rattle.std.specs.Prelude.{slice_get, if◌then◌else◌, IsTrue}
@@ -11,7 +11,9 @@ use Rattle.ans_model.specs.Screen.State.{Size}
 use Rattle.ans_model.specs.declared.cell.Position.{Position}
 use Rattle.ans_players.specs.declared.kind.Kind.{Kind}
 use Rattle.ans_players.specs.Grips.{Grip, Stand, stand_after, is_held, loose_kinds}
-use Rattle.ans_players.specs.Situations.{Spelled, is_agreed, token_kinds, spelling_kinds, own_kinds, stand_behind}
+use Rattle.ans_players.specs.Names.{Names, names_after}
+use Rattle.ans_players.specs.Situations.{Spelled, is_agreed, token_kinds, spelling_kinds, own_kinds, name_kinds}
+use Rattle.ans_players.specs.Situations.{stand_behind}
 use Rattle.ans_players.specs.Players.{StaysAbove}
 use Rattle.ans_players.proofs.Afters.{next, cursor_after, saved_after, attribute_after_token, wrap_after}
 use Rattle.ans_players.proofs.Afters.{grip_of, parts_after, grip_is}
@@ -41,6 +43,7 @@ pub record IsBeside (h p q : Stand) : Type 0 where
   pub saved : IsOneOf Position h.state.saved p.state.saved q.state.saved
   pub attribute : IsOneOf ℕ h.state.attribute p.state.attribute q.state.attribute
   pub wrap : IsOneOf Bool h.state.wrap p.state.wrap q.state.wrap
+  pub names : h.names ≡ p.names
 
 -- what is printed is printed at one place
 abbrev pub PrintsAtOne : TokenKind → Stand → Stand → Stand → Type 0
@@ -119,6 +122,7 @@ module _ (z : Size) where
             (one_of ℕ ℕ (attribute_after_token t) h.state.attribute p.state.attribute q.state.attribute
             beside.attribute);
         wrap = from_equal Bool _ _ _ _ _ _ of_h.wrap_is of_p.wrap_is of_q.wrap_is (wrap_beside t h p q beside);
+        names = ap (λ (n : Names). names_after n t) beside.names;
       }
 
   -- ---- what is agreed at both is agreed
@@ -134,28 +138,33 @@ module _ (z : Size) where
     pub grip : IsTrue (list_all agreed (grip_kinds h.grip x.token))
     pub token : IsTrue (list_all agreed (token_kinds z h.state x.token))
     pub spelling : IsTrue (list_all agreed (spelling_kinds h.state x.token x.text))
+    pub named : IsTrue (list_all agreed (name_kinds h.names x.token))
 
   -- the kinds of the token itself are agreed
   pub own_agreed : (agreed : Kind → Bool) (h : Stand) (x : Spelled) → IsTrue (is_agreed agreed z h x)
       → IsTrue (list_all agreed (own_kinds z h.state x))
-  own_agreed agreed h x agrees =
-      (and_parts _ _ (sym (list_all-append agreed (grip_kinds h.grip x.token) (own_kinds z h.state x)) ∙ agrees)).1
+  own_agreed agreed h x agrees = (and_parts _ _ (sym (list_all-append agreed (own_kinds z h.state x)
+      (name_kinds h.names x.token)) ∙ (and_parts _ _ (sym (list_all-append agreed (grip_kinds h.grip x.token)
+      (own_kinds z h.state x ++ name_kinds h.names x.token)) ∙ agrees)).1)).0
 
   pub parts_agreed : (agreed : Kind → Bool) (h : Stand) (x : Spelled) → IsTrue (is_agreed agreed z h x)
       → PartsAgreed agreed h x
   parts_agreed agreed h x agrees =
       let all = and_parts _ _ (sym (list_all-append agreed (grip_kinds h.grip x.token)
-      (own_kinds z h.state x)) ∙ agrees) in
+      (own_kinds z h.state x ++ name_kinds h.names x.token)) ∙ agrees) in
+      let own = and_parts _ _ (sym (list_all-append agreed (own_kinds z h.state x)
+      (name_kinds h.names x.token)) ∙ all.1) in
       let others = and_parts _ _ (sym (list_all-append agreed (token_kinds z h.state x.token)
-      (spelling_kinds h.state x.token x.text)) ∙ all.1) in
-      record { grip = all.0; token = others.0; spelling = others.1 }
+      (spelling_kinds h.state x.token x.text)) ∙ own.0) in
+      record { grip = all.0; token = others.0; spelling = others.1; named = own.1 }
 
   pub from_parts : (agreed : Kind → Bool) (h : Stand) (x : Spelled) → PartsAgreed agreed h x
       → IsTrue (is_agreed agreed z h x)
   from_parts agreed h x parts =
-      list_all-append agreed (grip_kinds h.grip x.token) (own_kinds z h.state x)
-      ∙ and_from _ _ parts.grip (list_all-append agreed (token_kinds z h.state x.token)
-      (spelling_kinds h.state x.token x.text) ∙ and_from _ _ parts.token parts.spelling)
+      list_all-append agreed (grip_kinds h.grip x.token) (own_kinds z h.state x ++ name_kinds h.names x.token)
+      ∙ and_from _ _ parts.grip (list_all-append agreed (own_kinds z h.state x) (name_kinds h.names x.token)
+      ∙ and_from _ _ (list_all-append agreed (token_kinds z h.state x.token)
+      (spelling_kinds h.state x.token x.text) ∙ and_from _ _ parts.token parts.spelling) parts.named)
 
   spelling_agreed : (agreed : Kind → Bool) (t : TokenKind) (text : List ℕ) (h p q : Stand) → IsBeside h p q
       → IsTrue (list_all agreed (spelling_kinds p.state t text))
@@ -193,6 +202,7 @@ module _ (z : Size) where
             (place_of q) beside.place of_p.grip of_q.grip;
         token = token_agreed agreed x.token h p q beside of_p.token of_q.token;
         spelling = spelling_agreed agreed x.token x.text h p q beside of_p.spelling of_q.spelling;
+        named = ap (λ (n : Names). list_all agreed (name_kinds n x.token)) beside.names ∙ of_p.named;
       })
 
   -- ---- along tokens

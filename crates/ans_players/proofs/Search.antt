@@ -143,6 +143,7 @@ module _ (agreed : Kind → Bool) (z : Size) (class : Start) (xs : List Spelled)
         saved = inl (same_part class.saved _ s.saved start.saved);
         attribute = inl (same_part class.colours _ s.attribute start.attribute);
         wrap = inl (same_part class.wrap _ s.wrap start.wrap);
+        names = refl;
       }) k x e there there
 
   -- all tokens are agreed from every start of the class, or not

@@ -49,10 +49,23 @@ wrap_off =
     of_sequence (raw_of Question (Number 7 ∷ []) 0x6C) (codes "7" ∷ []) ((omega arith, refl, refl), tt) (λ e. cc) refl
     (omega arith, tt) (omega arith) (Wrap false) refl
 
-pub white_on_black : SpellsToken (Colours (0 ∷ [])) (escape ∷ codes "[0m")
-white_on_black =
-    of_sequence (raw_of Unmarked (Number 0 ∷ []) 0x6D) (codes "0" ∷ []) ((omega arith, refl, refl), tt) (λ e. cc) refl
-    (omega arith, tt) (omega arith) (Colours (0 ∷ [])) refl
+pub reset_to_names : SpellsToken (Colours (0 ∷ 37 ∷ 40 ∷ [])) (escape ∷ codes "[0;37;40m")
+reset_to_names =
+    of_sequence (raw_of Unmarked (Number 0 ∷ Number 37 ∷ Number 40 ∷ []) 0x6D)
+    (codes "0" ∷ codes "37" ∷ codes "40" ∷ [])
+    ((omega arith, refl, refl), ((omega arith, refl, refl), ((omega arith, refl, refl), tt))) (λ e. cc) refl
+    (omega arith, (omega arith, (omega arith, tt))) (omega arith) (Colours (0 ∷ 37 ∷ 40 ∷ [])) refl
+
+pub named_colours : SpellsToken (Colours (37 ∷ 40 ∷ [])) (escape ∷ codes "[37;40m")
+named_colours =
+    of_sequence (raw_of Unmarked (Number 37 ∷ Number 40 ∷ []) 0x6D) (codes "37" ∷ codes "40" ∷ [])
+    ((omega arith, refl, refl), ((omega arith, refl, refl), tt)) (λ e. cc) refl
+    (omega arith, (omega arith, tt)) (omega arith) (Colours (37 ∷ 40 ∷ [])) refl
+
+pub bright : SpellsToken (Colours (1 ∷ [])) (escape ∷ codes "[1m")
+bright =
+    of_sequence (raw_of Unmarked (Number 1 ∷ []) 0x6D) (codes "1" ∷ []) ((omega arith, refl, refl), tt) (λ e. cc) refl
+    (omega arith, tt) (omega arith) (Colours (1 ∷ [])) refl
 
 pub on_red : SpellsToken (Colours (41 ∷ [])) (escape ∷ codes "[41m")
 on_red =

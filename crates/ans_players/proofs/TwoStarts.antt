@@ -110,6 +110,7 @@ module _ (z : Size) (class : Start) (xs : List Spelled) (w : 0 < z.width) (plays
       attribute = bits_below_high class.colours s.attribute start.attribute start.well_formed.attribute;
       wrap = start.wrap known ∙ sym (on_in_both class.wrap);
       grip = inl refl;
+      names = refl;
     };
   }
 
@@ -140,6 +141,7 @@ wrap_alone agreed z xs w plays from_low from_high s k x start e =
       saved = inl (start.saved refl);
       attribute = inl (start.attribute refl);
       wrap = off_or_on s.wrap;
+      names = refl;
     }) k x e (from_low k x e) (from_high k x e)
   where
     off_or_on : (b : Bool) → (b ≡ false) ⊎ (b ≡ true)

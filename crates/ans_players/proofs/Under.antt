@@ -21,7 +21,8 @@ use Rattle.ans_players.specs.declared.kind.Kind.TheVariants.{StopsAtEdge}
 use Rattle.ans_players.specs.Grips.{Grip, Firm, BehindFeed, BehindReturn, Adrift, Stand, stand_after, is_held}
 use Rattle.ans_players.specs.Grips.{is_home}
 use Rattle.ans_players.specs.Players.{StaysAbove}
-use Rattle.ans_players.specs.Situations.{Spelled, is_agreed, is_grey, kind_if, omits, spelling_kinds}
+use Rattle.ans_players.specs.Names.{Names, names_after}
+use Rattle.ans_players.specs.Situations.{Spelled, is_agreed, is_grey, kind_if, name_kinds, omits, spelling_kinds}
 use Rattle.ans_players.specs.Situations.{token_kinds}
 use Rattle.ans_players.proofs.Afters.{cursor_after, saved_after, attribute_after_token, wrap_after, grip_of}
 use Rattle.ans_players.proofs.Afters.{grip_behind_return, next, parts_after, grip_is}
@@ -55,6 +56,7 @@ pub record IsUnder (h k : Stand) : Type 0 where
   pub attribute : HasBitsBelow h.state.attribute k.state.attribute
   pub wrap : h.state.wrap ≡ k.state.wrap
   pub grip : IsFirmer h.grip h.state.cursor.column k.grip
+  pub names : h.names ≡ k.names
 
 -- what is printed is printed at one place
 abbrev pub IsPrintedAtOne : TokenKind → Position → Position → Type 0
@@ -233,6 +235,7 @@ module _ (z : Size) where
             (token_bits t h.state.attribute k.state.attribute under.attribute);
         wrap = of_h.wrap_is ∙ wrap_same t h.state.wrap k.state.wrap under.wrap ∙ sym of_k.wrap_is;
         grip = rw (grip_is z h.grip h.state t above_h, grip_is z k.grip k.state t above_k, of_h.cursor) grips;
+        names = ap (λ (n : Names). names_after n t) under.names;
       }
 
   -- ---- what is agreed
@@ -320,4 +323,5 @@ module _ (z : Size) where
           grip = grips_agreed agreed x.token h.grip k.grip h.state.cursor.column under.grip of_k.grip;
           token = tokens_agreed x.token of_l.token of_k.token;
           spelling = spellings_agreed x.token x.text of_l.spelling of_k.spelling;
+          named = ap (λ (n : Names). list_all agreed (name_kinds n x.token)) under.names ∙ of_k.named;
         })

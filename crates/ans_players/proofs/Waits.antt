@@ -15,6 +15,7 @@ use Rattle.ans_players.specs.declared.kind.Kind.TheVariants.{WrapAtOnce, HomeOnC
 use Rattle.ans_players.specs.Grips.{Grip, Firm, Wrapped, BehindFeed, BehindReturn, Adrift, grip_after}
 use Rattle.ans_players.specs.Grips.{grip_behind_print, is_home}
 use Rattle.ans_players.specs.Situations.{is_agreed}
+use Rattle.ans_players.specs.Names.{Names}
 use Rattle.ans_players.specs.OwnKind.{all_but}
 use Rattle.ans_players.specs.Players.{IsPlayer, StaysAbove}
 use Rattle.ans_players.specs.Witnesses.{Waiting, on_next_row, goes_on, puts, waiting_put, waiting_step}
@@ -125,24 +126,25 @@ module _ (z : Size) where
       (still_after g s t still tt) refl (ap (λ (v : State). step z v t) e)
 
   -- from where it waits
-  from_waiting : (m : Waiting) (s : State) (t : TokenKind) (text : List ℕ) → WaitingStandsFor z Wrapped m s
+  from_waiting : (n : Names) (m : Waiting) (s : State) (t : TokenKind) (text : List ℕ) → WaitingStandsFor z Wrapped m s
       → StaysAbove z s t
-      → IsTrue (is_agreed (all_but WrapAtOnce) z (record { grip = Wrapped; state = s })
+      → IsTrue (is_agreed (all_but WrapAtOnce) z (record { grip = Wrapped; names = n; state = s })
       (record { token = t; text = text }))
       → WaitingStandsFor z (grip_after z Wrapped s t) (waiting_step z m t) (step z s t)
-  from_waiting m s (Glyph byte) text h above a = put_stands Wrapped m s byte h above
-  from_waiting m s (Place row column) text h above a = (refl, ap (λ (v : State). step z v (Place row column)) h.2)
-  from_waiting m s (Colours parameters) text h above a =
+  from_waiting n m s (Glyph byte) text h above a = put_stands Wrapped m s byte h above
+  from_waiting n m s (Place row column) text h above a = (refl, ap (λ (v : State). step z v (Place row column)) h.2)
+  from_waiting n m s (Colours parameters) text h above a =
       (h.0, h.1, ap (λ (v : State). step z v (Colours parameters)) h.2)
-  from_waiting m s Bell text h above a = h
-  from_waiting m s t text h above a = let no : false ≡ true = a in absurd (let none : ⊥ = cc in none)
+  from_waiting n m s Bell text h above a = h
+  from_waiting n m s t text h above a = let no : false ≡ true = a in absurd (let none : ⊥ = cc in none)
 
-  along : (g : Grip) (m : Waiting) (s : State) (t : TokenKind) (text : List ℕ) → WaitingStandsFor z g m s
+  along : (g : Grip) (n : Names) (m : Waiting) (s : State) (t : TokenKind) (text : List ℕ) → WaitingStandsFor z g m s
       → StaysAbove z s t
-      → IsTrue (is_agreed (all_but WrapAtOnce) z (record { grip = g; state = s }) (record { token = t; text = text }))
+      → IsTrue (is_agreed (all_but WrapAtOnce) z (record { grip = g; names = n; state = s })
+      (record { token = t; text = text }))
       → WaitingStandsFor z (grip_after z g s t) (waiting_step z m t) (step z s t)
-  along Wrapped m s t text h above a = from_waiting m s t text h above a
-  along g m s t text h above a = from_still g m s t tt h.0 h.1 above
+  along Wrapped n m s t text h above a = from_waiting n m s t text h above a
+  along g n m s t text h above a = from_still g m s t tt h.0 h.1 above
 
   shows_the_cells : (g : Grip) (m : Waiting) (s : State) (p : Position) → WaitingStandsFor z g m s
       → cell_at z m.state.screen p ≡ cell_at z s.screen p
@@ -152,5 +154,5 @@ module _ (z : Size) where
 pub waits : (z : Size) → IsPlayer z (all_but WrapAtOnce) (waiting z)
 waits z = record {
   shows_the_same = λ m h p stands stated. shows_the_cells z h.grip m h.state p stands;
-  goes_along = λ m h x stands allowed a. along z h.grip m h.state x.token x.text stands allowed.stays_above a;
+  goes_along = λ m h x stands allowed a. along z h.grip h.names m h.state x.token x.text stands allowed.stays_above a;
 }

@@ -8,6 +8,7 @@ use Rattle.ans_model.specs.Screen.Step.{step}
 use Rattle.ans_model.specs.declared.cell.Position.{Position}
 use Rattle.ans_players.specs.declared.kind.Kind.{Kind}
 use Rattle.ans_players.specs.declared.kind.Kind.TheVariants.{WrapAtOnce, LineEnds, HomeOnClear, SavePlaceOnly}
+use Rattle.ans_players.specs.Names.{Names, unnamed, names_after}
 
 -- Firm: the cursor is where the profile has it. Else it may not be: behind a byte that has just wrapped; behind a line
 -- feed, or a return, outside the first column; or adrift behind something of this kind.
@@ -65,15 +66,17 @@ grip_after z BehindFeed s CarriageReturn = Firm
 grip_after z BehindReturn s CarriageReturn = BehindReturn
 grip_after z g s t = grip_behind z s t
 
--- a state of the profile, and how firmly players stand for it
+-- a state of the profile, how firmly players stand for it, and which colours the drawing has named
 pub record Stand : Type 0 where
   pub grip : Grip
+  pub names : Names
   pub state : State
 
--- players stand firm for this state
+-- players stand firm for this state, and no colour is named, whatever the state is
 abbrev pub firmly : State → Stand
-firmly s = record { grip = Firm; state = s }
+firmly s = record { grip = Firm; names = unnamed; state = s }
 
 -- the stand behind a token
 abbrev pub stand_after : Size → Stand → TokenKind → Stand
-stand_after z h t = record { grip = grip_after z h.grip h.state t; state = step z h.state t }
+stand_after z h t =
+    record { grip = grip_after z h.grip h.state t; names = names_after h.names t; state = step z h.state t }

@@ -3,13 +3,13 @@ use Rattle.std.specs.Prelude.{ℕ, Bool, ◌==◌, List, [], ◌∷◌, codes}
 use Rattle.ans_players.specs.declared.kind.Kind.{Kind}
 use Rattle.ans_players.specs.declared.kind.Kind.TheVariants.{WrapAtOnce, LineEnds, HomeOnClear, ClearInColour}
 use Rattle.ans_players.specs.declared.kind.Kind.TheVariants.{SavePlaceOnly, DosColours, TabPrints, LineErased, WrapOff}
-use Rattle.ans_players.specs.declared.kind.Kind.TheVariants.{StopsAtEdge, PageControls, TerminalControls}
+use Rattle.ans_players.specs.declared.kind.Kind.TheVariants.{StopsAtEdge, PageControls, TerminalControls, OwnColours}
 
 -- the kinds in their order
 abbrev pub all_kinds : List Kind
 all_kinds =
     WrapAtOnce ∷ LineEnds ∷ HomeOnClear ∷ ClearInColour ∷ SavePlaceOnly ∷ DosColours ∷ TabPrints ∷ LineErased ∷ WrapOff
-    ∷ StopsAtEdge ∷ PageControls ∷ TerminalControls ∷ []
+    ∷ StopsAtEdge ∷ PageControls ∷ TerminalControls ∷ OwnColours ∷ []
 
 -- where a kind stands among them
 abbrev pub kind_number : Kind → ℕ
@@ -25,6 +25,7 @@ kind_number WrapOff = 8
 kind_number StopsAtEdge = 9
 kind_number PageControls = 10
 kind_number TerminalControls = 11
+kind_number OwnColours = 12
 
 -- two kinds are one
 abbrev pub is_kind : Kind → Kind → Bool
@@ -44,3 +45,4 @@ kind_word WrapOff = codes "wrap-off"
 kind_word StopsAtEdge = codes "stops-at-edge"
 kind_word PageControls = codes "page-controls"
 kind_word TerminalControls = codes "terminal-controls"
+kind_word OwnColours = codes "own-colours"

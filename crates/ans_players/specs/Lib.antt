@@ -1,5 +1,6 @@
 -- Where players part, and what is the same on all of them.
 pub mod Kinds
+pub mod Names
 pub mod Grips
 pub mod Situations
 pub mod Players

@@ -1,5 +1,5 @@
 -- Behind the mending, what is the same on every player from the cleared start is so from every start.
-use Rattle.std.specs.Prelude.{◌↔◌, ℕ, ◌<◌, Bool, true, List, [], ◌∷◌, ◌++◌, codes, map}
+use Rattle.std.specs.Prelude.{ℕ, ◌<◌, Bool, ◌||◌, true, List, [], ◌∷◌, ◌++◌, codes, map}
 use Rattle.ans_model.specs.Bytes.{escape}
 use Rattle.ans_model.specs.Sequence.TokenKind.{TokenKind, Clear, Save, Colours, Place, Wrap}
 use Rattle.ans_model.specs.Sequence.Reads.{ReadsAs}
@@ -8,6 +8,8 @@ use Rattle.ans_model.specs.Screen.StartClass.{all_known, none_known}
 use Rattle.ans_model.specs.declared.start.Start.{Start}
 use Rattle.ans_model.specs.Verdict.Good.{Picture, GoodWith}
 use Rattle.ans_players.specs.declared.kind.Kind.{Kind}
+use Rattle.ans_players.specs.declared.kind.Kind.TheVariants.{OwnColours}
+use Rattle.ans_players.specs.Kinds.{is_kind}
 use Rattle.ans_players.specs.Players.{Behaviour, IsShown}
 use Rattle.ans_players.specs.Situations.{Spelled, AreAgreed, spelled}
 
@@ -15,28 +17,34 @@ use Rattle.ans_players.specs.Situations.{Spelled, AreAgreed, spelled}
 abbrev pub sequence : TokenKind → List ℕ → Spelled
 sequence token characters = record { token = token; text = escape ∷ characters }
 
--- ESC[?7h ESC[0m ESC[2J ESC[H ESC[s
+-- an agreed kind, or own-colours
+abbrev pub or_own : (Kind → Bool) → Kind → Bool
+or_own agreed kind = is_kind OwnColours kind || agreed kind
+
+-- ESC[?7h ESC[0;37;40m ESC[2J ESC[H ESC[s
 abbrev pub mending_spelled : List Spelled
 mending_spelled =
     sequence (Wrap true) (codes "[?7h")
-    ∷ sequence (Colours (0 ∷ [])) (codes "[0m")
+    ∷ sequence (Colours (0 ∷ 37 ∷ 40 ∷ [])) (codes "[0;37;40m")
     ∷ sequence Clear (codes "[2J")
     ∷ sequence (Place 1 1) (codes "[H")
     ∷ sequence Save (codes "[s")
     ∷ []
 
--- these 19 bytes are read so
+-- these 25 bytes are read so
 abbrev pub MendingIsRead : Type 0
 MendingIsRead =
     ReadsAs
-    ((escape ∷ codes "[?7h") ++ (escape ∷ codes "[0m") ++ (escape ∷ codes "[2J") ++ (escape ∷ codes "[H")
+    ((escape ∷ codes "[?7h") ++ (escape ∷ codes "[0;37;40m") ++ (escape ∷ codes "[2J") ++ (escape ∷ codes "[H")
     ++ (escape ∷ codes "[s"))
     (map (λ x. x.token) mending_spelled) (map (λ x. x.text) mending_spelled)
 
--- No kind arises in the mending, and behind it those that arise from the cleared start, for whichever class.
+-- No kind arises in the mending, and behind it those that arise from the cleared start, for whichever class. But
+-- own-colours may go, since the mending names both colours.
 abbrev pub MendedIsAgreed : Type 0
 MendedIsAgreed = (agreed : Kind → Bool) (z : Size) (class : Start) (xs : List Spelled) → 0 < z.width
-    → AreAgreed agreed z all_known xs ↔ AreAgreed agreed z class (mending_spelled ++ xs)
+    → (AreAgreed agreed z all_known xs → AreAgreed agreed z class (mending_spelled ++ xs))
+    × (AreAgreed agreed z class (mending_spelled ++ xs) → AreAgreed (or_own agreed) z all_known xs)
 
 -- Good content in which no kinds but agreed ones arise from the cleared start shows its picture behind the mending,
 -- from every start.

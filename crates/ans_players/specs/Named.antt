@@ -12,7 +12,7 @@ use Rattle.ans_players.specs.Situations.{Spelled, situations, spelled, stand_beh
 
 -- the kind arises at the token
 abbrev pub arises : Kind → Size → Stand → Spelled → Bool
-arises kind z h x = list_any (is_kind kind) (situations z h.grip h.state x)
+arises kind z h x = list_any (is_kind kind) (situations z h x)
 
 -- at how many of the tokens it arises
 abbrev pub times : Kind → Size → Stand → List Spelled → ℕ

@@ -1,5 +1,5 @@
 -- Where players may part.
-use Rattle.std.specs.Prelude.{◌≡◌, ℕ, ◌+◌, Bool, false, not, ◌&&◌, ◌||◌, ◌==◌, nat_lt, nat_le, List, [], ◌∷◌, ◌++◌}
+use Rattle.std.specs.Prelude.{◌≡◌, ℕ, ◌+◌, Bool, false, not, ◌&&◌, ◌||◌, ◌==◌, nat_lt, List, [], ◌∷◌, ◌++◌}
 use Rattle.std.specs.Prelude.{fold, take, slice_get, Some, if◌then◌else◌, IsTrue}
 use Rattle.std.specs.List.{list_all}
 use Rattle.ans_model.specs.Bytes.{bracket, semicolon}
@@ -11,16 +11,13 @@ use Rattle.ans_model.specs.declared.start.Start.{Start}
 use Rattle.ans_players.specs.declared.kind.Kind.{Kind}
 use Rattle.ans_players.specs.declared.kind.Kind.TheVariants.{ClearInColour, SavePlaceOnly, DosColours, TabPrints}
 use Rattle.ans_players.specs.declared.kind.Kind.TheVariants.{LineErased, WrapOff, StopsAtEdge, PageControls}
-use Rattle.ans_players.specs.declared.kind.Kind.TheVariants.{TerminalControls}
+use Rattle.ans_players.specs.declared.kind.Kind.TheVariants.{TerminalControls, OwnColours}
+use Rattle.ans_players.specs.Names.{Names, is_within, are_both, paints}
 use Rattle.ans_players.specs.Grips.{Grip, Stand, loose_kinds, is_held, firmly, stand_after}
 
 -- the kind, where the test holds
 abbrev pub kind_if : Bool → Kind → List Kind
 kind_if test kind = if test then kind ∷ [] else []
-
--- one of the numbers from `first` to `last`
-abbrev pub is_within : ℕ → ℕ → ℕ → Bool
-is_within first last n = nat_le first n && nat_le n last
 
 -- a number of a colour that all players take alike
 abbrev pub is_common_colour : ℕ → Bool
@@ -81,13 +78,19 @@ spelling_kinds s t text = []
 abbrev pub own_kinds : Size → State → Spelled → List Kind
 own_kinds z s x = token_kinds z s x.token ++ spelling_kinds s x.token x.text
 
+-- The kind of what is printed or blanked while not both colours are named, whatever the state is.
+abbrev pub name_kinds : Names → TokenKind → List Kind
+name_kinds n t = kind_if (paints t && not (are_both n)) OwnColours
+
 -- The kinds in which players that stand so may part at the token: mostly none.
-abbrev pub situations : Size → Grip → State → Spelled → List Kind
-situations z g s x = (if is_held g x.token then [] else loose_kinds g) ++ own_kinds z s x
+abbrev pub situations : Size → Stand → Spelled → List Kind
+situations z h x =
+    (if is_held h.grip x.token then [] else loose_kinds h.grip)
+    ++ (own_kinds z h.state x ++ name_kinds h.names x.token)
 
 -- all kinds that arise at the token are agreed
 abbrev pub is_agreed : (Kind → Bool) → Size → Stand → Spelled → Bool
-is_agreed agreed z h x = list_all agreed (situations z h.grip h.state x)
+is_agreed agreed z h x = list_all agreed (situations z h x)
 
 -- the stand behind a spelled token
 abbrev pub stand_behind : Size → Stand → Spelled → Stand

@@ -1,5 +1,5 @@
 //! Examples of where kinds arise, one a clause, worked out apart from the definitions: on a screen of four
-//! columns and three lines, from the cleared start.
+//! columns and three lines, from the cleared start. All but the last begin with `ESC[37;40m`.
 
 ghost use Rattle.std.specs.Prelude.{[], ◌∷◌, ◌++◌, codes, true, false};
 ghost use Rattle.ans_model.specs.Sequence.TokenKind.{Up, Down, Forward, Backward, Place, Clear, EraseLine, Save};
@@ -7,8 +7,8 @@ ghost use Rattle.ans_model.specs.Sequence.TokenKind.{Restore, Colours, Wrap};
 ghost use Rattle.ans_players.specs.declared.kind.Kind.TheVariants.{WrapAtOnce, LineEnds, HomeOnClear, ClearInColour};
 ghost use Rattle.ans_players.specs.declared.kind.Kind.TheVariants.{SavePlaceOnly, DosColours, TabPrints, LineErased};
 ghost use Rattle.ans_players.specs.declared.kind.Kind.TheVariants.{WrapOff, StopsAtEdge, PageControls};
-ghost use Rattle.ans_players.specs.declared.kind.Kind.TheVariants.{TerminalControls};
-ghost use Rattle.ans_players.specs.Examples.{Arise, bytes};
+ghost use Rattle.ans_players.specs.declared.kind.Kind.TheVariants.{TerminalControls, OwnColours};
+ghost use Rattle.ans_players.specs.Examples.{Arise, AriseAtOnce, bytes};
 ghost use Rattle.ans_players.specs.Mends.{sequence, mending_spelled};
 
 /// CR LF, LF CR and CR CR LF are one on all players. A line feed alone is not, nor is a return alone.
@@ -98,4 +98,25 @@ pub fn control_bytes()
     ensures third { Arise (bytes (0x1C ∷ 0x1F ∷ [])) (TerminalControls ∷ TerminalControls ∷ []) }
     ensures last { Arise (bytes (0x7F ∷ [])) (TerminalControls ∷ []) }
     ensures others { Arise (bytes (0x20 ∷ 0x7E ∷ 0x80 ∷ 0xFF ∷ [])) [] }
+{}
+
+/// What is printed or blanked is in a player's own colours until both are named, and anew after a 0. A last
+/// `ESC[0m` is of no kind.
+pub fn own_colours()
+    ensures at_once { AriseAtOnce (bytes (codes "A ")) (OwnColours ∷ OwnColours ∷ []) }
+    ensures tab { AriseAtOnce (bytes (codes "\t")) (TabPrints ∷ OwnColours ∷ []) }
+    ensures clear { AriseAtOnce (sequence Clear (codes "[2J") ∷ []) (OwnColours ∷ []) }
+    ensures line { AriseAtOnce (sequence EraseLine (codes "[K") ∷ []) (LineErased ∷ OwnColours ∷ []) }
+    ensures foreground { AriseAtOnce (sequence (Colours (37 ∷ [])) (codes "[37m") ∷ bytes (codes "A")) (OwnColours ∷ []) }
+    ensures background { AriseAtOnce (sequence (Colours (40 ∷ [])) (codes "[40m") ∷ bytes (codes "A")) (OwnColours ∷ []) }
+    ensures both { AriseAtOnce (sequence (Colours (31 ∷ 44 ∷ [])) (codes "[31;44m") ∷ bytes (codes "A")) [] }
+    ensures zero { Arise (sequence (Colours (0 ∷ [])) (codes "[0m") ∷ bytes (codes "A")) (OwnColours ∷ []) }
+    ensures zero_first { AriseAtOnce
+        (sequence (Colours (0 ∷ 37 ∷ 40 ∷ [])) (codes "[0;37;40m") ∷ bytes (codes "A")) [] }
+    ensures zero_last { AriseAtOnce
+        (sequence (Colours (37 ∷ 40 ∷ 0 ∷ [])) (codes "[37;40;0m") ∷ bytes (codes "A")) (OwnColours ∷ []) }
+    ensures omitted { Arise (sequence (Colours (0 ∷ [])) (codes "[m") ∷ bytes (codes "A")) (OwnColours ∷ []) }
+    ensures bright { Arise (sequence (Colours (1 ∷ [])) (codes "[1m") ∷ bytes (codes "A")) [] }
+    ensures inverse { Arise (sequence (Colours (7 ∷ [])) (codes "[7m") ∷ bytes (codes "A")) (DosColours ∷ []) }
+    ensures last_zero { Arise (bytes (codes "A") ++ sequence (Colours (0 ∷ [])) (codes "[0m") ∷ []) [] }
 {}

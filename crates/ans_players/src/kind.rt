@@ -36,11 +36,14 @@ pub enum Kind {
     PageControls,
     /// 01h to 06h, 0Eh to 19h, 1Ch to 1Fh and 7Fh are drawn. Terminals alone do not draw them.
     TerminalControls,
+    /// 0 sets white on black, as 37 and 40 do, and so it is at a start. Terminals have a white and a black
+    /// of their own there.
+    OwnColours,
 }
 
 impl Kind {
     /// The kinds in their order, each once (`laws::kinds_are_listed`).
-    pub const ALL: [Kind; 12] = [
+    pub const ALL: [Kind; 13] = [
         Kind::WrapAtOnce,
         Kind::LineEnds,
         Kind::HomeOnClear,
@@ -53,6 +56,7 @@ impl Kind {
         Kind::StopsAtEdge,
         Kind::PageControls,
         Kind::TerminalControls,
+        Kind::OwnColours,
     ];
 
     /// Where a kind stands in `Kind::ALL`, counted from 0.
@@ -72,6 +76,7 @@ impl Kind {
             Kind::StopsAtEdge => 9,
             Kind::PageControls => 10,
             Kind::TerminalControls => 11,
+            Kind::OwnColours => 12,
         }
     }
 
@@ -92,6 +97,7 @@ impl Kind {
             Kind::StopsAtEdge => "stops-at-edge",
             Kind::PageControls => "page-controls",
             Kind::TerminalControls => "terminal-controls",
+            Kind::OwnColours => "own-colours",
         }
     }
 }

@@ -73,8 +73,9 @@ pub fn two_starts_tell_of_players()
     ensures same { SameByTwoStarts }
 {}
 
-/// `ESC[?7h ESC[0m ESC[2J ESC[H ESC[s`, 19 bytes without the blanks between them, are read as five tokens.
-/// No kind arises at them from any start, and behind them those that arise from the cleared start.
+/// `ESC[?7h ESC[0;37;40m ESC[2J ESC[H ESC[s`, 25 bytes without the blanks between them, are read as five
+/// tokens. No kind arises at them from any start, and after them those that arise from the cleared start, but
+/// that own colours may go: both colours are named.
 pub fn mended_tokens_are_agreed()
     ensures read { MendingIsRead }
     ensures agreed { MendedIsAgreed }
