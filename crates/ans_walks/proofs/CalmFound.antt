@@ -24,6 +24,8 @@ use Rattle.ans_model.proofs.StartLemmas.{low_is_start}
 use Rattle.ans_players.specs.Classes.{AgreedFromTwo, IsAgreedFrom, IsCalm, IsLeastSame, IsSame}
 use Rattle.ans_players.specs.Classes.{IsToldByTwo}
 use Rattle.ans_players.specs.Grips.{firmly, grip_after}
+use Rattle.ans_players.specs.Names as name
+use Rattle.ans_players.specs.Names.{names_after, unnamed}
 use Rattle.ans_players.specs.Situations.{Spelled, is_agreed, situations, spelled, stand_behind, stand_of}
 use Rattle.ans_players.specs.declared.kind.Kind.{Kind}
 use Rattle.ans_players.proofs.LeastSame.{least_same_is_found}
@@ -32,13 +34,14 @@ use Rattle.ans_tokens.specs.Walk.{Front, front_with, WalksTo}
 use Rattle.ans_tokens.proofs.Scanning.{IsSplit, split_reading}
 use Rattle.ans_tokens.proofs.Walked.{never_refused, walked_all}
 use Rattle.ans_walks.specs.CalmWalked.{HasStayedCalm, IsCalmTo}
-use Rattle.ans_walks.specs.GripsShown.{shown_grip}
+use Rattle.ans_walks.specs.GripsShown.{shown_grip, shown_names}
 use Rattle.ans_walks.specs.KindsUsed.{is_used}
 use Rattle.ans_walks.specs.KindsWalked.{StandsAt}
 use Rattle.ans_walks.specs.Pens.{pen_of}
 use Rattle.ans_walks.specs.declared.calm.CalmWalk.{CalmWalk}
 use Rattle.ans_walks.specs.declared.grip.Grip.{Grip}
 use Rattle.ans_walks.specs.declared.grip.Grip.TheVariants.{Firm}
+use Rattle.ans_walks.specs.declared.names.Names.{Names}
 use Rattle.ans_walks.specs.declared.pen.Pen.{Pen}
 use Rattle.ans_walks.proofs.KindsFound.{one, spelled_behind, spelled_more, text_there, whole_more}
 
@@ -81,15 +84,15 @@ module _ (agreed : Kind → Bool) (z : Size) (s : State) where
           (subst (λ (w : Spelled). IsTrue (is_agreed agreed z (stand_of z s xs) w)) same here)
     ]
 
-    calm_step : (goes_on : Bool) (old_pen new_pen : Pen) (old_grip new_grip : Grip)
-        → IsCalmTo agreed z s xs true old_pen old_grip
-        → (StandsAt old_pen old_grip (stand_of z s xs)
-        → StandsAt new_pen new_grip (stand_behind z (stand_of z s xs) x))
-        → (StandsAt old_pen old_grip (stand_of z s xs) → goes_on ≡ is_agreed agreed z (stand_of z s xs) x)
-        → IsCalmTo agreed z s (xs ++ x ∷ []) goes_on new_pen new_grip
-    calm_step false old_pen new_pen old_grip new_grip h stands is =
+    calm_step : (goes_on : Bool) (old_pen new_pen : Pen) (old_grip new_grip : Grip) (old_names new_names : Names)
+        → IsCalmTo agreed z s xs true old_pen old_grip old_names
+        → (StandsAt old_pen old_grip old_names (stand_of z s xs)
+        → StandsAt new_pen new_grip new_names (stand_behind z (stand_of z s xs) x))
+        → (StandsAt old_pen old_grip old_names (stand_of z s xs) → goes_on ≡ is_agreed agreed z (stand_of z s xs) x)
+        → IsCalmTo agreed z s (xs ++ x ∷ []) goes_on new_pen new_grip new_names
+    calm_step false old_pen new_pen old_grip new_grip old_names new_names h stands is =
         λ each. false≢true (is h.1 ∙ agreed_at each)
-    calm_step true old_pen new_pen old_grip new_grip h stands is = (
+    calm_step true old_pen new_pen old_grip new_grip old_names new_names h stands is = (
       agreed_more h.0 (sym (is h.1)),
       rw (fold-append (stand_behind z) (firmly s) xs (x ∷ [])) (stands h.1),
     )
@@ -100,32 +103,37 @@ pub walked_calm : (first old new : CalmWalk) (front : Front) (t : TokenKind) (te
     → new.content.now ≡ old.content.now → new.used.now ≡ old.used.now
     → ((s : State) → old.pen ≡ pen_of s → new.pen ≡ pen_of (step old.size s t))
     → ((s : State) → old.pen ≡ pen_of s → shown_grip new.grip ≡ grip_after old.size (shown_grip old.grip) s t)
+    → shown_names new.names ≡ names_after (shown_names old.names) t
     → ((s : State) → old.pen ≡ pen_of s
-    → goes_on ≡ list_all (is_used old.used.now) (situations old.size (shown_grip old.grip) s (one t text)))
+    → goes_on ≡ list_all (is_used old.used.now) (situations old.size
+    (record { grip = shown_grip old.grip; names = shown_names old.names; state = s }) (one t text)))
     → HasStayedCalm first (front_with front t text behind) goes_on new
-walked_calm first old new front t text behind goes_on h next size content used steps grips is = record {
+walked_calm first old new front t text behind goes_on h next size content used steps grips names is = record {
   size = size ∙ h.size;
   content = content ∙ h.content;
   used = used ∙ h.used;
   texts = omega (arith, h.texts, length-append front.texts (text ∷ []), length-append front.tokens (t ∷ []));
   whole = whole_more first.content.now front.texts text behind
       (text_there first.content.now front.texts _ text behind h.whole next);
-  calm = λ s pen firm.
+  calm = λ s pen firm none.
       let z = first.size in
       let xs : List Spelled = spelled front.tokens front.texts in
       rw (spelled_more front.tokens t front.texts text h.texts)
       (calm_step (is_used first.used.now) z s xs (one t text) goes_on old.pen new.pen old.grip new.grip
-      (h.calm s pen firm)
+      old.names new.names (h.calm s pen firm none)
       (λ at. record {
         pen_is = rw h.size at (steps (stand_of z s xs).state at.pen_is);
         grip_is = rw (h.size, at.grip_is) at (grips (stand_of z s xs).state at.pen_is);
+        names_are = names ∙ ap (λ (n : name.Names). name.names_after n t) at.names_are;
       })
-      (λ at. rw (h.size, h.used, at.grip_is) at (is (stand_of z s xs).state at.pen_is)));
+      (λ at. subst (λ (n : name.Names). goes_on ≡ list_all (is_used first.used.now)
+      (situations z (record (stand_of z s xs) { names = n }) (one t text))) at.names_are
+      (rw (h.size, h.used, at.grip_is) at (is (stand_of z s xs).state at.pen_is))));
 }
 
 -- what the walk says in the end
 module _ (content : List ℕ) (first now : CalmWalk) (s : State) (tokens : List TokenKind) (texts : List (List ℕ))
-    (pen : first.pen ≡ pen_of s) (firm : first.grip ≡ Firm) (reads : ReadsAs content tokens texts) where
+    (pen : first.pen ≡ pen_of s) (firm : first.grip ≡ Firm) (none : shown_names first.names ≡ unnamed) (reads : ReadsAs content tokens texts) where
   abbrev agreed : Kind → Bool
   agreed = is_used first.used.now
 
@@ -147,14 +155,14 @@ module _ (content : List ℕ) (first now : CalmWalk) (s : State) (tokens : List 
       → IsTrue (result_unwrap_or result false) ↔ IsAgreedFrom agreed first.size s (spelled tokens texts)
   calm_whole (Ok true) h =
       let over = walked_all _ content (length content) first now tokens texts reads_taken h in
-      (λ yes. (over.calm s pen firm).0, λ each. refl)
+      (λ yes. (over.calm s pen firm none).0, λ each. refl)
   calm_whole (Ok false) (left, h) = (
     λ yes. absurd (false≢true yes),
     λ each.
         let split : IsSplit h.front.tokens tokens h.front.texts texts left =
         split_reading h.front.tokens tokens h.front.texts texts left h.reads.each reads.each
         (ap (λ (v : List ℕ). v ++ left) (sym h.reads.whole) ∙ sym h.whole ∙ take-length content ∙ reads.whole) in
-        absurd (h.over.calm s pen firm
+        absurd (h.over.calm s pen firm none
         (front_is_agreed h.front split.later split.later_texts h.over.texts split.tokens_are split.texts_are each)),
   )
   calm_whole (Err fault) h =

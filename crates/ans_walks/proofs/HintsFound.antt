@@ -18,7 +18,7 @@ use Rattle.ans_tokens.specs.Walk.{Front, front_with, WalksTo}
 use Rattle.ans_tokens.proofs.Walked.{walked_whole}
 use Rattle.ans_walks.specs.Places.{Condition, offset_if, places, times_of}
 use Rattle.ans_walks.specs.Conditions.{loose_line_feed, wide_character, two_byte_letter, latin_letter, board_code}
-use Rattle.ans_walks.specs.Conditions.{later_colours, blinking_glyph}
+use Rattle.ans_walks.specs.Conditions.{later_colours, blinking_glyph, dark_glyph, seen_glyph}
 use Rattle.ans_walks.specs.RowEnds.{Written, nothing_written, row_ends_with, row_with, written_after, written_with}
 use Rattle.ans_walks.specs.declared.row.Row.{Row}
 use Rattle.ans_walks.specs.Counted.{counted}
@@ -145,6 +145,8 @@ module _ (first old : Walk) (front : Front) (t : TokenKind) (text behind : List 
         ∙ sym (unless first.non_blink (blinking_glyph z here t behind) _ offset)
         ∙ ap (λ (v : Option Times). if first.non_blink then None else v)
         (found blinking_glyph 0 offset _ (omega arith) refl);
+    seen_glyphs = found seen_glyph 0 offset _ (omega arith) h.hints.seen_glyphs;
+    dark_glyphs = found dark_glyph 0 offset _ (omega arith) h.hints.dark_glyphs;
     empty_rows = ap (λ (n : ℕ). empty_with z here n t) h.hints.empty_rows
         ∙ sym (empty_more z (cleared z) z.lines front.tokens t);
     moves_rows = ap (λ (moved : Bool). moved_with moved t) h.hints.moves_rows

@@ -5,9 +5,9 @@ use Rattle.std.proofs.Common.{append-nil, length-append}
 use Rattle.std.specs.Prelude.{IsTrue, is_none, Result, slice_get, if◌then◌else◌}
 use Rattle.std.specs.List.{concat, list_all, list_any}
 use Rattle.std.proofs.Math.Seq.{take-append_seam, take-length}
-use Rattle.std.proofs.lemmas.Bool.{and_parts, false≢true}
+use Rattle.std.proofs.lemmas.Bool.{and_from, and_parts, false≢true}
 use Rattle.std.proofs.lemmas.List.{take-append-le}
-use Rattle.std.proofs.lemmas.List.Folds.{concat-append}
+use Rattle.std.proofs.lemmas.List.Folds.{concat-append, list_all-append}
 use Rattle.std.proofs.lemmas.List.Sums.{fold-append}
 use Rattle.std.proofs.lemmas.Option.{slice_get_within}
 use Rattle.ans_model.specs.Sequence.TokenKind.{TokenKind}
@@ -20,18 +20,20 @@ use Rattle.ans_model.specs.declared.fault.Fault.{Fault}
 use Rattle.ans_model.proofs.Slices.{slice_get-append_left, slice_get-append_right}
 use Rattle.ans_players.specs.Grips.{Stand, firmly, grip_after}
 use Rattle.ans_players.specs.Kinds.{is_kind, kind_number}
+use Rattle.ans_players.specs.Names.{Names, names_after}
+use Rattle.ans_players.specs.OwnKind.{all_but}
 use Rattle.ans_players.specs.Named.{ArisesFirst, arises, times, times_cleared}
 use Rattle.ans_players.specs.Situations.{Spelled, situations, spelled, stand_behind, stand_of}
 use Rattle.ans_players.specs.declared.kind.Kind.{Kind}
 use Rattle.ans_players.specs.declared.kind.Kind.TheVariants.{WrapAtOnce, LineEnds, HomeOnClear, ClearInColour}
 use Rattle.ans_players.specs.declared.kind.Kind.TheVariants.{SavePlaceOnly, DosColours, TabPrints, LineErased, WrapOff}
-use Rattle.ans_players.specs.declared.kind.Kind.TheVariants.{StopsAtEdge, PageControls, TerminalControls}
+use Rattle.ans_players.specs.declared.kind.Kind.TheVariants.{StopsAtEdge, PageControls, TerminalControls, OwnColours}
 use Rattle.ans_tokens.specs.Walk.{Front, front_with, WalksTo}
 use Rattle.ans_tokens.proofs.Walked.{walked_whole}
 use Rattle.ans_walks.specs.Counted.{counted}
-use Rattle.ans_walks.specs.GripsShown.{shown_grip}
+use Rattle.ans_walks.specs.GripsShown.{shown_grip, shown_names}
 use Rattle.ans_walks.specs.KindsUsed.{IsTold, used_of}
-use Rattle.ans_walks.specs.KindsWalked.{all_used, has_none, HasFoundKinds, IsFound}
+use Rattle.ans_walks.specs.KindsWalked.{others_used, has_no_others, has_none, HasFoundKinds, IsFound}
 use Rattle.ans_walks.specs.Pens.{pen_of}
 use Rattle.ans_walks.specs.declared.kinds.KindsUsed.{KindsUsed}
 use Rattle.ans_walks.specs.declared.kinds.KindsWalk.{KindsWalk}
@@ -149,6 +151,10 @@ none_at (first ∷ all) zero times h e =
     let same : first ≡ times = cc in sym same ∙ no_times first (and_parts _ _ h).0
 none_at (first ∷ all) (suc k) times h e = none_at all k times (and_parts _ _ h).1 e
 
+-- what was counted of each kind, in their order
+abbrev all_used : KindsUsed → List (Option Times)
+all_used used = others_used used ++ used.own_colours ∷ []
+
 used_at : (used : KindsUsed) (kind : Kind) → slice_get (all_used used) (kind_number kind) ≡ Some (used_of used kind)
 used_at used WrapAtOnce = refl
 used_at used LineEnds = refl
@@ -162,27 +168,58 @@ used_at used WrapOff = refl
 used_at used StopsAtEdge = refl
 used_at used PageControls = refl
 used_at used TerminalControls = refl
+used_at used OwnColours = refl
+
+other_at : (used : KindsUsed) (kind : Kind) → IsTrue (all_but OwnColours kind)
+    → slice_get (others_used used) (kind_number kind) ≡ Some (used_of used kind)
+other_at used WrapAtOnce is = refl
+other_at used LineEnds is = refl
+other_at used HomeOnClear is = refl
+other_at used ClearInColour is = refl
+other_at used SavePlaceOnly is = refl
+other_at used DosColours is = refl
+other_at used TabPrints is = refl
+other_at used LineErased is = refl
+other_at used WrapOff is = refl
+other_at used StopsAtEdge is = refl
+other_at used PageControls is = refl
+other_at used TerminalControls is = refl
+other_at used OwnColours is = let no : false ≡ true = is in absurd (let none : ⊥ = cc in none)
+
+pub each_other_none : (used : KindsUsed) → IsTrue (has_no_others used) → (kind : Kind)
+    → IsTrue (all_but OwnColours kind) → used_of used kind ≡ None
+each_other_none used h kind is =
+    none_at (others_used used) (kind_number kind) (used_of used kind) h (other_at used kind is)
+
+pub all_others_none : (used : KindsUsed) → ((kind : Kind) → IsTrue (all_but OwnColours kind) → used_of used kind ≡ None)
+    → IsTrue (has_no_others used)
+all_others_none used each =
+    rw (
+      each WrapAtOnce refl,
+      each LineEnds refl,
+      each HomeOnClear refl,
+      each ClearInColour refl,
+      each SavePlaceOnly refl,
+      each DosColours refl,
+      each TabPrints refl,
+      each LineErased refl,
+      each WrapOff refl,
+      each StopsAtEdge refl,
+      each PageControls refl,
+      each TerminalControls refl,
+    )
+    refl
 
 pub each_none : (used : KindsUsed) → IsTrue (has_none used) → (kind : Kind) → used_of used kind ≡ None
-each_none used h kind = none_at (all_used used) (kind_number kind) (used_of used kind) h (used_at used kind)
+each_none used h kind =
+    let parts = and_parts (has_no_others used) (is_none used.own_colours) h in
+    none_at (all_used used) (kind_number kind) (used_of used kind)
+    (list_all-append is_none (others_used used) (used.own_colours ∷ [])
+    ∙ and_from _ _ parts.0 (and_from _ _ parts.1 refl)) (used_at used kind)
 
 pub all_none : (used : KindsUsed) → ((kind : Kind) → used_of used kind ≡ None) → IsTrue (has_none used)
 all_none used each =
-    rw (
-      each WrapAtOnce,
-      each LineEnds,
-      each HomeOnClear,
-      each ClearInColour,
-      each SavePlaceOnly,
-      each DosColours,
-      each TabPrints,
-      each LineErased,
-      each WrapOff,
-      each StopsAtEdge,
-      each PageControls,
-      each TerminalControls,
-    )
-    refl
+    and_from _ _ (all_others_none used (λ kind is. each kind)) (ap is_none (each OwnColours))
 
 -- ---- the walk
 module _ (first old : KindsWalk) (front : Front) (t : TokenKind) (text behind : List ℕ)
@@ -201,11 +238,13 @@ module _ (first old : KindsWalk) (front : Front) (t : TokenKind) (text behind : 
       → ((s : State) → old.pen ≡ pen_of s → new.pen ≡ pen_of (step old.size s t))
       → ((s : State) → old.pen ≡ pen_of s
       → shown_grip new.grip ≡ grip_after old.size (shown_grip old.grip) s t)
+      → shown_names new.names ≡ names_after (shown_names old.names) t
       → ((s : State) (kind : Kind) → old.pen ≡ pen_of s → used_of new.used kind
       ≡ counted (used_of old.used kind)
-      (list_any (is_kind kind) (situations old.size (shown_grip old.grip) s (one t text))) offset)
+      (list_any (is_kind kind) (situations old.size
+      (record { grip = shown_grip old.grip; names = shown_names old.names; state = s }) (one t text))) offset)
       → HasFoundKinds first (front_with front t text behind) true new
-  walked_kinds new offset at size content steps grips uses =
+  walked_kinds new offset at size content steps grips names uses =
       let more : spelled (front.tokens ++ t ∷ []) (front.texts ++ text ∷ []) ≡ xs ++ one t text ∷ [] =
       spelled_more front.tokens t front.texts text h.texts in
       let there : stand_of z (cleared z) (xs ++ one t text ∷ []) ≡ stand_behind z here (one t text) =
@@ -223,9 +262,13 @@ module _ (first old : KindsWalk) (front : Front) (t : TokenKind) (text behind : 
         stands = rw (more, there) (record {
           pen_is = rw h.size at (steps here.state h.stands.pen_is);
           grip_is = rw (h.size, h.stands.grip_is) at (grips here.state h.stands.pen_is);
+          names_are = names ∙ ap (λ (n : Names). names_after n t) h.stands.names_are;
         });
         found = λ kind.
-            let is = rw (h.size, h.stands.grip_is) at (uses here.state kind h.stands.pen_is) in
+            let uses_here = rw (h.size, h.stands.grip_is) at (uses here.state kind h.stands.pen_is) in
+            let is = subst (λ (n : Names). used_of new.used kind ≡ counted (used_of old.used kind)
+            (list_any (is_kind kind) (situations z (record here { names = n }) (one t text))) offset)
+            h.stands.names_are uses_here in
             rw (more, is) (found_if kind z xs (one t text) offset start (arises kind z here (one t text))
             (used_of old.used kind) refl (h.found kind));
       }

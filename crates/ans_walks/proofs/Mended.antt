@@ -20,12 +20,12 @@ use Rattle.ans_model.specs.Verdict.Good.{Picture, PlaysWell, PrintsWell, Shows}
 use Rattle.ans_model.specs.Verdict.TokenFault.{FromEvery, FromSome, HasStaticFault, IsInSpareRow, SamePosition}
 use Rattle.ans_model.specs.Verdict.TokenFault.{TabGoesOn, then_blanks}
 use Rattle.ans_model.proofs.StartLemmas.{low_is_start}
-use Rattle.ans_players.proofs.Spellings.{clear, home, save, white_on_black, wrap_on}
+use Rattle.ans_players.proofs.Spellings.{clear, home, save, reset_to_names, wrap_on}
 use Rattle.ans_walks.specs.Mend.{mending, mending_tokens, LeavesClearedScreen, MakesGood}
 
 -- the reset of colours leaves nothing of an attribute
-reset : (a : ℕ) → attribute_after_all a (0 ∷ []) ≡ 0x07
-reset a = ap (λ (v : ℕ). bit_or v 0x07) (and_zero_r a)
+reset : (a : ℕ) → attribute_after_all a (0 ∷ 37 ∷ 40 ∷ []) ≡ 0x07
+reset a = ap (λ (v : ℕ). attribute_after_all (bit_or v 0x07) (37 ∷ 40 ∷ [])) (and_zero_r a)
 
 -- the place of row 1 and column 1 is home on each screen
 home_position : (z : Size) → at (min 0 z.lines) (min 0 (z.width - 1)) ≡ at 0 0
@@ -52,14 +52,14 @@ behind_is_cleared z s ts = ap (λ (v : State). final z v ts) (leaves_cleared z s
 -- the text of each of its tokens
 abbrev pub mending_texts : List (List ℕ)
 mending_texts =
-    (escape ∷ codes "[?7h") ∷ (escape ∷ codes "[0m") ∷ (escape ∷ codes "[2J") ∷ (escape ∷ codes "[H")
+    (escape ∷ codes "[?7h") ∷ (escape ∷ codes "[0;37;40m") ∷ (escape ∷ codes "[2J") ∷ (escape ∷ codes "[H")
     ∷ (escape ∷ codes "[s") ∷ []
 
 -- what stands behind the mending is read behind its tokens
 pub reads_as_behind : (content : List ℕ) (tokens : List TokenKind) (texts : List (List ℕ))
     → ReadsAs content tokens texts → ReadsAs (mending ++ content) (mending_tokens ++ tokens) (mending_texts ++ texts)
 reads_as_behind content tokens texts h = record {
-  each = (wrap_on, (white_on_black, (clear, (home, (save, h.each)))));
+  each = (wrap_on, (reset_to_names, (clear, (home, (save, h.each)))));
   whole = ap (λ (v : List ℕ). mending ++ v) h.whole;
 }
 
@@ -98,7 +98,8 @@ record IsBehind (tokens : List TokenKind) (k : ℕ) (t : TokenKind) : Type 0 whe
 quiet_or_behind : (tokens : List TokenKind) (k : ℕ) (t : TokenKind) → slice_get (mending_tokens ++ tokens) k ≡ Some t
     → IsQuiet t ⊎ IsBehind tokens k t
 quiet_or_behind tokens zero t e = let same : t ≡ Wrap true = cc in inl (rw same (λ z cause some h. h))
-quiet_or_behind tokens (suc zero) t e = let same : t ≡ Colours (0 ∷ []) = cc in inl (rw same (λ z cause some h. h))
+quiet_or_behind tokens (suc zero) t e =
+    let same : t ≡ Colours (0 ∷ 37 ∷ 40 ∷ []) = cc in inl (rw same (λ z cause some h. h))
 quiet_or_behind tokens (suc (suc zero)) t e = let same : t ≡ Clear = cc in inl (rw same (λ z cause some h. h))
 quiet_or_behind tokens (suc (suc (suc zero))) t e =
     let same : t ≡ Place 1 1 = cc in inl (rw same home_is_quiet)

@@ -147,16 +147,16 @@ module _ (front : List ℕ) (unmarked : list_any is_end_mark front ≡ false) (n
   resized_width = same_number 96 2 (omega arith)
 
 -- ---- the notes
-same_difference : (a b c d : ℕ) → a ≡ c + 19 → b ≡ d + 19 → (a == b) ≡ (c == d)
+same_difference : (a b c d : ℕ) → a ≡ c + 25 → b ≡ d + 25 → (a == b) ≡ (c == d)
 same_difference a b c d more too = elim (cases_eq c d) [
   | inl same ↦ eq-eqb a b (omega arith) ∙ sym (eq-eqb c d same)
   | inr other ↦ ne_eqb a b (λ e. other (omega arith)) ∙ sym (ne_eqb c d other)
 ]
 
 module _ (file : List ℕ) (apart : FileParts) (accepts : Accepts file apart)
-    (room : file_size apart.record_bytes + 19 < 4294967296) where
+    (room : file_size apart.record_bytes + 25 < 4294967296) where
   abbrev size : ℕ
-  size = file_size apart.record_bytes + 19
+  size = file_size apart.record_bytes + 25
 
   abbrev mended : FileParts
   mended = mended_parts apart
@@ -164,10 +164,10 @@ module _ (file : List ℕ) (apart : FileParts) (accepts : Accepts file apart)
   its_content : content mended.body ≡ mending ++ content apart.body
   its_content = resized_content mending refl size file apart accepts
 
-  -- the content has 19 bytes more
-  its_count : length (content mended.body) ≡ length (content apart.body) + 19
+  -- the content has 25 bytes more
+  its_count : length (content mended.body) ≡ length (content apart.body) + 25
   its_count =
-      let front : length mending ≡ 19 = refl in
+      let front : length mending ≡ 25 = refl in
       let all : length (content mended.body) ≡ length mending + length (content apart.body) =
       ap length its_content ∙ length-append mending (content apart.body) in
       omega (arith, front, all)
@@ -208,7 +208,7 @@ module _ (file : List ℕ) (apart : FileParts) (accepts : Accepts file apart)
 
 pub mended_file_passes : MendedFilePasses
 mended_file_passes file apart picture accepts good room =
-    let size : ℕ = file_size apart.record_bytes + 19 in
+    let size : ℕ = file_size apart.record_bytes + 25 in
     record {
       accepts = resized_accepted mending refl size file apart accepts;
       size = resized_size mending refl size file apart accepts;

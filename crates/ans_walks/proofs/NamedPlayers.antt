@@ -17,7 +17,12 @@ use Rattle.ans_players.specs.Mends.{mending_spelled}
 use Rattle.ans_players.specs.Named.{IsNamed, times_cleared}
 use Rattle.ans_players.specs.Situations.{AreAgreed, Spelled, spelled}
 use Rattle.ans_players.specs.declared.kind.Kind.{Kind}
-use Rattle.ans_players.proofs.MendedPlayers.{mended_is_agreed}
+use Rattle.ans_players.specs.declared.kind.Kind.TheVariants.{WrapAtOnce, LineEnds, HomeOnClear, ClearInColour}
+use Rattle.ans_players.specs.declared.kind.Kind.TheVariants.{SavePlaceOnly, DosColours, TabPrints, LineErased, WrapOff}
+use Rattle.ans_players.specs.declared.kind.Kind.TheVariants.{StopsAtEdge, PageControls, TerminalControls, OwnColours}
+use Rattle.ans_players.specs.Kinds.{is_kind}
+use Rattle.ans_players.specs.OwnKind.{all_but}
+use Rattle.ans_players.proofs.MendedPlayers.{mended_from_each}
 use Rattle.ans_players.proofs.NamedKinds.{named_are_least}
 use Rattle.ans_players.proofs.OneSpelling.{one_spelling}
 use Rattle.ans_walks.specs.KindsUsed.{IsTold, is_used, used_of}
@@ -43,7 +48,7 @@ module _ (z : Size) (content : List ℕ) (kind : Kind) (good : IsGood z all_know
   told_if_arises None named some = let no : ⊥ = omega (arith, named_times 0 0 named, some) in absurd no
   told_if_arises (Some times) named some = refl
 
-  arises_if_told : (told : Option Times) → IsTold z content kind told → IsTrue (is_some told) → 0 < times_here
+  pub arises_if_told : (told : Option Times) → IsTold z content kind told → IsTrue (is_some told) → 0 < times_here
   arises_if_told None named some = absurd (false≢true some)
   arises_if_told (Some times) named some =
       omega (arith, named.0, named_times times.count times.first named.1)
@@ -94,6 +99,46 @@ pub same_on_every_player : (z : Size) (content : List ℕ) (used : KindsUsed) (c
 same_on_every_player z content used class none least =
     subst (λ (agreed : Kind → Bool). IsLeastSame agreed z content class) (λ i kind. is_some (none kind i)) least
 
+-- where own colours alone are told, they alone are agreed
+pub same_in_named_colours : (z : Size) (content : List ℕ) (used : KindsUsed) (class : Start) (times : Times)
+    → ((kind : Kind) → IsTrue (all_but OwnColours kind) → used_of used kind ≡ None)
+    → used_of used OwnColours ≡ Some times → IsLeastSame (is_used used) z content class
+    → IsLeastSame (is_kind OwnColours) z content class
+same_in_named_colours z content used class times none some least =
+    subst (λ (agreed : Kind → Bool). IsLeastSame agreed z content class) (λ i kind. each kind i) least
+  where
+    each : (kind : Kind) → is_used used kind ≡ is_kind OwnColours kind
+    each OwnColours = ap is_some some
+    each WrapAtOnce = ap is_some (none WrapAtOnce refl)
+    each LineEnds = ap is_some (none LineEnds refl)
+    each HomeOnClear = ap is_some (none HomeOnClear refl)
+    each ClearInColour = ap is_some (none ClearInColour refl)
+    each SavePlaceOnly = ap is_some (none SavePlaceOnly refl)
+    each DosColours = ap is_some (none DosColours refl)
+    each TabPrints = ap is_some (none TabPrints refl)
+    each LineErased = ap is_some (none LineErased refl)
+    each WrapOff = ap is_some (none WrapOff refl)
+    each StopsAtEdge = ap is_some (none StopsAtEdge refl)
+    each PageControls = ap is_some (none PageControls refl)
+    each TerminalControls = ap is_some (none TerminalControls refl)
+
+-- none but own colours are told, and they are not
+pub none_at_all : (used : KindsUsed) → ((kind : Kind) → IsTrue (all_but OwnColours kind) → used_of used kind ≡ None)
+    → used_of used OwnColours ≡ None → (kind : Kind) → used_of used kind ≡ None
+none_at_all used none own OwnColours = own
+none_at_all used none own WrapAtOnce = none WrapAtOnce refl
+none_at_all used none own LineEnds = none LineEnds refl
+none_at_all used none own HomeOnClear = none HomeOnClear refl
+none_at_all used none own ClearInColour = none ClearInColour refl
+none_at_all used none own SavePlaceOnly = none SavePlaceOnly refl
+none_at_all used none own DosColours = none DosColours refl
+none_at_all used none own TabPrints = none TabPrints refl
+none_at_all used none own LineErased = none LineErased refl
+none_at_all used none own WrapOff = none WrapOff refl
+none_at_all used none own StopsAtEdge = none StopsAtEdge refl
+none_at_all used none own PageControls = none PageControls refl
+none_at_all used none own TerminalControls = none TerminalControls refl
+
 -- ---- the same from every start as from the cleared one
 -- then it is good from every start
 pub good_where_cleared : (z : Size) (content : List ℕ) (needs : Start) → IsLeast z content needs
@@ -130,5 +175,5 @@ mended_is_same_where_cleared z content good agreed same =
       (good.0, mended),
       subst (λ (ys : List Spelled). AreAgreed agreed z none_known ys)
           (one_spelling (mending ++ content) (mending_tokens ++ good.1.tokens) mended.tokens reads mended.reads)
-          ((mended_is_agreed agreed z none_known xs w).0 ((mended_is_agreed agreed z all_known xs w).1 cleared)),
+          (mended_from_each agreed z all_known none_known xs w cleared),
     )

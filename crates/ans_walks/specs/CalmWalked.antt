@@ -12,13 +12,17 @@ use Rattle.ans_walks.specs.Pens.{pen_of}
 use Rattle.ans_walks.specs.declared.calm.CalmWalk.{CalmWalk}
 use Rattle.ans_walks.specs.declared.grip.Grip.{Grip}
 use Rattle.ans_walks.specs.declared.grip.Grip.TheVariants.{Firm}
+use Rattle.ans_walks.specs.declared.names.Names.{Names}
 use Rattle.ans_walks.specs.declared.pen.Pen.{Pen}
+use Rattle.ans_walks.specs.GripsShown.{shown_names}
+use Rattle.ans_players.specs.Names.{unnamed}
 
--- from this state no kinds but agreed ones arise at the tokens, and the pen and the grip are those behind them; or else
--- one does
-abbrev pub IsCalmTo : (Kind → Bool) → Size → State → List Spelled → Bool → Pen → Grip → Type 0
-IsCalmTo agreed z s xs true pen grip = IsAgreedFrom agreed z s xs × StandsAt pen grip (stand_of z s xs)
-IsCalmTo agreed z s xs false pen grip = ¬ IsAgreedFrom agreed z s xs
+-- from this state no kinds but agreed ones arise at the tokens, and the pen, the grip and the names are those after
+-- them; or else one does
+abbrev pub IsCalmTo : (Kind → Bool) → Size → State → List Spelled → Bool → Pen → Grip → Names → Type 0
+IsCalmTo agreed z s xs true pen grip names =
+    IsAgreedFrom agreed z s xs × StandsAt pen grip names (stand_of z s xs)
+IsCalmTo agreed z s xs false pen grip names = ¬ IsAgreedFrom agreed z s xs
 
 -- over the front of its content the first, which stood firm, has become the other, which goes on or stops
 pub record HasStayedCalm (first : CalmWalk) (front : Front) (goes_on : Bool) (now : CalmWalk) : Type 0 where
@@ -27,5 +31,6 @@ pub record HasStayedCalm (first : CalmWalk) (front : Front) (goes_on : Bool) (no
   pub used : now.used.now ≡ first.used.now
   pub texts : length front.texts ≡ length front.tokens
   pub whole : first.content.now ≡ concat front.texts ++ front.behind
-  pub calm : (s : State) → first.pen ≡ pen_of s → first.grip ≡ Firm
+  pub calm : (s : State) → first.pen ≡ pen_of s → first.grip ≡ Firm → shown_names first.names ≡ unnamed
       → IsCalmTo (is_used first.used.now) first.size s (spelled front.tokens front.texts) goes_on now.pen now.grip
+      now.names

@@ -43,6 +43,19 @@ abbrev pub blinking_glyph : Condition
 blinking_glyph z s (Glyph byte) rest = nat_le 0x80 s.attribute
 blinking_glyph z s _ rest = false
 
+-- a glyph that is seen at all: 00h and FFh look as a blank does
+abbrev pub is_seen : ℕ → Bool
+is_seen byte = not (byte == 0x20 || byte == 0x00 || byte == 0xFF)
+
+abbrev pub seen_glyph : Condition
+seen_glyph z s (Glyph byte) rest = is_seen byte
+seen_glyph z s _ rest = false
+
+-- one that is dark grey on black
+abbrev pub dark_glyph : Condition
+dark_glyph z s (Glyph byte) rest = is_seen byte && s.attribute == 0x08
+dark_glyph z s _ rest = false
+
 -- ---- letters and codes of other systems
 
 -- a letter of ASCII

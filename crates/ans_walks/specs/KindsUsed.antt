@@ -7,7 +7,7 @@ use Rattle.ans_players.specs.Named.{IsNamed}
 use Rattle.ans_players.specs.declared.kind.Kind.{Kind}
 use Rattle.ans_players.specs.declared.kind.Kind.TheVariants.{WrapAtOnce, LineEnds, HomeOnClear, ClearInColour}
 use Rattle.ans_players.specs.declared.kind.Kind.TheVariants.{SavePlaceOnly, DosColours, TabPrints, LineErased, WrapOff}
-use Rattle.ans_players.specs.declared.kind.Kind.TheVariants.{StopsAtEdge, PageControls, TerminalControls}
+use Rattle.ans_players.specs.declared.kind.Kind.TheVariants.{StopsAtEdge, PageControls, TerminalControls, OwnColours}
 use Rattle.ans_walks.specs.declared.kinds.KindsUsed.{KindsUsed}
 use Rattle.ans_walks.specs.declared.times.Times.{Times}
 
@@ -25,6 +25,7 @@ used_of used WrapOff = used.wrap_off
 used_of used StopsAtEdge = used.stops_at_edge
 used_of used PageControls = used.page_controls
 used_of used TerminalControls = used.terminal_controls
+used_of used OwnColours = used.own_colours
 
 -- the kind is one of those that arise
 abbrev pub is_used : KindsUsed → Kind → Bool

@@ -1,5 +1,5 @@
 -- What the walk over the kinds in which players part has found so far. Only private contracts cite it.
-use Rattle.std.specs.Prelude.{◌≡◌, ℕ, ◌<◌, ◌≤◌, Bool, is_none, IsTrue, List, [], ◌∷◌, ◌++◌, length, Option, None, Some}
+use Rattle.std.specs.Prelude.{◌≡◌, ℕ, ◌<◌, ◌≤◌, Bool, ◌&&◌, is_none, IsTrue, List, [], ◌∷◌, ◌++◌, length, Option, None, Some}
 use Rattle.std.specs.List.{concat, list_all}
 use Rattle.ans_model.specs.Screen.State.{Size}
 use Rattle.ans_model.specs.Screen.StartClass.{cleared}
@@ -9,12 +9,13 @@ use Rattle.ans_players.specs.Situations.{Spelled, spelled, stand_of}
 use Rattle.ans_players.specs.declared.kind.Kind.{Kind}
 use Rattle.ans_tokens.specs.Walk.{Front}
 use Rattle.ans_walks.specs.Counted.{count_of}
-use Rattle.ans_walks.specs.GripsShown.{shown_grip}
+use Rattle.ans_walks.specs.GripsShown.{shown_grip, shown_names}
 use Rattle.ans_walks.specs.KindsUsed.{used_of}
 use Rattle.ans_walks.specs.Pens.{pen_of, StandsOn}
 use Rattle.ans_walks.specs.declared.grip.Grip.{Grip}
 use Rattle.ans_walks.specs.declared.kinds.KindsUsed.{KindsUsed}
 use Rattle.ans_walks.specs.declared.kinds.KindsWalk.{KindsWalk}
+use Rattle.ans_walks.specs.declared.names.Names.{Names}
 use Rattle.ans_walks.specs.declared.pen.Pen.{Pen}
 use Rattle.ans_walks.specs.declared.times.Times.{Times}
 
@@ -32,17 +33,22 @@ pub record AreFew (used : KindsUsed) (most : ℕ) : Type 0 where
   pub stops_at_edge : count_of used.stops_at_edge ≤ most
   pub page_controls : count_of used.page_controls ≤ most
   pub terminal_controls : count_of used.terminal_controls ≤ most
+  pub own_colours : count_of used.own_colours ≤ most
 
--- what was counted of each kind, in their order
-abbrev pub all_used : KindsUsed → List (Option Times)
-all_used used =
+-- what was counted of each kind but own colours, in their order
+abbrev pub others_used : KindsUsed → List (Option Times)
+others_used used =
     used.wrap_at_once ∷ used.line_ends ∷ used.home_on_clear ∷ used.clear_in_colour
     ∷ used.save_place_only ∷ used.dos_colours ∷ used.tab_prints ∷ used.line_erased
     ∷ used.wrap_off ∷ used.stops_at_edge ∷ used.page_controls ∷ used.terminal_controls ∷ []
 
+-- none of any kind but own colours was
+abbrev pub has_no_others : KindsUsed → Bool
+has_no_others used = list_all is_none (others_used used)
+
 -- none of any kind was
 abbrev pub has_none : KindsUsed → Bool
-has_none used = list_all is_none (all_used used)
+has_none used = has_no_others used && is_none used.own_colours
 
 -- from the cleared start the kind arises so often at the tokens, and there first
 pub record AriseFrom (z : Size) (xs : List Spelled) (kind : Kind) (times : Times) : Type 0 where
@@ -55,10 +61,11 @@ abbrev pub IsFound : Size → List Spelled → Kind → Option Times → Type 0
 IsFound z xs kind None = times_cleared kind z xs ≡ 0
 IsFound z xs kind (Some times) = AriseFrom z xs kind times
 
--- the pen and the grip are those of this stand
-pub record StandsAt (pen : Pen) (grip : Grip) (h : Stand) : Type 0 where
+-- the pen, the grip and the names are those of this stand
+pub record StandsAt (pen : Pen) (grip : Grip) (names : Names) (h : Stand) : Type 0 where
   pub pen_is : pen ≡ pen_of h.state
   pub grip_is : shown_grip grip ≡ h.grip
+  pub names_are : shown_names names ≡ h.names
 
 -- Over the front of its content the first has become the other, which goes on: it stands where the front's tokens lead
 -- from the cleared start, and has found what arises at them.
@@ -68,7 +75,7 @@ pub record HasFoundKinds (first : KindsWalk) (front : Front) (goes_on : Bool) (n
   pub content : now.content.now ≡ first.content.now
   pub texts : length front.texts ≡ length front.tokens
   pub whole : first.content.now ≡ concat front.texts ++ front.behind
-  pub stands : StandsAt now.pen now.grip
+  pub stands : StandsAt now.pen now.grip now.names
       (stand_of first.size (cleared first.size) (spelled front.tokens front.texts))
   pub found : (kind : Kind) → IsFound first.size (spelled front.tokens front.texts) kind (used_of now.used kind)
 

@@ -7,16 +7,16 @@ use Rattle.ans_model.specs.Screen.Step.{final}
 use Rattle.ans_model.specs.Screen.StartClass.{cleared, all_known, none_known}
 use Rattle.ans_model.specs.Verdict.Good.{Picture, GoodWith}
 
--- ESC[?7h ESC[0m ESC[2J ESC[H ESC[s
+-- ESC[?7h ESC[0;37;40m ESC[2J ESC[H ESC[s
 abbrev pub mending : List ℕ
 mending =
-    (escape ∷ codes "[?7h") ++ (escape ∷ codes "[0m") ++ (escape ∷ codes "[2J") ++ (escape ∷ codes "[H")
+    (escape ∷ codes "[?7h") ++ (escape ∷ codes "[0;37;40m") ++ (escape ∷ codes "[2J") ++ (escape ∷ codes "[H")
     ++ (escape ∷ codes "[s")
 
--- Wrap on, white on black, a blank screen, the cursor at home, and saved there. Clear takes it home too in ANSI.SYS,
+-- Wrap on, white on black by name, a blank screen, the cursor at home, and saved there. Clear takes it home too in ANSI.SYS,
 -- and in no terminal of today.
 abbrev pub mending_tokens : List TokenKind
-mending_tokens = Wrap true ∷ Colours (0 ∷ []) ∷ Clear ∷ Place 1 1 ∷ Save ∷ []
+mending_tokens = Wrap true ∷ Colours (0 ∷ 37 ∷ 40 ∷ []) ∷ Clear ∷ Place 1 1 ∷ Save ∷ []
 
 -- played from any state, they leave the cleared one
 abbrev pub LeavesClearedScreen : Type 0

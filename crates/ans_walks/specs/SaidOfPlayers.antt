@@ -1,21 +1,27 @@
 -- What is said of the players on which a content shows its picture.
-use Rattle.std.specs.Prelude.{◌≡◌, ℕ, ◌++◌, Bool, false, List, None}
+use Rattle.std.specs.Prelude.{◌≡◌, ℕ, ◌++◌, Bool, false, IsTrue, List, None, Some}
 use Rattle.ans_model.specs.Screen.State.{Size}
 use Rattle.ans_model.specs.Screen.StartClass.{all_known, none_known}
 use Rattle.ans_model.specs.Verdict.Good.{IsGood}
 use Rattle.ans_players.specs.Classes.{IsLeastSame, IsSame}
 use Rattle.ans_players.specs.declared.kind.Kind.{Kind}
+use Rattle.ans_players.specs.declared.kind.Kind.TheVariants.{OwnColours}
+use Rattle.ans_players.specs.Kinds.{is_kind}
+use Rattle.ans_players.specs.OwnKind.{all_but}
 use Rattle.ans_walks.specs.KindsUsed.{IsTold, used_of}
 use Rattle.ans_walks.specs.Mend.{mending}
 use Rattle.ans_walks.specs.declared.players.Players.{Players}
-use Rattle.ans_walks.specs.declared.players.Players.TheVariants.{Any, Agreeing}
+use Rattle.ans_walks.specs.declared.players.Players.TheVariants.{Any, InNamedColours, Agreeing}
 
 -- On every player it is the same for exactly those classes in which each part is known that is known in this one; or
--- these kinds arise from the cleared start, so often and there first, and some kind does.
+-- so on every player that agrees in own colours, which arise so often and there first; or these kinds arise from the
+-- cleared start, so often and there first, and some other kind does.
 abbrev pub IsSaidOfPlayers : Size → List ℕ → Players → Type 0
 IsSaidOfPlayers z content (Any class) = IsLeastSame (λ kind. false) z content class
+IsSaidOfPlayers z content (InNamedColours class times) =
+    IsLeastSame (is_kind OwnColours) z content class × IsTold z content OwnColours (Some times)
 IsSaidOfPlayers z content (Agreeing used) = ((kind : Kind) → IsTold z content kind (used_of used kind))
-    × ¬ ((kind : Kind) → used_of used kind ≡ None)
+    × ¬ ((kind : Kind) → IsTrue (all_but OwnColours kind) → used_of used kind ≡ None)
 
 -- Whichever kinds are agreed: if on all players that agree so the content is the same from the cleared start, it is so
 -- from every start.

@@ -7,7 +7,7 @@ use Rattle.ans_model.specs.Screen.StartClass.{cleared}
 use Rattle.ans_walks.specs.Pens.{pen_of, StandsOn}
 use Rattle.ans_tokens.specs.Walk.{Front}
 use Rattle.ans_walks.specs.Conditions.{loose_line_feed, wide_character, two_byte_letter, latin_letter, board_code}
-use Rattle.ans_walks.specs.Conditions.{later_colours, blinking_glyph}
+use Rattle.ans_walks.specs.Conditions.{later_colours, blinking_glyph, dark_glyph, seen_glyph}
 use Rattle.ans_walks.specs.RowEnds.{CountsRows, nothing_written, row_ends_with, written_after}
 use Rattle.ans_walks.specs.Counted.{count_of, counted}
 use Rattle.ans_walks.specs.Hints.{AreHints}
@@ -28,6 +28,8 @@ hints_with walk s offset t rest = record {
   later_colours = counted walk.hints.later_colours (later_colours walk.size s t rest) offset;
   blinking_glyphs = counted walk.hints.blinking_glyphs
       (not walk.non_blink && blinking_glyph walk.size s t rest) offset;
+  seen_glyphs = counted walk.hints.seen_glyphs (seen_glyph walk.size s t rest) offset;
+  dark_glyphs = counted walk.hints.dark_glyphs (dark_glyph walk.size s t rest) offset;
   empty_rows = empty_with walk.size s walk.hints.empty_rows t;
   moves_rows = moved_with walk.hints.moves_rows t;
 }
@@ -42,6 +44,8 @@ pub record CountsWithin (hints : Hints) (offset : ℕ) : Type 0 where
   pub board_codes : count_of hints.board_codes ≤ offset
   pub later_colours : count_of hints.later_colours ≤ offset
   pub blinking_glyphs : count_of hints.blinking_glyphs ≤ offset
+  pub seen_glyphs : count_of hints.seen_glyphs ≤ offset
+  pub dark_glyphs : count_of hints.dark_glyphs ≤ offset
 
 -- the cursors stand on the screen, and no more was counted than the bytes up to this offset
 pub record IsAt (walk : Walk) (offset : ℕ) : Type 0 where

@@ -12,6 +12,7 @@ ghost use Rattle.ans_walks.specs.Pens.{pen_of, StandsOn};
 
 use crate::grip::Grip;
 use crate::kinds::{KindsUsed, text_at};
+use crate::names::Names;
 use crate::pen::{HOME, Pen};
 use crate::situations::Situations;
 use crate::watch::Watch;
@@ -48,6 +49,7 @@ struct CalmWalk<'a> {
     used: &'a KindsUsed,
     pen: Pen,
     grip: Grip,
+    names: Names,
 }
 
 impl Walker for CalmWalk<'_> {
@@ -61,11 +63,12 @@ impl Walker for CalmWalk<'_> {
     fn token(&mut self, token: &Token, behind: &[u8]) -> bool {
         let kind = token.kind();
         let text = text_at(self.content, token.start(), behind);
-        let situations = Situations::of(self.size, &self.pen, self.grip, kind, text);
+        let situations = Situations::of(self.size, &self.pen, self.grip, self.names, kind, text);
         let goes_on = self.used.have_all(&situations);
         let before = self.pen.cursor;
         self.pen.step(self.size, kind);
         self.grip = self.grip.after(before, &self.pen, kind);
+        self.names = self.names.after(kind);
         goes_on
     }
 }
@@ -85,6 +88,7 @@ fn is_calm_from(size: Size, pen: Pen, used: &KindsUsed, content: &[u8]) -> bool
         used,
         pen,
         grip: Grip::Firm,
+        names: Names::NONE,
     };
     walk(content, content.len(), &mut calm).unwrap_or(false)
 }

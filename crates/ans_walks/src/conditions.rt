@@ -5,7 +5,7 @@ ghost use Rattle.std.specs.List.{list_any};
 ghost use Rattle.std.specs.Str.{is_utf8};
 ghost use Rattle.ans_walks.specs.Conditions.{begins_with_pipe_number, begins_with_two_byte_letter, begins_with_wide};
 ghost use Rattle.ans_walks.specs.Conditions.{begins_with_x_number, is_digit, is_hex_digit, is_later_colour};
-ghost use Rattle.ans_walks.specs.Conditions.{is_latin_letter, is_letter, is_second_byte, is_small_letter};
+ghost use Rattle.ans_walks.specs.Conditions.{is_latin_letter, is_letter, is_second_byte, is_seen, is_small_letter};
 ghost use Rattle.ans_walks.specs.Conditions.{wide_size};
 
 fn is_utf8(bytes: &[u8]) -> bool
@@ -138,6 +138,14 @@ pub(crate) fn may_be_foreign(byte: u8, behind: &[u8]) -> bool
         [next, ..] if matches!(*next, 0xC3 | 0xE4..=0xFF) => true,
         _ => matches!(byte, b'|' | b'@'),
     }
+}
+
+/// Whether a glyph is seen at all.
+#[inline(always)]
+pub(crate) fn is_seen(byte: u8) -> bool
+    ensures { result ≡ is_seen byte }
+{
+    !matches!(byte, 0x20 | 0x00 | 0xFF)
 }
 
 fn is_digit(byte: u8) -> bool

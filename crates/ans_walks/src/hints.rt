@@ -4,12 +4,12 @@ ghost use Rattle.std.specs.Prelude.{◌≡◌, ◌≤◌, ℕ, List, length, tak
 ghost use Rattle.ans_model.specs.Bytes.{longest_file};
 ghost use Rattle.ans_model.specs.Sequence.TokenKind.{TokenKind};
 ghost use Rattle.ans_model.specs.Sequence.Reads.{ReadsAs};
-ghost use Rattle.ans_walks.specs.Hints.{AreHints, are_torn};
+ghost use Rattle.ans_walks.specs.Hints.{AreHints, are_torn, much_dark};
 
 use crate::pen::Pen;
 use crate::row::Row;
 use crate::row_ends::RowEnds;
-use crate::times::Times;
+use crate::times::{Times, count_of};
 use crate::walk::Walk;
 use ans_model::size::Size;
 
@@ -32,6 +32,10 @@ pub struct Hints {
     pub later_colours: Option<Times>,
     /// Glyphs that blink.
     pub blinking_glyphs: Option<Times>,
+    /// Glyphs that are seen: all but 20h, 00h and FFh. They are no hint and have no line.
+    pub seen_glyphs: Option<Times>,
+    /// Glyphs that are seen and are dark grey on black, attribute 08h.
+    pub dark_glyphs: Option<Times>,
     /// How many lines of the given size lie below all that is printed.
     pub empty_rows: usize,
     /// Whether some sequence moves the cursor up or down by rows. It is no hint and has no line.
@@ -56,6 +60,19 @@ impl Hints {
         let _ = ans_tokens::walk(content, end, &mut walk);
         walk.hints
     }
+
+    /// The glyphs that are dark grey on black, if they are more than a tenth of those that are seen.
+    pub fn much_dark(&self) -> Option<Times>
+        ensures { result ≡ much_dark self.now }
+    {
+        let tenth = count_of(self.seen_glyphs) / 10;
+        if tenth < count_of(self.dark_glyphs) {
+            self.dark_glyphs
+        } else {
+            None
+        }
+    }
+
     /// Whether the rows are torn, so that more lines would keep a drawing that nobody meant: line feeds
     /// go straight down and there is no return; a line end stands behind every full row that something is
     /// printed behind, and there are two of these; the rows are those of a drawing for more columns; or

@@ -11,17 +11,20 @@ ghost use Rattle.ans_players.specs.declared.kind.Kind.{Kind};
 ghost use Rattle.ans_walks.specs.Counted.{counted};
 ghost use Rattle.ans_walks.specs.GripsShown.{kinds_in, kinds_of};
 ghost use Rattle.ans_walks.specs.KindsUsed.{IsTold, is_used, used_of, words_used};
-ghost use Rattle.ans_walks.specs.KindsWalked.{AreFew, has_none};
+ghost use Rattle.ans_players.specs.OwnKind.{all_but};
+ghost use Rattle.ans_players.specs.declared.kind.Kind.TheVariants.{OwnColours as own_colours};
+ghost use Rattle.ans_walks.specs.KindsWalked.{AreFew, has_no_others, has_none};
 
 use crate::grip::Grip;
+use crate::names::Names;
 use crate::pen::Pen;
 use crate::situations::Situations;
-use crate::times::Times;
+use crate::times::{Times, count};
 use ans_model::size::Size;
 use ans_players::kind::Kind as PlayerKind;
 use ans_players::kind::Kind::{
-    ClearInColour, DosColours, HomeOnClear, LineEnds, LineErased, PageControls, SavePlaceOnly,
-    StopsAtEdge, TabPrints, TerminalControls, WrapAtOnce, WrapOff,
+    ClearInColour, DosColours, HomeOnClear, LineEnds, LineErased, OwnColours, PageControls,
+    SavePlaceOnly, StopsAtEdge, TabPrints, TerminalControls, WrapAtOnce, WrapOff,
 };
 use ans_tokens::{Token, Walker, walk};
 use arrayvec::ArrayVec;
@@ -41,6 +44,7 @@ pub struct KindsUsed {
     pub(crate) stops_at_edge: Option<Times>,
     pub(crate) page_controls: Option<Times>,
     pub(crate) terminal_controls: Option<Times>,
+    pub(crate) own_colours: Option<Times>,
 }
 
 impl KindsUsed {
@@ -57,6 +61,7 @@ impl KindsUsed {
         stops_at_edge: None,
         page_controls: None,
         terminal_controls: None,
+        own_colours: None,
     };
 
     /// How often this kind arises, and where first, in bytes from the content's start. None where it
@@ -77,11 +82,12 @@ impl KindsUsed {
             StopsAtEdge => self.stops_at_edge,
             PageControls => self.page_controls,
             TerminalControls => self.terminal_controls,
+            OwnColours => self.own_colours,
         }
     }
 
     /// The words of the kinds that arise, in the order of `Kind::ALL`.
-    pub fn words(&self) -> ArrayVec<&'static str, 12>
+    pub fn words(&self) -> ArrayVec<&'static str, 13>
         ensures { texts_of result.items ≡ words_used self.now }
     {
         let mut words = ArrayVec::new();
@@ -103,6 +109,12 @@ impl KindsUsed {
     fn has_none(&self) -> bool
         ensures { result ≡ has_none self.now }
     {
+        self.has_no_others() && self.own_colours.is_none()
+    }
+
+    fn has_no_others(&self) -> bool
+        ensures { result ≡ has_no_others self.now }
+    {
         self.wrap_at_once.is_none()
             && self.line_ends.is_none()
             && self.home_on_clear.is_none()
@@ -115,6 +127,13 @@ impl KindsUsed {
             && self.stops_at_edge.is_none()
             && self.page_controls.is_none()
             && self.terminal_controls.is_none()
+    }
+
+    /// Whether no kind arises but own colours.
+    pub fn are_own_colours_at_most(&self) -> bool
+        ensures { IsTrue result ↔ ((kind : Kind) → IsTrue (all_but own_colours kind) → used_of self.now kind ≡ None) }
+    {
+        self.has_no_others()
     }
 
     /// Whether this kind arises, if there is one.
@@ -132,7 +151,10 @@ impl KindsUsed {
     pub(crate) fn have_all(&self, situations: &Situations) -> bool
         ensures { result ≡ list_all (is_used self.now) (kinds_of situations.now) }
     {
-        self.has(situations.loose) && self.has(situations.own) && self.has(situations.other)
+        self.has(situations.loose)
+            && self.has(situations.own)
+            && self.has(situations.other)
+            && (!situations.unnamed || self.own_colours.is_some())
     }
 
     /// One time more of each kind of the situations.
@@ -157,9 +179,10 @@ impl KindsUsed {
         situations.count(&mut self.stops_at_edge, StopsAtEdge, offset);
         situations.count(&mut self.page_controls, PageControls, offset);
         situations.count(&mut self.terminal_controls, TerminalControls, offset);
+        situations.count(&mut self.own_colours, OwnColours, offset);
     }
 
-    /// The kinds that arise at a token at this offset count; mostly none does.
+    /// The kinds that arise at a token at this offset count; mostly none does but own colours.
     #[inline(always)]
     fn count(&mut self, situations: &Situations, offset: usize)
         requires room { offset < longest_file }
@@ -168,7 +191,9 @@ impl KindsUsed {
         ensures used { (kind : Kind) → used_of self.new kind
             ≡ counted (used_of self.old kind) (list_any (is_kind kind) (kinds_of situations.now)) offset }
     {
-        if !situations.are_none() {
+        if situations.are_own_colours_at_most() {
+            count(&mut self.own_colours, situations.unnamed, offset);
+        } else {
             self.count_each(situations, offset);
         }
     }
@@ -182,6 +207,7 @@ struct KindsWalk<'a> {
     size: Size,
     pen: Pen,
     grip: Grip,
+    names: Names,
     used: KindsUsed,
 }
 
@@ -209,11 +235,12 @@ impl Walker for KindsWalk<'_> {
         let kind = token.kind();
         let offset = token.start();
         let text = text_at(self.content, offset, behind);
-        let situations = Situations::of(self.size, &self.pen, self.grip, kind, text);
+        let situations = Situations::of(self.size, &self.pen, self.grip, self.names, kind, text);
         self.used.count(&situations, offset);
         let before = self.pen.cursor;
         self.pen.step(self.size, kind);
         self.grip = self.grip.after(before, &self.pen, kind);
+        self.names = self.names.after(kind);
         true
     }
 }
@@ -231,6 +258,7 @@ pub fn kinds_used(size: Size, content: &[u8]) -> KindsUsed
         size,
         pen: Pen::cleared(),
         grip: Grip::Firm,
+        names: Names::NONE,
         used: KindsUsed::NONE,
     };
     let _ = walk(content, content.len(), &mut kinds);

@@ -11,7 +11,7 @@ ghost use Rattle.ans_walks.specs.Taller.{TallerShowsTheSame};
 
 use crate::beginning::SAFE_BEGINNING;
 
-/// `ESC[?7h ESC[0m ESC[2J ESC[H ESC[s`, 19 bytes without the blanks between them, leave exactly the
+/// `ESC[?7h ESC[0;37;40m ESC[2J ESC[H ESC[s`, 25 bytes without the blanks between them, leave exactly the
 /// cleared state, whatever state they are played from. So content that is good from the cleared start is
 /// good from every start behind them, with the same picture. [`SAFE_BEGINNING`] is these bytes.
 pub fn mended_content_is_good()
@@ -20,14 +20,14 @@ pub fn mended_content_is_good()
     ensures good { MakesGood }
 {}
 
-/// Behind these 19 bytes, whichever kinds are agreed: where on all players that agree so content is the same
+/// After these 25 bytes, whichever kinds are agreed: where on all players that agree so content is the same
 /// from the cleared start, it is so from every start.
 pub fn mended_content_is_same_where_cleared()
     ensures { MendedIsSameWhereCleared }
 {}
 
-/// An accepted file that passes from the cleared start passes from every start once these 19 bytes
-/// stand before its content and its FileSize is 19 more. It keeps its size and its notes.
+/// An accepted file that passes from the cleared start passes from every start once these 25 bytes
+/// are before its content and its FileSize is 25 more. It keeps its size and its notes.
 pub fn mended_file_passes()
     ensures { MendedFilePasses }
 {}

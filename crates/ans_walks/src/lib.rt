@@ -28,6 +28,7 @@ mod kinds;
 mod last_ends;
 pub mod laws;
 mod lines;
+mod names;
 mod pen;
 mod players;
 mod row;

@@ -7,16 +7,21 @@ ghost use Rattle.ans_walks.specs.SaidOfPlayers.{IsSaidOfPlayers, IsSameWhereClea
 
 use crate::calm::least_class_for_players;
 use crate::kinds::{KindsUsed, kinds_used};
+use crate::times::Times;
 use ans_model::size::Size;
 use ans_model::start::Start;
+use ans_players::kind::Kind;
 
 /// On which players a content that passes from the cleared start shows its picture.
 #[derive(Debug, Clone, Copy, PartialEq, Eq)]
 pub enum Players {
     /// On every player, from the starts of this class: the least such.
     Any(Start),
+    /// On every player whose own white and black are those that 37 and 40 set, from the starts of this
+    /// class: the least such. No kind arises but own colours, which does so often, and there first.
+    InNamedColours(Start, Times),
     /// From the cleared start, on those that do as the profile does in these kinds, of which it makes use
-    /// of at least one.
+    /// of at least one besides own colours.
     Agreeing(KindsUsed),
 }
 
@@ -29,10 +34,13 @@ impl Players {
         ensures { IsSaidOfPlayers size content.now result }
     {
         let used = kinds_used(size, content);
-        if used.are_none() {
-            Players::Any(least_class_for_players(size, needs, &used, content))
-        } else {
-            Players::Agreeing(used)
+        if !used.are_own_colours_at_most() {
+            return Players::Agreeing(used);
+        }
+        let class = least_class_for_players(size, needs, &used, content);
+        match used.of(Kind::OwnColours) {
+            None => Players::Any(class),
+            Some(times) => Players::InNamedColours(class, times),
         }
     }
 }

@@ -9,22 +9,26 @@ ghost use Rattle.ans_players.specs.Kinds.{is_kind};
 ghost use Rattle.ans_players.specs.Situations.{is_common_colour, is_page_control, is_terminal_control, kind_if};
 ghost use Rattle.ans_players.specs.Situations.{omits, own_kinds, situations};
 ghost use Rattle.ans_walks.specs.Counted.{count_of, counted};
-ghost use Rattle.ans_walks.specs.GripsShown.{kinds_in, kinds_of, shown_grip};
+ghost use Rattle.ans_players.specs.declared.kind.Kind.TheVariants.{OwnColours};
+ghost use Rattle.ans_walks.specs.GripsShown.{kinds_in, kinds_of, shown_grip, shown_names};
 ghost use Rattle.ans_walks.specs.Pens.{pen_of, StandsOn};
 
 use crate::grip::Grip;
+use crate::names::{Names, paints};
 use crate::pen::Pen;
 use crate::times::{Times, count};
 use ans_model::kind::Kind;
 use ans_model::size::Size;
 use ans_players::kind::Kind as PlayerKind;
 
-/// The kinds that arise at a token: that of a grip that is not firm, and the token's own, two at most.
+/// The kinds that arise at a token: that of a grip that is not firm, the token's own, two at most, and own
+/// colours.
 #[derive(Debug, Clone, Copy, PartialEq, Eq)]
 pub(crate) struct Situations {
     pub(crate) loose: Option<PlayerKind>,
     pub(crate) own: Option<PlayerKind>,
     pub(crate) other: Option<PlayerKind>,
+    pub(crate) unnamed: bool,
 }
 
 fn is_common_colour(number: u8) -> bool
@@ -144,11 +148,19 @@ fn is_in(some: Option<PlayerKind>, kind: PlayerKind) -> bool
 
 impl Situations {
     /// The kinds that arise at a token with this text, before it is played.
-    pub(crate) fn of(size: Size, pen: &Pen, grip: Grip, kind: &Kind, text: &[u8]) -> Situations
+    pub(crate) fn of(
+        size: Size,
+        pen: &Pen,
+        grip: Grip,
+        names: Names,
+        kind: &Kind,
+        text: &[u8],
+    ) -> Situations
         requires { StandsOn size pen.now }
         ensures { (s : State) → pen.now ≡ pen_of s
-            → kinds_of result
-            ≡ situations size (shown_grip grip) s (record { token = shown_kind kind.now; text = text.now }) }
+            → kinds_of result ≡ situations size
+            (record { grip = shown_grip grip; names = shown_names names; state = s })
+            (record { token = shown_kind kind.now; text = text.now }) }
     {
         let (own, other) = own_kinds(size, pen, kind, text);
         let loose = if grip.is_held(kind) {
@@ -156,13 +168,26 @@ impl Situations {
         } else {
             grip.loose_kind()
         };
-        Situations { loose, own, other }
+        Situations {
+            loose,
+            own,
+            other,
+            unnamed: paints(kind) && !names.are_both(),
+        }
     }
 
     /// Whether no kind arises.
     #[inline(always)]
     pub(crate) fn are_none(&self) -> bool
         ensures { IsTrue result ↔ (kinds_of self.now ≡ []) }
+    {
+        self.are_own_colours_at_most() && !self.unnamed
+    }
+
+    /// Whether no kind arises but own colours.
+    #[inline(always)]
+    pub(crate) fn are_own_colours_at_most(&self) -> bool
+        ensures { IsTrue result ↔ (kinds_of self.now ≡ kind_if self.now.unnamed OwnColours) }
     {
         self.loose.is_none() && self.own.is_none() && self.other.is_none()
     }
@@ -181,6 +206,9 @@ impl Situations {
     fn have(&self, kind: PlayerKind) -> bool
         ensures { result ≡ list_any (is_kind kind) (kinds_of self.now) }
     {
-        is_in(self.loose, kind) || is_in(self.own, kind) || is_in(self.other, kind)
+        is_in(self.loose, kind)
+            || is_in(self.own, kind)
+            || is_in(self.other, kind)
+            || (self.unnamed && kind.number() == PlayerKind::OwnColours.number())
     }
 }

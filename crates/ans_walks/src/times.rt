@@ -32,3 +32,13 @@ pub(crate) fn count(times: &mut Option<Times>, comes: bool, offset: usize)
         Some(times) => times.count += 1,
     }
 }
+
+/// How many times something comes, 0 if it never does.
+pub(crate) fn count_of(times: Option<Times>) -> usize
+    ensures { result ≡ count_of times }
+{
+    match times {
+        Some(times) => times.count,
+        None => 0,
+    }
+}

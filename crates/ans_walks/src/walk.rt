@@ -15,7 +15,7 @@ ghost use Rattle.ans_tokens.specs.Walk.{no_front};
 
 use crate::conditions::{
     begins_with_latin_letter, begins_with_pipe_number, begins_with_two_byte_letter,
-    begins_with_wide, begins_with_x_number, has_later_colour, is_letter, is_small_letter,
+    begins_with_wide, begins_with_x_number, has_later_colour, is_letter, is_seen, is_small_letter,
     may_be_foreign,
 };
 use crate::hints::Hints;
@@ -59,6 +59,8 @@ impl Walk {
                 board_codes: None,
                 later_colours: None,
                 blinking_glyphs: None,
+                seen_glyphs: None,
+                dark_glyphs: None,
                 empty_rows: size.lines(),
                 moves_rows: false,
             },
@@ -206,10 +208,14 @@ impl Walk {
     {
         let wide = begins_with_wide(byte, behind);
         let blinks = !self.non_blink && self.pen.attribute >= 0x80;
+        let seen = is_seen(byte);
+        let dark = seen && self.pen.attribute == 0x08;
         self.foreign(offset, byte, behind);
         self.glyph_in_row(offset);
         count(&mut self.hints.wide_characters, wide, offset);
         count(&mut self.hints.blinking_glyphs, blinks, offset);
+        count(&mut self.hints.seen_glyphs, seen, offset);
+        count(&mut self.hints.dark_glyphs, dark, offset);
         self.print_in(self.pen.cursor.row);
     }
 

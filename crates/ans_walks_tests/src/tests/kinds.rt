@@ -65,35 +65,41 @@ macro_rules! all_but {
     };
 }
 
-static USED: [Used; 23] = used! {
-    b"Hi", 3 x 1 => ;
-    b"A\r\nB", 2 x 2 => ;
-    b"A\n\rB", 2 x 2 => ;
-    b"A\x1b[2J\x1b[HB", 2 x 1 => ;
-    b"\x1b[mA", 2 x 1 => ;
-    b"A\r\nB", 1 x 3 => WrapAtOnce 1 at 1;
-    b"A\nB", 2 x 2 => LineEnds 1 at 2;
-    b"A\rB", 2 x 2 => LineEnds 1 at 2;
-    b"A\x1b[2JB", 2 x 1 => HomeOnClear 1 at 5;
-    b"\x1b[41m\x1b[2J", 1 x 1 => ClearInColour 1 at 5;
+static USED: [Used; 28] = used! {
+    b"Hi", 3 x 1 => OwnColours 2 at 0;
+    b"A\r\nB", 2 x 2 => OwnColours 2 at 0;
+    b"A\n\rB", 2 x 2 => OwnColours 2 at 0;
+    b"A\x1b[2J\x1b[HB", 2 x 1 => OwnColours 3 at 0;
+    b"\x1b[mA", 2 x 1 => OwnColours 1 at 3;
+    b"A\r\nB", 1 x 3 => WrapAtOnce 1 at 1, OwnColours 2 at 0;
+    b"A\nB", 2 x 2 => LineEnds 1 at 2, OwnColours 2 at 0;
+    b"A\rB", 2 x 2 => LineEnds 1 at 2, OwnColours 2 at 0;
+    b"A\x1b[2JB", 2 x 1 => HomeOnClear 1 at 5, OwnColours 3 at 0;
+    b"\x1b[41m\x1b[2J", 1 x 1 => ClearInColour 1 at 5, OwnColours 1 at 5;
     b"\x1b[u", 1 x 1 => SavePlaceOnly 1 at 0;
-    b"\x1b[4mA", 2 x 1 => DosColours 1 at 0;
-    b"\x1b[31m\x1b[mA", 2 x 1 => DosColours 1 at 5;
-    b"\t", 9 x 1 => TabPrints 1 at 0;
-    b"\x1b[K", 2 x 1 => LineErased 1 at 0;
+    b"\x1b[4mA", 2 x 1 => DosColours 1 at 0, OwnColours 1 at 4;
+    b"\x1b[31m\x1b[mA", 2 x 1 => DosColours 1 at 5, OwnColours 1 at 8;
+    b"\t", 9 x 1 => TabPrints 1 at 0, OwnColours 1 at 0;
+    b"\x1b[K", 2 x 1 => LineErased 1 at 0, OwnColours 1 at 0;
     b"\x1b[?7l", 1 x 1 => WrapOff 1 at 0;
     b"\x1b[2C", 2 x 1 => StopsAtEdge 1 at 0;
     b"\x1b[2B\x1b[H", 2 x 1 => StopsAtEdge 1 at 0;
     b"\x07\x07", 1 x 1 => PageControls 2 at 0;
-    b"\x00A\x0b", 4 x 1 => PageControls 2 at 0;
-    b"\x01\x7f", 3 x 1 => TerminalControls 2 at 0;
-    b"A\x1b[s\rB", 3 x 1 => LineEnds 1 at 5, SavePlaceOnly 1 at 4;
+    b"\x00A\x0b", 4 x 1 => PageControls 2 at 0, OwnColours 3 at 0;
+    b"\x01\x7f", 3 x 1 => TerminalControls 2 at 0, OwnColours 2 at 0;
+    b"A\x1b[s\rB", 3 x 1 => LineEnds 1 at 5, SavePlaceOnly 1 at 4, OwnColours 2 at 0;
     b"\x1b[7m\x07\x1b[4m\x1b[K", 2 x 1 =>
-        ClearInColour 1 at 9, DosColours 2 at 0, LineErased 1 at 9, PageControls 1 at 4;
+        ClearInColour 1 at 9, DosColours 2 at 0, LineErased 1 at 9, PageControls 1 at 4, OwnColours 1 at 9;
+    b"\x1b[37;40mHi", 3 x 1 => ;
+    b"\x1b[0;37;40mA\x1b[0m", 1 x 1 => ;
+    b"\x1b[37mA\x1b[40m \x1b[0;31mB", 4 x 1 => OwnColours 2 at 5;
+    b"\x1b[37;40mA\r\nB", 1 x 3 => WrapAtOnce 1 at 9;
+    b"\x1b[40m\x1b[2J\x1b[37m\x1b[K", 2 x 1 => LineErased 1 at 14, OwnColours 1 at 5;
 };
 
-/// In the last five a kind arises from the cleared start: wrap-at-once, save-place-only or page-controls.
-static LEAST: [Least; 16] = least! {
+/// In the last five a kind other than own colours arises from the cleared start: wrap-at-once, save-place-only or
+/// page-controls.
+static LEAST: [Least; 19] = least! {
     b"Hi", 3 x 1 => screen cursor colours;
     b"A", 1 x 1 => cursor colours;
     b"abc", 2 x 2 => screen cursor colours wrap;
@@ -104,6 +110,9 @@ static LEAST: [Least; 16] = least! {
     b"\x1b[0m\x1b[2J\x1b[HA", 2 x 1 => ;
     b"\x1b[2J\x1b[0m\x1b[HA", 1 x 1 => colours;
     b"\x1b[?7h\x1b[0m\x1b[2J\x1b[H\x1b[sA", 2 x 1 => ;
+    b"\x1b[?7h\x1b[0;37;40m\x1b[2J\x1b[H\x1b[sA", 2 x 1 => ;
+    b"\x1b[0;37;40m\x1b[2JA", 2 x 1 => cursor;
+    b"\x1b[37;40m\x1b[2J\x1b[HA", 1 x 1 => colours;
     b"\x1b[0m\x1b[2J\x1b[H\x1b[s\x1b[2J", 2 x 1 => ;
     b"\x1b[0m\x1b[2J\x1b[Hab\r\x1b[s", 2 x 2 => wrap;
     b"\x1b[0m\x1b[2J\x1b[H\x1b[u\x1b[2JA", 2 x 1 => saved;
@@ -157,10 +166,11 @@ fn expect_used(rt: &impl Abort, row: &Used) {
 
 /// What is said of a content in which these kinds arise, and that has this least class.
 fn said_of(used: KindsUsed, class: Start) -> Players {
-    if used.are_none() {
-        Players::Any(class)
-    } else {
-        Players::Agreeing(used)
+    let others = Kind::ALL.iter().any(|kind| *kind != Kind::OwnColours && used.of(*kind).is_some());
+    match used.of(Kind::OwnColours) {
+        _ if others => Players::Agreeing(used),
+        None => Players::Any(class),
+        Some(times) => Players::InNamedColours(class, times),
     }
 }
 

@@ -5,4 +5,4 @@ use Rattle.ans_walks.proofs.calm.is_calm_from.Goals as goal
 pub returns : goal.returns
 returns c s tokens texts pen reads =
     rw c.unwrap_or.ensures
-    (calm_whole c.args.content.now _ c.walk.new.walker s tokens texts pen refl reads c.walk.result c.walk.ensures)
+    (calm_whole c.args.content.now _ c.walk.new.walker s tokens texts pen refl refl reads c.walk.result c.walk.ensures)

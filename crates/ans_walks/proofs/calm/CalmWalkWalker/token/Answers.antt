@@ -19,5 +19,6 @@ returns-clause-walked c first front text next h =
     (rw c.kind-kind.ensures at c.step.ensures.pen)
     (λ s e. rw c.kind-kind.ensures at
     (c.after-self.ensures old.size s (ap (λ (p : Pen). p.cursor) e) (c.step.ensures.pen s e)))
+    (rw c.kind-kind.ensures at c.after-self-2.ensures)
     (λ s e. c.have_all-goes_on.ensures ∙ ap (λ (kinds : List Kind). list_all (is_used old.used.now) kinds)
     (rw (c.kind-kind.ensures, text_is) at (c.of-situations.ensures s e)))

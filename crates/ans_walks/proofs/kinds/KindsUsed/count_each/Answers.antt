@@ -1,6 +1,6 @@
 use Rattle.ans_players.specs.declared.kind.Kind.TheVariants.{WrapAtOnce, LineEnds, HomeOnClear, ClearInColour}
 use Rattle.ans_players.specs.declared.kind.Kind.TheVariants.{SavePlaceOnly, DosColours, TabPrints, LineErased, WrapOff}
-use Rattle.ans_players.specs.declared.kind.Kind.TheVariants.{StopsAtEdge, PageControls, TerminalControls}
+use Rattle.ans_players.specs.declared.kind.Kind.TheVariants.{StopsAtEdge, PageControls, TerminalControls, OwnColours}
 use Rattle.ans_walks.proofs.kinds.KindsUsed.count_each.Goals as goal
 
 pub returns-clause-used : goal.returns-clause-used
@@ -16,3 +16,4 @@ returns-clause-used c WrapOff = c.count-9.ensures.value
 returns-clause-used c StopsAtEdge = c.count-10.ensures.value
 returns-clause-used c PageControls = c.count-11.ensures.value
 returns-clause-used c TerminalControls = c.count-12.ensures.value
+returns-clause-used c OwnColours = c.count-13.ensures.value

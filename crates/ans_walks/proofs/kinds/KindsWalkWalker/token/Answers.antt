@@ -18,6 +18,7 @@ returns-clause-walked c first front text next h =
     (rw c.kind-kind.ensures at c.step.ensures.pen)
     (λ s e. rw c.kind-kind.ensures at
     (c.after-self.ensures old.size s (ap (λ (p : Pen). p.cursor) e) (c.step.ensures.pen s e)))
+    (rw c.kind-kind.ensures at c.after-self-2.ensures)
     (λ s kind e. c.count.ensures.used kind ∙ ap (λ (kinds : List Kind). counted (used_of old.used kind)
     (list_any (is_kind kind) kinds) c.start-offset.result)
     (rw (c.kind-kind.ensures, text_is) at (c.of-situations.ensures s e)))

@@ -37,6 +37,8 @@ returns-clause-ready c =
         board_codes = omega (arith, w.board_codes, c.start-offset.ensures);
         later_colours = omega (arith, w.later_colours, c.start-offset.ensures);
         blinking_glyphs = omega (arith, w.blinking_glyphs, c.start-offset.ensures);
+        seen_glyphs = omega (arith, w.seen_glyphs, c.start-offset.ensures);
+        dark_glyphs = omega (arith, w.dark_glyphs, c.start-offset.ensures);
       };
       wraps = omega (
         arith,
