@@ -20,7 +20,7 @@ HERE = os.path.dirname(os.path.abspath(__file__))
 sys.dont_write_bytecode = True
 sys.path.insert(0, os.path.join(HERE, "..", "tools", "compare"))
 
-from second_players import offsets_of, parts_needed, spelled, walk
+from second_players import of_start, offsets_of, parts_needed, spelled, walk
 from second_why import cleared
 
 ROWS = os.path.join(HERE, "..", "crates", "ans_samples", "src", "rows.rt")
@@ -89,9 +89,10 @@ def modelled(content, width, lines):
     walked = walk(tokens, cleared(width, lines)) if tokens is not None else None
     if walked is None:
         return ["", ""]
-    if walked.arisen:
-        return [" ".join(offsets_of(walked.arisen)), ""]
-    return ["any", " ".join(parts_needed(tokens, width, lines, True)) or "nothing"]
+    kinds = " ".join(offsets_of(walked.arisen)) or "any"
+    if of_start(walked.arisen):
+        return [kinds, ""]
+    return [kinds, " ".join(parts_needed(tokens, width, lines, True)) or "nothing"]
 
 
 def tabled(program, path):

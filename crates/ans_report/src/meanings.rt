@@ -190,7 +190,7 @@ unknown behind a full row if wrap was not switched on, and behind ESC[u if
 nothing was saved.
 
 To mend it, put the safe beginning in front:
-ESC[?7h ESC[0m ESC[2J ESC[H ESC[s, without the blanks.
+ESC[?7h ESC[0;37;40m ESC[2J ESC[H ESC[s, without the blanks.
 ";
 
 const F23: &str = "\
@@ -198,7 +198,7 @@ ESC[K blanks the rest of the cursor's row, and the drawing has not yet said
 where the cursor stands. It would blank another row on another screen.
 
 To mend it, put the safe beginning in front:
-ESC[?7h ESC[0m ESC[2J ESC[H ESC[s, without the blanks. Where the rest of
+ESC[?7h ESC[0;37;40m ESC[2J ESC[H ESC[s, without the blanks. If the rest of
 the screen is to stay, place the cursor first: ESC[1;1H.
 ";
 
@@ -207,7 +207,7 @@ A line feed comes where the cursor may stand below the stated lines. From some
 starts the screen scrolls and loses its top row.
 
 To mend it, put the safe beginning in front:
-ESC[?7h ESC[0m ESC[2J ESC[H ESC[s, without the blanks. If the line feed
+ESC[?7h ESC[0;37;40m ESC[2J ESC[H ESC[s, without the blanks. If the line feed
 then scrolls from every start, it is F21: take it out.
 ";
 
@@ -217,7 +217,7 @@ colours that the drawing never set. What was on the screen before shows
 through, or its colours do.
 
 To mend it, put the safe beginning in front:
-ESC[?7h ESC[0m ESC[2J ESC[H ESC[s, without the blanks. The colours have
+ESC[?7h ESC[0;37;40m ESC[2J ESC[H ESC[s, without the blanks. The colours have
 to come before the clearing, which fills the screen with them.
 ";
 

@@ -20,7 +20,9 @@ use Rattle.ans_sauce.specs.declared.judged.Judged.TheVariants.{NoContent, Refuse
 use Rattle.ans_model.specs.Text.Words.{part_names}
 use Rattle.ans_walks.specs.KindsUsed.{words_used}
 use Rattle.ans_walks.specs.declared.players.Players.{Players}
-use Rattle.ans_walks.specs.declared.players.Players.TheVariants.{Any, Agreeing}
+use Rattle.ans_walks.specs.declared.players.Players.TheVariants.{Any, InNamedColours, Agreeing}
+use Rattle.ans_players.specs.Kinds.{kind_word}
+use Rattle.ans_players.specs.declared.kind.Kind.TheVariants.{OwnColours}
 use Rattle.ans_table.specs.Findings.{Finding, RowFinding, parts_of, sauce_of}
 use Rattle.ans_table.specs.NameText.{name_text}
 use Rattle.ans_table.specs.Columns.{by_pair}
@@ -115,6 +117,8 @@ flat_fault fault = (simple _ refl (omega arith), (simple _ refl (omega arith), (
 
 flat_players : (players : Players) → AllFlat (players_values players)
 flat_players (Any class) = (flat_texts [], (flat_texts (part_names class), tt))
+flat_players (InNamedColours class times) =
+    (flat_texts (kind_word OwnColours ∷ []), (flat_texts (part_names class), tt))
 flat_players (Agreeing used) = (flat_texts (words_used used), tt)
 
 flat_found : (finding : Finding) → AllFlat (found_values finding)

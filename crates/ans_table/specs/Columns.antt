@@ -16,7 +16,9 @@ use Rattle.ans_sauce.specs.declared.parts.Parts.{Parts}
 use Rattle.ans_sauce.specs.Parts.{content_of, notes_of}
 use Rattle.ans_walks.specs.KindsUsed.{words_used}
 use Rattle.ans_walks.specs.declared.players.Players.{Players}
-use Rattle.ans_walks.specs.declared.players.Players.TheVariants.{Any, Agreeing}
+use Rattle.ans_walks.specs.declared.players.Players.TheVariants.{Any, InNamedColours, Agreeing}
+use Rattle.ans_players.specs.Kinds.{kind_word}
+use Rattle.ans_players.specs.declared.kind.Kind.TheVariants.{OwnColours}
 use Rattle.ans_table.specs.declared.finding.PassFinding.{PassFinding}
 use Rattle.ans_table.specs.Findings.{Finding, RowFinding, unread_text}
 use Rattle.ans_table.specs.Labels.{labels_text}
@@ -42,6 +44,7 @@ fault_columns fault =
 -- the drawing makes use of, and no parts
 abbrev pub players_columns : Players → List ℕ
 players_columns (Any class) = column (codes "any") ++ column (needed_parts class)
+players_columns (InNamedColours class times) = column (kind_word OwnColours) ++ column (needed_parts class)
 players_columns (Agreeing used) = column (words_text (words_used used)) ++ tab ∷ []
 
 -- the columns from the verdict to the place of a fault, which a pass has none of

@@ -17,7 +17,9 @@ use Rattle.ans_sauce.specs.declared.parts.Parts.{Parts}
 use Rattle.ans_sauce.specs.Parts.{comments_of, content_of, notes_of, record_of}
 use Rattle.ans_walks.specs.KindsUsed.{words_used}
 use Rattle.ans_walks.specs.declared.players.Players.{Players}
-use Rattle.ans_walks.specs.declared.players.Players.TheVariants.{Any, Agreeing}
+use Rattle.ans_walks.specs.declared.players.Players.TheVariants.{Any, InNamedColours, Agreeing}
+use Rattle.ans_players.specs.Kinds.{kind_word}
+use Rattle.ans_players.specs.declared.kind.Kind.TheVariants.{OwnColours}
 use Rattle.ans_table.specs.declared.finding.PassFinding.{PassFinding}
 use Rattle.ans_table.specs.Columns.{by_pair, fault_label}
 use Rattle.ans_table.specs.Findings.{Finding, RowFinding, parts_of, sauce_of, unread_text}
@@ -51,6 +53,8 @@ fault_values fault =
 -- that a content makes use of
 abbrev pub players_values : Players → List Named
 players_values (Any class) = (codes "players", texts []) ∷ (codes "on_every_player", texts (part_names class)) ∷ []
+players_values (InNamedColours class times) =
+    (codes "players", texts (kind_word OwnColours ∷ [])) ∷ (codes "on_every_player", texts (part_names class)) ∷ []
 players_values (Agreeing used) = (codes "players", texts (words_used used)) ∷ []
 
 -- what a content needs that passes, on which players it shows its picture, and whether it does on taller screens

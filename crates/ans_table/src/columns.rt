@@ -12,6 +12,7 @@ ghost use Rattle.ans_table.specs.Columns.{verdict_columns};
 use crate::finding::{Finding, PassFinding, RowFinding};
 use crate::labels::put_labels;
 use ans_model::fault::Fault;
+use ans_players::kind::Kind;
 use ans_report::{answer_text, fault_text, put_needed_parts, put_words};
 use ans_sauce::{Judged, Parts, Record};
 use ans_walks::Players;
@@ -57,6 +58,11 @@ fn put_players<W: Write>(out: &mut Outbox<'_, W>, players: &Players)
     match players {
         Players::Any(class) => {
             out.put(b"any\t");
+            put_needed_parts(out, *class);
+            out.put(b"\t");
+        }
+        Players::InNamedColours(class, _) => {
+            put_column(out, Kind::OwnColours.word().as_bytes());
             put_needed_parts(out, *class);
             out.put(b"\t");
         }

@@ -21,6 +21,7 @@ use crate::name_text::put_name;
 use ans_model::fault::Fault;
 use ans_model::note::Note;
 use ans_model::start::Start;
+use ans_players::kind::Kind;
 use ans_sauce::{Judged, Parts, Record};
 use ans_walks::Players;
 use ans_write::{Outbox, Tried, glyph_text};
@@ -132,6 +133,16 @@ fn put_players(members: &mut Members, alloc: Global, players: &Players) -> Added
     match players {
         Players::Any(class) => {
             put(members, alloc, "players", words_value(alloc, &[])?)?;
+            put(
+                members,
+                alloc,
+                "on_every_player",
+                known_value(alloc, *class)?,
+            )
+        }
+        Players::InNamedColours(class, _) => {
+            let kind = words_value(alloc, &[Kind::OwnColours.word()])?;
+            put(members, alloc, "players", kind)?;
             put(
                 members,
                 alloc,

@@ -4,6 +4,7 @@ use Rattle.ans_model.specs.Text.Characters.{shown_bytes}
 use Rattle.ans_model.specs.Text.FaultText.{line_of}
 use Rattle.ans_report.specs.Counted as counted
 use Rattle.ans_why.specs.Fonts.{font_name, has_other_code_page}
+use Rattle.ans_walks.specs.Hints.{much_dark}
 use Rattle.ans_walks.specs.RowEnds.{wider_rows}
 use Rattle.ans_walks.specs.declared.hints.Hints.{Hints}
 use Rattle.ans_walks.specs.declared.row_ends.WiderRows.{WiderRows}
@@ -69,8 +70,10 @@ abbrev pub colour_hints : Hints → List ℕ
 colour_hints hints =
     times_line (codes "a sequence has a colour of later terminals (38, 48, 90 to 97 or 100 to 107)")
     hints.later_colours []
-    ++ times_line (codes "a character blinks") hints.blinking_glyphs
+    ++ (times_line (codes "a character blinks") hints.blinking_glyphs
     (codes ": for bright backgrounds set the non-blink flag")
+    ++ times_line (codes "a character is dark grey on black") (much_dark hints)
+    (codes ": some terminals show it as black"))
 
 -- the hints of a content, and that of the font, by the record's field
 abbrev pub hints_text : Hints → List ℕ → List ℕ

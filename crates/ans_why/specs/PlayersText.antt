@@ -9,10 +9,11 @@ use Rattle.ans_model.specs.Text.RecordText.{named_line}
 use Rattle.ans_model.specs.Text.Words.{words_text}
 use Rattle.ans_players.specs.Kinds.{all_kinds, kind_word}
 use Rattle.ans_players.specs.declared.kind.Kind.{Kind}
+use Rattle.ans_players.specs.declared.kind.Kind.TheVariants.{OwnColours}
 use Rattle.ans_walks.specs.KindsUsed.{used_of, words_used}
 use Rattle.ans_walks.specs.declared.kinds.KindsUsed.{KindsUsed}
 use Rattle.ans_walks.specs.declared.players.Players.{Players}
-use Rattle.ans_walks.specs.declared.players.Players.TheVariants.{Agreeing, Any}
+use Rattle.ans_walks.specs.declared.players.Players.TheVariants.{Agreeing, Any, InNamedColours}
 use Rattle.ans_walks.specs.declared.times.Times.{Times}
 
 -- how often, where it is more than once
@@ -44,7 +45,14 @@ everywhere_line needs class =
 abbrev pub agreeing_lines : KindsUsed → List ℕ
 agreeing_lines used = named_line (codes "players") (words_text (words_used used)) ++ kind_lines used
 
+-- the lines where own colours are the only kind
+abbrev pub named_colours_lines : Start → Start → Times → List ℕ
+named_colours_lines needs class times =
+    named_line (codes "players") (kind_word OwnColours)
+    ++ (kind_line OwnColours (Some times) ++ everywhere_line needs class)
+
 -- the lines of a content that needs this class
 abbrev pub players_lines : Start → Players → List ℕ
 players_lines needs (Any class) = named_line (codes "players") (codes "any") ++ everywhere_line needs class
+players_lines needs (InNamedColours class times) = named_colours_lines needs class times
 players_lines needs (Agreeing used) = agreeing_lines used

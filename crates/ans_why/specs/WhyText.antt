@@ -55,7 +55,7 @@ shown_lines (Cells low high) =
 
 -- the bytes that mend a drawing
 abbrev pub mend_line : Bool → List ℕ
-mend_line true = named_line (codes "mend") (codes "begin with ESC[?7h ESC[0m ESC[2J ESC[H ESC[s")
+mend_line true = named_line (codes "mend") (codes "begin with ESC[?7h ESC[0;37;40m ESC[2J ESC[H ESC[s")
 mend_line false = []
 
 -- the lines of what a content relies on

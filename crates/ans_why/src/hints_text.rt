@@ -135,6 +135,12 @@ fn put_colour_hints<W: Write>(out: &mut Outbox<'_, W>, hints: &Hints)
         hints.blinking_glyphs,
         b": for bright backgrounds set the non-blink flag",
     );
+    put_times_line(
+        out,
+        b"a character is dark grey on black",
+        hints.much_dark(),
+        b": some terminals show it as black",
+    );
 }
 
 /// Puts the lines of the hints: `hint: `, what it is about, how many times it comes, and the offset of

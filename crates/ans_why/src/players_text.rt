@@ -3,7 +3,7 @@
 ghost use Rattle.std.specs.Prelude.{◌≡◌};
 ghost use Rattle.ans_why.specs.PlayersText.{agreeing_lines, everywhere_line, is_same_class, kind_line};
 ghost use Rattle.ans_why.specs.PlayersText.{kind_lines, more_times, players_lines};
-ghost use Rattle.ans_walks.specs.declared.players.Players.TheVariants.{Any};
+ghost use Rattle.ans_walks.specs.declared.players.Players.TheVariants.{Any, InNamedColours};
 ghost use Rattle.ans_write.specs.Puts.{Puts};
 
 use ans_model::start::Start;
@@ -83,14 +83,24 @@ fn put_agreeing<W: Write>(out: &mut Outbox<'_, W>, used: &KindsUsed)
     put_kind_lines(out, used);
 }
 
+fn put_named_colours<W: Write>(out: &mut Outbox<'_, W>, needs: Start, class: Start, times: Times)
+    ensures { Puts W.contents out.old out.new (players_lines needs (InNamedColours class times)) }
+{
+    out.put(b"players: own-colours\n");
+    put_kind_line(out, Kind::OwnColours, Some(times));
+    put_everywhere_line(out, needs, class);
+}
+
 /// Puts on which players a content shows its picture that needs this class: `any`, and the class from
-/// which it does, where that is another; or the kinds, and a line of each, with the offset of the first
-/// in bytes from the content's start, and how often it arises.
+/// which it does, if that is another; or the kinds, and a line of each, with the offset of the first
+/// in bytes from the content's start, and how often it arises. If own colours are the only kind, the class
+/// follows them, of the players whose own white and black are the named ones.
 pub(crate) fn put_players<W: Write>(out: &mut Outbox<'_, W>, needs: Start, players: &Players)
     ensures { Puts W.contents out.old out.new (players_lines needs players.now) }
 {
     match players {
         Players::Any(class) => put_any(out, needs, *class),
+        Players::InNamedColours(class, times) => put_named_colours(out, needs, *class, *times),
         Players::Agreeing(used) => put_agreeing(out, used),
     }
 }

@@ -30,7 +30,7 @@ pub struct Reliance<'a> {
     /// The bytes to blame: none for F25.
     pub bytes: &'a [u8],
     pub shown: Shown,
-    /// Whether the file has room for the 19 bytes that mend it.
+    /// Whether the file has room for the 25 bytes that mend it.
     pub mends: bool,
 }
 

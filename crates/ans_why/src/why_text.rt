@@ -107,7 +107,7 @@ fn put_mend_line<W: Write>(out: &mut Outbox<'_, W>, mends: bool)
     ensures { Puts W.contents out.old out.new (mend_line mends) }
 {
     if mends {
-        out.put(b"mend: begin with ESC[?7h ESC[0m ESC[2J ESC[H ESC[s\n");
+        out.put(b"mend: begin with ESC[?7h ESC[0;37;40m ESC[2J ESC[H ESC[s\n");
     }
 }
 

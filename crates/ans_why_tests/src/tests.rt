@@ -48,6 +48,9 @@ macro_rules! text {
     (blinks $at:literal) => {
         concat!("hint: a character blinks, ", $at, ": for bright backgrounds set the non-blink flag\n")
     };
+    (dark $at:literal) => {
+        concat!("hint: a character is dark grey on black, ", $at, ": some terminals show it as black\n")
+    };
     (later $first:literal blinks $second:literal) => {
         concat!(
             "hint: a sequence has a colour of later terminals (38, 48, 90 to 97 or 100 to 107), ", $first, "\n\
@@ -195,7 +198,7 @@ static WIDE_CHARACTERS: [Row; 15] = rows! {
     screen(9 x 1, b"\xe2\x1b[0m\x96\x88") => nothing;
 };
 
-static COLOURS: [Row; 8] = rows! {
+static COLOURS: [Row; 13] = rows! {
     screen(9 x 1, b"\x1b[37;90mA\x1b[48m\x1b[107;38m") => later("3 times, first at 0");
     screen(9 x 1, b"A\x1b[97;100m") => later("once, at 1");
     screen(9 x 1, b"A\x1b[37;39;47;49;89;98;99;108m") => nothing;
@@ -204,6 +207,11 @@ static COLOURS: [Row; 8] = rows! {
     screen(9 x 1, b"a\x1b[5m\t\x1b[K\x1b[0m") => nothing;
     screen(9 x 1, b"\x1b[5ma") => blinks("once, at 4");
     screen(9 x 1, b"\x1b[38;5;208mA") => later("once, at 0") blinks("once, at 11");
+    screen(9 x 1, b"\x1b[1;30mab\x1b[0mcdefghi") => dark("2 times, first at 7");
+    screen(14 x 1, b"\x1b[1;30ma\x1b[0mbcdefghij \x00\xff") => nothing;
+    screen(12 x 1, b"\x1b[1;30ma\x1b[0mbcdefghi \x00") => dark("once, at 7");
+    screen(9 x 1, b"\x1b[1;30m \x00\xff") => nothing;
+    screen(9 x 1, b"\x1b[1;30;44ma\x1b[40m \x1b[30;47mb") => nothing;
 };
 
 static EMPTY_ROWS: [Row; 11] = rows! {

@@ -29,7 +29,7 @@ static FAULTS: [(Cause, &str); 3] = [
         through, or its colours do.\n\
         \n\
         To mend it, put the safe beginning in front:\n\
-        ESC[?7h ESC[0m ESC[2J ESC[H ESC[s, without the blanks. The colours have\n\
+        ESC[?7h ESC[0;37;40m ESC[2J ESC[H ESC[s, without the blanks. The colours have\n\
         to come before the clearing, which fills the screen with them.\n",
     ),
 ];

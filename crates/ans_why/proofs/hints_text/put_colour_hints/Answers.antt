@@ -1,5 +1,8 @@
+use Rattle.std.proofs.Common.{sym, subst, Option}
 use Rattle.ans_write.proofs.PutsLemmas.{Puts-then}
 use Rattle.ans_why.proofs.hints_text.put_colour_hints.Goals as goal
 
 pub returns : goal.returns
-returns g c = Puts-then c.put_times_line.ensures c.put_times_line-2.ensures
+returns g c =
+    Puts-then c.put_times_line.ensures
+    (Puts-then c.put_times_line-2.ensures (rw c.much_dark.ensures at c.put_times_line-3.ensures))
