@@ -1,24 +1,26 @@
 -- The colours from each attribute to each.
-use Rattle.std.proofs.Common.{◌≡◌, ℕ, ◌+◌, ◌<◌, ◌≤◌, Bool, true, false, not, ◌&&◌, ◌==◌, refl, ap, sym, ◌∙◌}
-use Rattle.std.proofs.Common.{List, [], ◌∷◌, ◌++◌, length, length-append, map, arith}
+use Rattle.std.proofs.Common.{◌≡◌, ℕ, ◌+◌, ◌<◌, ◌≤◌, Bool, true, false, not, ◌&&◌, ◌==◌, refl, ap, ap₂, sym, ◌∙◌}
+use Rattle.std.proofs.Common.{fold, List, [], ◌∷◌, ◌++◌, length, length-append, map, arith}
 use Rattle.std.specs.Prelude.{All, if◌then◌else◌}
 use Rattle.std.specs.List.{list_all, list_any}
-use Rattle.std.proofs.lemmas.Bool.{agree_below_at, eqb-true, eqb-false, and_parts, and_from}
+use Rattle.std.proofs.lemmas.Bool.{agree_below_at, eqb-true, eqb-false, ne_eqb, and_parts, and_from}
 use Rattle.std.proofs.lemmas.Bool.Decides.{nat_tests}
 use Rattle.std.proofs.lemmas.List.Elements.{All-nil, All-cons}
 use Rattle.std.proofs.lemmas.List.Folds.{list_all-append}
+use Rattle.std.proofs.lemmas.List.Sums.{fold-append}
 use Rattle.ans_model.specs.Bytes.{IsByte}
 use Rattle.ans_model.specs.File.Layout.{is_end_mark}
 use Rattle.ans_model.specs.Sequence.TokenKind.{Colours}
 use Rattle.ans_model.specs.Sequence.Reads.{SpellsToken}
-use Rattle.ans_model.specs.Screen.State.{Size, State}
+use Rattle.ans_model.specs.Screen.State.{Size}
 use Rattle.ans_model.specs.Screen.Step.{final}
 use Rattle.ans_model.specs.Screen.Attribute.{attribute_after_all}
-use Rattle.ans_players.specs.Grips.{Grip}
+use Rattle.ans_players.specs.Grips.{Stand}
+use Rattle.ans_players.specs.Names.{Names, unnamed, names_behind, names_after, are_both, is_within}
 use Rattle.ans_players.specs.Situations.{Spelled, situations, is_common_colour, omits}
 use Rattle.ans_redraw.specs.Colours.{foreground, is_bright, background, blinks, colour_number, number_if, changes}
-use Rattle.ans_redraw.specs.Colours.{stays, or_white, anew, numbers_to, is_no_longer, colours_text, colours, colours_to}
-use Rattle.ans_redraw.specs.Laws.{ColoursLead, ColoursAreCalm, ColoursAreRead}
+use Rattle.ans_redraw.specs.Colours.{stays, anew, numbers_to, colours_text, colours, colours_to}
+use Rattle.ans_redraw.specs.Laws.{ColoursLead, ColoursAreCalm, ColoursKeepNames, ColoursAreRead}
 use Rattle.ans_redraw.proofs.ColourParts.{numbers_lead, foreground_lt, background_lt, bright_number}
 use Rattle.ans_redraw.proofs.ColourParts.{blink_number, front_number, back_number}
 use Rattle.ans_redraw.proofs.ColourTexts.{AreBytes, numbers_spelled, text_omits_none, text_unmarked}
@@ -88,26 +90,122 @@ module _ (from to : ℕ) where
   changes_are_common : AreCommon (changes from to)
   changes_are_common = record { common = changes_common; few = omega (arith, changes_few) }
 
-white_common : (ns : List ℕ) → list_all is_common_colour ns ≡ true → list_all is_common_colour (or_white ns) ≡ true
-white_common [] h = refl
-white_common (n ∷ ns) h = h
+module _ (to : ℕ) where
+  abbrev bright_set : List ℕ
+  bright_set = number_if (is_bright to) 1
 
-white_few : (ns : List ℕ) → length ns ≤ 4 → length (or_white ns) ≤ 4
-white_few [] h = omega arith
-white_few (n ∷ ns) h = h
+  abbrev blink_set : List ℕ
+  blink_set = number_if (blinks to) 5
 
-anew_is_common : (to : ℕ) → AreCommon (anew to)
-anew_is_common to = record {
-  common = white_common (changes 0x07 to) (changes_common 0x07 to);
-  few = let h = white_few (changes 0x07 to) (changes_few 0x07 to) in omega arith;
-}
+  abbrev colours_set : List ℕ
+  colours_set = (30 + colour_number (foreground to)) ∷ (40 + colour_number (background to)) ∷ []
+
+  set_common : list_all is_common_colour colours_set ≡ true
+  set_common =
+      and_from (is_common_colour (30 + colour_number (foreground to))) _
+      (foreground_common (foreground to) (foreground_lt to))
+      (and_from (is_common_colour (40 + colour_number (background to))) true
+      (background_common (background to) (background_lt to)) refl)
+
+  anew_is_common : AreCommon (anew to)
+  anew_is_common = record {
+    common = common_both bright_set (blink_set ++ colours_set) (common_if _ 1 refl)
+        (common_both blink_set colours_set (common_if _ 5 refl) set_common);
+    few =
+        let a = length-append bright_set (blink_set ++ colours_set) in
+        let b = length-append blink_set colours_set in
+        let one : length bright_set ≤ 1 = one_if (is_bright to) 1 in
+        let two : length blink_set ≤ 1 = one_if (blinks to) 5 in
+        omega (arith, a, b);
+  }
 
 pub numbers_are_common : (from to : ℕ) → AreCommon (numbers_to from to)
-numbers_are_common from to = by_test (stays from to && is_no_longer (changes from to) (anew to))
+numbers_are_common from to = by_test (stays from to)
   where
     by_test : (b : Bool) → AreCommon (if b then changes from to else anew to)
     by_test true = changes_are_common from to
     by_test false = anew_is_common to
+
+-- ---- names
+-- both colours are named
+abbrev pub named : Names
+named = record { foreground = true; background = true }
+
+both_named : (n : Names) → are_both n ≡ true → n ≡ named
+both_named n h = by_parts n.foreground n.background refl refl
+  where
+    by_parts : (a b : Bool) → n.foreground ≡ a → n.background ≡ b → n ≡ named
+    by_parts true true e f = ap₂ (λ (x y : Bool). record { foreground = x; background = y }) e f
+    by_parts true false e f = absurd (let no : ⊥ = cc in no)
+    by_parts false b e f = absurd (let no : ⊥ = cc in no)
+
+module _ (m : Names) where
+  names_front : (f : ℕ) → f < 8 → names_behind m (30 + colour_number f) ≡ record m { foreground = true }
+  names_front f lt =
+      let some : (30 + colour_number f == 0) ≡ false = ne_eqb (30 + colour_number f) 0 (λ e. omega arith) in
+      let within : is_within 30 37 (30 + colour_number f) ≡ true =
+      agree_below_at (λ f. is_within 30 37 (30 + colour_number f)) (λ n. true) 8 f refl lt in
+      rw (some, within) refl
+
+  names_back : (g : ℕ) → g < 8 → names_behind m (40 + colour_number g) ≡ record m { background = true }
+  names_back g lt =
+      let some : (40 + colour_number g == 0) ≡ false = ne_eqb (40 + colour_number g) 0 (λ e. omega arith) in
+      let other : is_within 30 37 (40 + colour_number g) ≡ false =
+      agree_below_at (λ g. is_within 30 37 (40 + colour_number g)) (λ n. false) 8 g refl lt in
+      let within : is_within 40 47 (40 + colour_number g) ≡ true =
+      agree_below_at (λ g. is_within 40 47 (40 + colour_number g)) (λ n. true) 8 g refl lt in
+      rw (some, other, within) refl
+
+-- a number that changes no names, or is not there
+kept_if : (test : Bool) (m : Names) (n : ℕ) → names_behind m n ≡ m → fold names_behind m (number_if test n) ≡ m
+kept_if true m n h = h
+kept_if false m n h = refl
+
+kept_both : (m : Names) (xs ys : List ℕ) → fold names_behind m xs ≡ m → fold names_behind m ys ≡ m
+    → fold names_behind m (xs ++ ys) ≡ m
+kept_both m xs ys h g =
+    fold-append names_behind m xs ys ∙ ap (λ (v : Names). fold names_behind v ys) h ∙ g
+
+changes_keep : (from to : ℕ) → fold names_behind named (changes from to) ≡ named
+changes_keep from to =
+    kept_both named (bright_number from to) (blink_number from to ++ (front_number from to ++ back_number from to))
+    (kept_if _ named 1 refl)
+    (kept_both named (blink_number from to) (front_number from to ++ back_number from to) (kept_if _ named 5 refl)
+    (kept_both named (front_number from to) (back_number from to)
+    (kept_if _ named (30 + colour_number (foreground to)) (names_front named (foreground to) (foreground_lt to)))
+    (kept_if _ named (40 + colour_number (background to)) (names_back named (background to) (background_lt to)))))
+
+anew_names : (m : Names) (to : ℕ) → fold names_behind m (anew to) ≡ named
+anew_names m to =
+    let front : Names = record unnamed { foreground = true } in
+    fold-append names_behind unnamed (bright_set to) (blink_set to ++ colours_set to)
+    ∙ ap (λ (v : Names). fold names_behind v (blink_set to ++ colours_set to)) (kept_if (is_bright to) unnamed 1 refl)
+    ∙ fold-append names_behind unnamed (blink_set to) (colours_set to)
+    ∙ ap (λ (v : Names). fold names_behind v (colours_set to)) (kept_if (blinks to) unnamed 5 refl)
+    ∙ ap (λ (v : Names). names_behind v (40 + colour_number (background to)))
+    (names_front unnamed (foreground to) (foreground_lt to))
+    ∙ names_back front (background to) (background_lt to)
+
+-- if both are named, both are named after the numbers
+pub numbers_keep : (from to : ℕ) → fold names_behind named (numbers_to from to) ≡ named
+numbers_keep from to = by_test (stays from to)
+  where
+    by_test : (t : Bool) → fold names_behind named (if t then changes from to else anew to) ≡ named
+    by_test true = changes_keep from to
+    by_test false = anew_names named to
+
+pub colours_keep_names : ColoursKeepNames
+colours_keep_names names from to h g both =
+    by_test (from == to) (both_named names both)
+  where
+    by_test : (t : Bool) → names ≡ named
+        → are_both (fold names_after names (map (λ (x : Spelled). x.token) (if t then []
+        else colours (numbers_to from to) ∷ [])))
+        ≡ true
+    by_test true e = both
+    by_test false e =
+        ap (λ (m : Names). are_both (fold names_behind m (numbers_to from to))) e
+        ∙ ap are_both (numbers_keep from to)
 
 -- ---- the sequence
 common_is_byte : (n : ℕ) → is_common_colour n ≡ true → n < 256
@@ -132,9 +230,9 @@ common_omit_none [] h some = absurd (some refl)
 common_omit_none (n ∷ ns) h some = text_omits_none n ns (are_bytes (n ∷ ns) h.common)
 
 -- no kind arises at them
-pub common_calm : (z : Size) (g : Grip) (s : State) (ns : List ℕ) → AreCommon ns → (ns ≡ [] → ⊥)
-    → situations z g s (colours ns) ≡ []
-common_calm z g s ns h some = rw (h.common, common_omit_none ns h some) refl
+pub common_calm : (z : Size) (h : Stand) (ns : List ℕ) → AreCommon ns → (ns ≡ [] → ⊥)
+    → situations z h (colours ns) ≡ []
+common_calm z stand ns h some = rw (h.common, common_omit_none ns h some) refl
 
 -- there is a number, where the attributes are two
 pub some_number : (from to : ℕ) → IsByte from → IsByte to → (from ≡ to → ⊥) → numbers_to from to ≡ [] → ⊥
@@ -151,16 +249,16 @@ colours_lead z s to h g = by_test (s.attribute == to) refl
     by_test false e = ap (λ (a : ℕ). record s { attribute = a }) (numbers_lead s.attribute to h g)
 
 pub colours_are_calm : ColoursAreCalm
-colours_are_calm z g s from to h k = by_test (from == to) refl
+colours_are_calm z stand from to h k = by_test (from == to) refl
   where
     by_test : (b : Bool) → (from == to) ≡ b
-        → All (λ x. situations z g s x ≡ []) (if b then [] else colours (numbers_to from to) ∷ [])
-    by_test true e = All-nil (λ x. situations z g s x ≡ [])
+        → All (λ x. situations z stand x ≡ []) (if b then [] else colours (numbers_to from to) ∷ [])
+    by_test true e = All-nil (λ x. situations z stand x ≡ [])
     by_test false e =
-        All-cons (λ x. situations z g s x ≡ []) (colours (numbers_to from to)) []
-        (common_calm z g s (numbers_to from to) (numbers_are_common from to)
+        All-cons (λ x. situations z stand x ≡ []) (colours (numbers_to from to)) []
+        (common_calm z stand (numbers_to from to) (numbers_are_common from to)
         (some_number from to h k (eqb-false from to e)))
-        (All-nil (λ x. situations z g s x ≡ []))
+        (All-nil (λ x. situations z stand x ≡ []))
 
 pub colours_spelled : (from to : ℕ) → IsByte from → IsByte to → AreSpelled (colours_to from to)
 colours_spelled from to h g = by_test (from == to) refl

@@ -1,6 +1,6 @@
 -- What the numbers of colours do to an attribute, part by part.
 use Rattle.std.proofs.Common.{◌≡◌, ℕ, ◌+◌, ◌*◌, ◌/◌, ◌<◌, Bool, true, false, not, ◌&&◌, ◌==◌, refl, ap, ap₂, sym, ◌∙◌}
-use Rattle.std.proofs.Common.{List, [], ◌∷◌, ◌++◌, arith, lit<}
+use Rattle.std.proofs.Common.{List, [], ◌∷◌, ◌++◌, lit<}
 use Rattle.std.specs.Prelude.{◌||◌, if◌then◌else◌, bit_or}
 use Rattle.std.specs.Int.Bits.{and_zero_r}
 use Rattle.std.proofs.Math.Nat.{mod-lt}
@@ -9,7 +9,7 @@ use Rattle.std.proofs.lemmas.List.Sums.{fold-append}
 use Rattle.ans_model.specs.Bytes.{IsByte}
 use Rattle.ans_model.specs.Screen.Attribute.{attribute_after, attribute_after_all}
 use Rattle.ans_redraw.specs.Colours.{foreground, is_bright, background, blinks, colour_number, number_if, changes}
-use Rattle.ans_redraw.specs.Colours.{stays, or_white, anew, numbers_to, is_no_longer}
+use Rattle.ans_redraw.specs.Colours.{stays, anew, numbers_to}
 
 -- the attribute of a foreground, bright, a background and blink
 abbrev pub made : ℕ → Bool → ℕ → Bool → ℕ
@@ -188,23 +188,34 @@ changes_lead from to h g s =
     (or_stays (is_bright from) (is_bright to) both.0) (or_stays (blinks from) (blinks to) both.1)
     ∙ made_of_parts to g
 
-white_leads : (to : ℕ) (numbers : List ℕ) → attribute_after_all 0x07 numbers ≡ to
-    → attribute_after_all 0x07 (or_white numbers) ≡ to
-white_leads to [] e = e
-white_leads to (n ∷ ns) e = e
-
+-- after a 0 the numbers of all parts
 anew_leads : (from to : ℕ) → IsByte to → attribute_after_all from (anew to) ≡ to
 anew_leads from to h =
-    ap (λ (a : ℕ). attribute_after_all a (or_white (changes 0x07 to)))
+    let f = foreground to in
+    let g = background to in
+    let bright : List ℕ = number_if (is_bright to) 1 in
+    let blink : List ℕ = number_if (blinks to) 5 in
+    let front : ℕ = 30 + colour_number f in
+    let back : ℕ = 40 + colour_number g in
+    let rest : List ℕ = front ∷ back ∷ [] in
+    ap (λ (a : ℕ). attribute_after_all a (bright ++ (blink ++ rest)))
     (ap (λ (v : ℕ). bit_or v 0x07) (and_zero_r from))
-    ∙ white_leads to (changes 0x07 to) (changes_lead 0x07 to (omega arith) h refl)
+    ∙ fold-append attribute_after (made 7 false 0 false) bright (blink ++ rest)
+    ∙ ap (λ (a : ℕ). attribute_after_all a (blink ++ rest))
+    (bright_step 7 0 false (is_bright to) false (lit< tt) (lit< tt))
+    ∙ fold-append attribute_after (made 7 (is_bright to) 0 false) blink rest
+    ∙ ap (λ (a : ℕ). attribute_after_all a rest)
+    (blink_step 7 0 (is_bright to) false (blinks to) (lit< tt) (lit< tt))
+    ∙ ap (λ (a : ℕ). attribute_after a back)
+    (foreground_is f 7 0 (is_bright to) (blinks to) (foreground_lt to) (lit< tt) (lit< tt))
+    ∙ background_is g f 0 (is_bright to) (blinks to) (background_lt to) (foreground_lt to) (lit< tt)
+    ∙ made_of_parts to h
 
 -- the numbers lead from each attribute to each
 pub numbers_lead : (from to : ℕ) → IsByte from → IsByte to → attribute_after_all from (numbers_to from to) ≡ to
-numbers_lead from to h g = by_test (stays from to) (is_no_longer (changes from to) (anew to)) refl
+numbers_lead from to h g = by_test (stays from to) refl
   where
-    by_test : (a b : Bool) → stays from to ≡ a
-        → attribute_after_all from (if a && b then changes from to else anew to) ≡ to
-    by_test true true e = changes_lead from to h g e
-    by_test true false e = anew_leads from to g
-    by_test false b e = anew_leads from to g
+    by_test : (a : Bool) → stays from to ≡ a
+        → attribute_after_all from (if a then changes from to else anew to) ≡ to
+    by_test true e = changes_lead from to h g e
+    by_test false e = anew_leads from to g

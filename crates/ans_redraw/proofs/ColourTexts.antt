@@ -1,9 +1,9 @@
 -- How the numbers of colours are spelled.
 use Rattle.std.proofs.Common.{◌≡◌, inr, ℕ, ◌<◌, ◌≤◌, Bool, true, false, ◌&&◌, ◌||◌, ◌==◌, refl, ap, ◌∙◌}
 use Rattle.std.proofs.Common.{List, [], ◌∷◌, ◌++◌, length, map, arith, append_assoc, Ok}
-use Rattle.std.specs.Prelude.{decimal, nat_lt}
+use Rattle.std.specs.Prelude.{decimal, nat_lt, IsTrue}
 use Rattle.std.specs.Fmt.{digits}
-use Rattle.std.specs.Char.{is_ascii_digit}
+use Rattle.std.specs.Char.{is_ascii_digit, is_ascii_alphabetic}
 use Rattle.std.specs.List.{AllZip, AllByRecursion, join_with_byte, list_all, list_any}
 use Rattle.std.specs.Str.Parse.{digits_value}
 use Rattle.std.proofs.lemmas.Bool.{ne_eqb, agree_below_at, eqb-true, ltb-true, and_parts, and_right}
@@ -13,7 +13,7 @@ use Rattle.std.proofs.lemmas.List.Folds.{list_any-append}
 use Rattle.ans_model.specs.Bytes.{escape, bracket, semicolon}
 use Rattle.ans_model.specs.File.Layout.{is_end_mark}
 use Rattle.ans_model.specs.declared.mark.Mark.TheVariants.{Unmarked}
-use Rattle.ans_model.specs.Sequence.TokenKind.{Colours, Forward}
+use Rattle.ans_model.specs.Sequence.TokenKind.{TokenKind, Colours, Forward, Down, Place}
 use Rattle.ans_model.specs.Sequence.Spelling.{Number, Raw, SpellsMember, IsInLimit}
 use Rattle.ans_model.specs.Sequence.Meaning as means
 use Rattle.ans_model.specs.Sequence.Meaning.{meaning}
@@ -93,26 +93,41 @@ numbers_spelled n ns bytes few = inr (record {
   means = numbers_mean n ns;
 })
 
+-- one number and a letter
+module _ (n letter : ℕ) (t : TokenKind) (few : n ≤ 255) where
+  one_number : IsTrue (is_ascii_alphabetic letter)
+      → meaning (record { mark = Unmarked; members = Number n ∷ []; letter = letter }) ≡ Ok t
+      → SpellsToken t (escape ∷ bracket ∷ (decimal n ++ letter ∷ []))
+  one_number is_letter means =
+      let one : IsSpelled n = number_spelled n (omega arith) in
+      inr (record {
+        raw = record { mark = Unmarked; members = Number n ∷ []; letter = letter };
+        spelled = record {
+          loose = record {
+            texts = decimal n ∷ [];
+            members = ((one.some_digit, one.digits_only, one.value), tt);
+            not_one_omitted = λ e. cc;
+            letter = is_letter;
+            whole = refl;
+          };
+          numbers = (omega arith, tt);
+          count = omega arith;
+        };
+        means = means;
+      })
+
 -- a move to the right by a number
 pub number_right : (n : ℕ) → 0 < n → n ≤ 255
     → SpellsToken (Forward n) (escape ∷ bracket ∷ (decimal n ++ 0x43 ∷ []))
-number_right n some few =
-    let one : IsSpelled n = number_spelled n (omega arith) in
-    inr (record {
-      raw = record { mark = Unmarked; members = Number n ∷ []; letter = 0x43 };
-      spelled = record {
-        loose = record {
-          texts = decimal n ∷ [];
-          members = ((one.some_digit, one.digits_only, one.value), tt);
-          not_one_omitted = λ e. cc;
-          letter = refl;
-          whole = refl;
-        };
-        numbers = (omega arith, tt);
-        count = omega arith;
-      };
-      means = rw (ne_eqb n 0 (λ e. omega arith)) refl;
-    })
+number_right n some few = one_number n 0x43 (Forward n) few refl (rw (ne_eqb n 0 (λ e. omega arith)) refl)
+
+-- a move down by a number
+pub number_down : (n : ℕ) → 0 < n → n ≤ 255 → SpellsToken (Down n) (escape ∷ bracket ∷ (decimal n ++ 0x42 ∷ []))
+number_down n some few = one_number n 0x42 (Down n) few refl (rw (ne_eqb n 0 (λ e. omega arith)) refl)
+
+-- the place of a row
+pub number_place : (n : ℕ) → 0 < n → n ≤ 255 → SpellsToken (Place n 1) (escape ∷ bracket ∷ (decimal n ++ 0x48 ∷ []))
+number_place n some few = one_number n 0x48 (Place n 1) few refl (rw (ne_eqb n 0 (λ e. omega arith)) refl)
 
 -- ---- no byte is an end mark
 digits_unmarked : (ds : List ℕ) → list_all is_ascii_digit ds ≡ true → list_any is_end_mark ds ≡ false

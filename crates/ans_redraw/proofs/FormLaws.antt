@@ -1,13 +1,11 @@
 -- The form shows the picture from every start, on every player.
-use Rattle.std.proofs.Common.{◌≡◌, inl, inr, ℕ, zero, suc, ◌+◌, ◌-◌, ◌*◌, ◌<◌, Bool, true, refl, ap, sym, ◌∙◌, subst}
+use Rattle.std.proofs.Common.{◌≡◌, ℕ, zero, suc, ◌-◌, ◌*◌, ◌<◌, Bool, true, refl, ap, sym, ◌∙◌, subst}
 use Rattle.std.proofs.Common.{arith, List, [], ◌∷◌, ◌++◌, length, take, fold, map, replicate}
 use Rattle.std.proofs.Math.Seq.{take-length}
 use Rattle.std.specs.Prelude.{slice_get, slice_index_or, All, bit_or}
 use Rattle.std.specs.List.{list_all}
 use Rattle.std.specs.Int.Bits.{and_zero_r}
 use Rattle.ans_model.specs.declared.cell.Cell.{Cell}
-use Rattle.ans_model.specs.declared.fault.Cause.{Cause}
-use Rattle.ans_model.specs.declared.fault.Cause.TheVariants.{OutsideScreen}
 use Rattle.ans_model.specs.declared.start.Start.{Start}
 use Rattle.ans_model.specs.Sequence.TokenKind.{Clear, Save, Colours, Place, Wrap}
 use Rattle.ans_model.specs.Screen.Attribute.{attribute_after_all}
@@ -16,7 +14,6 @@ use Rattle.ans_model.specs.Screen.Step.{blank_cell, final}
 use Rattle.ans_model.specs.Screen.StartClass.{Covers, none_known, cleared}
 use Rattle.ans_model.specs.Text.ReportText.{rows, rows_of}
 use Rattle.ans_model.specs.Verdict.Good.{Picture, Shows}
-use Rattle.ans_model.specs.Verdict.TokenFault.{HasStaticFault}
 use Rattle.ans_model.proofs.PositionLemmas.{index-lt_stated}
 use Rattle.ans_model.proofs.Slices.{slice_get-append_left}
 use Rattle.ans_players.specs.declared.kind.Kind.{Kind}
@@ -26,10 +23,10 @@ use Rattle.ans_players.specs.Mends.{mending_spelled}
 use Rattle.ans_players.specs.Players.{Behaviour, IsPlayer}
 use Rattle.ans_players.specs.Situations.{Spelled, AreAgreed, spelled, stand_behind}
 use Rattle.ans_players.proofs.Everywhere.{kinds_of, shown_by}
-use Rattle.ans_players.proofs.MendedPlayers.{mending_leaves}
+use Rattle.ans_players.proofs.MendedPlayers.{mending_leaves, named}
 use Rattle.ans_players.proofs.OneSpelling.{one_spelling}
-use Rattle.ans_players.proofs.Spellings.{wrap_on, white_on_black, clear, home, save}
-use Rattle.ans_redraw.specs.Form.{form, form_bytes, picture_drawn}
+use Rattle.ans_players.proofs.Spellings.{wrap_on, reset_to_names, clear, home, save}
+use Rattle.ans_redraw.specs.Form.{form, form_bytes, rows_drawn}
 use Rattle.ans_redraw.specs.Drawable.{shown_kinds, IsDrawable, BytesAreAgreed}
 use Rattle.ans_redraw.specs.Laws.{FormIsRead, FormIsGood, FormIsAgreed, FormIsShown}
 use Rattle.ans_redraw.specs.Laws.{FormHasNoEndMark, FormEndsGrey, FormIsSame, FormFeedsOn}
@@ -43,22 +40,11 @@ use Rattle.ans_redraw.proofs.Pieces.{stand}
 use Rattle.ans_redraw.proofs.PictureDrawn.{IsAllDrawn, picture_leads}
 use Rattle.ans_redraw.proofs.ReadBack.{read_back}
 use Rattle.ans_redraw.proofs.RowDrawn.{IsShownCell}
+use Rattle.ans_redraw.proofs.Ways.{place_is_within}
 
 -- ---- the mending
-reset : (a : ℕ) → attribute_after_all a (0 ∷ []) ≡ 0x07
-reset a = ap (λ (v : ℕ). bit_or v 0x07) (and_zero_r a)
-
--- home lies on each screen
-home_is_within : (z : Size) (cause : Cause) → 0 < z.width → ¬ HasStaticFault z (Place 1 1) cause
-home_is_within z OutsideScreen w (inl below) = absurd (none below)
-  where
-    none : z.lines + 1 < 1 → ⊥
-    none h = omega arith
-home_is_within z OutsideScreen w (inr beside) = absurd (none w beside)
-  where
-    none : 0 < z.width → z.width < 1 → ⊥
-    none h g = omega arith
-home_is_within z _ w h = h
+reset : (a : ℕ) → attribute_after_all a (0 ∷ 37 ∷ 40 ∷ []) ≡ 0x07
+reset a = ap (λ (v : ℕ). attribute_after_all (bit_or v 0x07) (37 ∷ 40 ∷ [])) (and_zero_r a)
 
 module _ (z : Size) (agreed : Kind → Bool) (some : 0 < z.width) where
   mending_goes : (s : State) → AllGoWell z agreed (firmly s) mending_spelled
@@ -72,7 +58,7 @@ module _ (z : Size) (agreed : Kind → Bool) (some : 0 < z.width) where
     },
     (
       record {
-        spelled = white_on_black;
+        spelled = reset_to_names;
         unmarked = refl;
         allowed = record { no_static_fault = λ cause f. f; stays_above = tt };
         feeds_on = tt;
@@ -90,7 +76,10 @@ module _ (z : Size) (agreed : Kind → Bool) (some : 0 < z.width) where
           record {
             spelled = home;
             unmarked = refl;
-            allowed = record { no_static_fault = λ cause. home_is_within z cause some; stays_above = tt };
+            allowed = record {
+              no_static_fault = λ cause. place_is_within z 1 cause (omega arith) some;
+              stays_above = tt;
+            };
             feeds_on = tt;
             agreed_there = refl;
           },
@@ -109,7 +98,7 @@ module _ (z : Size) (agreed : Kind → Bool) (some : 0 < z.width) where
     ),
   )
 
-  mending_leads : (s : State) → Leads z agreed (firmly s) mending_spelled (firmly (cleared z))
+  mending_leads : (s : State) → Leads z agreed (firmly s) mending_spelled (named z)
   mending_leads s = record { well = mending_goes s; leads = mending_leaves z s }
 
 -- behind it the state is the same from all starts, and it neither prints nor erases
@@ -117,7 +106,7 @@ same_behind : (z : Size) (ys : List Spelled) → SameBefore z (mending_spelled +
 same_behind z ys zero t e marks s r =
     let same : t ≡ Wrap true = cc in absurd (subst Marks same marks)
 same_behind z ys (suc zero) t e marks s r =
-    let same : t ≡ Colours (0 ∷ []) = cc in absurd (subst Marks same marks)
+    let same : t ≡ Colours (0 ∷ 37 ∷ 40 ∷ []) = cc in absurd (subst Marks same marks)
 same_behind z ys (suc (suc zero)) t e marks s r =
     let same : t ≡ Clear = cc in absurd (subst Marks same marks)
 same_behind z ys (suc (suc (suc zero))) t e marks s r =
@@ -128,10 +117,12 @@ same_behind z ys (suc (suc (suc (suc (suc j))))) t e marks s r =
     ap (λ (h : Stand). final z h.state (take j (kinds_of ys))) (mending_leaves z s ∙ sym (mending_leaves z r))
 
 -- ---- the form
-cleared_is : (z : Size) (cells : List Cell) → firmly (cleared z) ≡ stand z cells Firm 0 (at 0 0) 0x07
+cleared_is : (z : Size) (cells : List Cell) → named z ≡ stand z cells Firm (0 * z.width) (at 0 0) 0x07
 cleared_is z cells =
+    let none : 0 * z.width ≡ 0 = omega arith in
     let all : cell_count z ≡ cell_count z - 0 = omega arith in
-    ap (λ (n : ℕ). firmly (record (cleared z) { screen = replicate n (blank_cell 0x07) })) all
+    ap (λ (n : ℕ). record (named z) { state = record (cleared z) { screen = replicate n (blank_cell 0x07) } }) all
+    ∙ ap (λ (k : ℕ). stand z cells Firm k (at 0 0) 0x07) (sym none)
 
 module _ (agreed : Kind → Bool) (z : Size) (picture : Picture) (drawable : IsDrawable z picture)
     (bytes : BytesAreAgreed agreed picture) where
@@ -145,25 +136,21 @@ module _ (agreed : Kind → Bool) (z : Size) (picture : Picture) (drawable : IsD
     kinds = bytes k d lt;
   }
 
-  rows_drawn : IsAllDrawn z cells agreed (firmly (cleared z)) (picture_drawn (rows_of picture))
-  rows_drawn =
-      let lines : z.lines ≡ suc (z.lines - 1) = omega (arith, drawable.size.some_lines) in
-      let all = picture_leads z cells agreed drawable.is_picture.count drawable.size.some_columns cells_shown
-      (z.lines - 1) lines in
-      subst (λ (y : Size). IsAllDrawn z cells agreed (firmly (cleared z)) (picture_drawn (rows y.width y.lines cells)))
+  rows_lead : IsAllDrawn z cells agreed (named z) (rows_drawn 0 0x07 (rows_of picture))
+  rows_lead =
+      let all = picture_leads z cells agreed drawable.is_picture.count drawable.size.some_columns cells_shown in
+      subst (λ (y : Size). IsAllDrawn z cells agreed (named z) (rows_drawn 0 0x07 (rows y.width y.lines cells)))
       (sym drawable.is_picture.size)
-      (subst (λ (n : ℕ). IsAllDrawn z cells agreed (firmly (cleared z)) (picture_drawn (rows z.width n cells)))
-      (sym lines)
-      (subst (λ (h : Stand). IsAllDrawn z cells agreed h (picture_drawn (rows z.width (suc (z.lines - 1)) cells)))
-      (sym (cleared_is z cells)) all))
+      (subst (λ (h : Stand). IsAllDrawn z cells agreed h (rows_drawn 0 0x07 (rows z.width z.lines cells)))
+      (sym (cleared_is z cells)) all)
 
   form_drawn : (s : State) → IsAllDrawn z cells agreed (firmly s) (form picture)
   form_drawn s = record {
-    there = rows_drawn.there;
-    leads = both_lead z agreed (firmly s) (firmly (cleared z)) rows_drawn.there mending_spelled
-        (picture_drawn (rows_of picture)) (mending_leads z agreed drawable.size.some_columns s) rows_drawn.leads;
-    screen = rows_drawn.screen;
-    attribute = rows_drawn.attribute;
+    there = rows_lead.there;
+    leads = both_lead z agreed (firmly s) (named z) rows_lead.there mending_spelled
+        (rows_drawn 0 0x07 (rows_of picture)) (mending_leads z agreed drawable.size.some_columns s) rows_lead.leads;
+    screen = rows_lead.screen;
+    attribute = rows_lead.attribute;
   }
 
   form_goes : (s : State) → AllGoWell z agreed (firmly s) (form picture)
@@ -222,7 +209,7 @@ form_is_good z class picture h =
       tokens = kinds_of (form picture);
       reads = (map (λ x. x.text) (form picture), read);
       plays = all_play_well z any_kind (form picture) (form_goes any_kind z picture h (any_agreed picture))
-          (same_behind z (picture_drawn (rows_of picture))) class;
+          (same_behind z (rows_drawn 0 0x07 (rows_of picture))) class;
       shows = form_shows any_kind z class picture h (any_agreed picture);
     }
 
@@ -239,7 +226,7 @@ pub form_is_shown : (z : Size) (agreed : Kind → Bool) (p : Behaviour) → IsPl
 form_is_shown z agreed p player picture h bytes =
     shown_by z agreed p player none_known (form picture) picture
     (all_play_well z agreed (form picture) (form_goes agreed z picture h bytes)
-    (same_behind z (picture_drawn (rows_of picture))) none_known)
+    (same_behind z (rows_drawn 0 0x07 (rows_of picture))) none_known)
     (form_shows agreed z none_known picture h bytes)
     (agreed_where_bytes_are agreed z none_known picture h bytes)
 

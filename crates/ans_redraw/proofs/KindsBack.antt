@@ -1,7 +1,7 @@
 -- The kinds of the picture's own bytes do arise in the form.
-use Rattle.std.proofs.Common.{◌≡◌, ℕ, zero, suc, ◌+◌, ◌-◌, ◌*◌, Bool, true, false, refl, ap, sym, ◌∙◌, arith, subst}
+use Rattle.std.proofs.Common.{◌≡◌, ℕ, zero, suc, ◌+◌, ◌*◌, Bool, true, false, not, refl, ap, sym, ◌∙◌, arith, subst}
 use Rattle.std.proofs.Common.{List, [], ◌∷◌, ◌++◌, length, take, drop, Some, All}
-use Rattle.std.specs.Prelude.{slice_get, ◌<◌, ◌==◌, if◌then◌else◌}
+use Rattle.std.specs.Prelude.{slice_get, ◌<◌, if◌then◌else◌}
 use Rattle.std.specs.List.{AllByRecursion, list_all}
 use Rattle.std.proofs.lemmas.Bool.{and_parts}
 use Rattle.std.proofs.lemmas.List.{length-drop, take-append-drop}
@@ -18,12 +18,13 @@ use Rattle.ans_model.proofs.StartLemmas.{low_is_start}
 use Rattle.ans_players.specs.declared.kind.Kind.{Kind}
 use Rattle.ans_players.specs.Grips.{Stand, is_held, loose_kinds}
 use Rattle.ans_players.specs.Mends.{mending_spelled}
-use Rattle.ans_players.specs.Situations.{Spelled, AreAgreed, is_agreed, spelling_kinds, stand_of}
+use Rattle.ans_players.specs.Situations.{Spelled, AreAgreed, is_agreed, name_kinds, spelling_kinds, stand_of}
 use Rattle.ans_redraw.specs.Colours.{colours_to}
 use Rattle.ans_redraw.specs.Drawable.{IsDrawable, BytesAreAgreed, shown_kinds}
 use Rattle.ans_redraw.specs.declared.pen.Pen.{Pen}
-use Rattle.ans_redraw.specs.Form.{pen, is_blank, is_passed, glyph, over, drawn, pen_behind, forced_in, pen_below}
-use Rattle.ans_redraw.specs.Form.{to_row_below, set_back, are_blank, rows_drawn, picture_drawn, form}
+use Rattle.ans_redraw.specs.Form.{pen, is_blank, glyph, over, drawn, pen_behind, opens_below, are_some, before_row}
+use Rattle.ans_redraw.specs.Form.{at_row, after_row, row_drawn, attribute_after_row, set_back, are_blank, rows_drawn}
+use Rattle.ans_redraw.specs.Form.{form}
 use Rattle.ans_redraw.proofs.PictureDrawn.{suc_rows, nothing_left}
 use Rattle.ans_redraw.proofs.RowDrawn.{blank_is}
 
@@ -56,8 +57,9 @@ module _ (agreed : Kind → Bool) where
       → is_agreed agreed z h (record { token = t; text = text }) ≡ true → GlyphAgreed t
   token_agreed z h (Glyph byte) text e =
       first_agreed (shown_kinds byte) (spelling_kinds h.state (Glyph byte) text)
+      (first_agreed (shown_kinds byte ++ spelling_kinds h.state (Glyph byte) text) (name_kinds h.names (Glyph byte))
       (later_agreed (if is_held h.grip (Glyph byte) then [] else loose_kinds h.grip)
-      (shown_kinds byte ++ spelling_kinds h.state (Glyph byte) text) e)
+      ((shown_kinds byte ++ spelling_kinds h.state (Glyph byte) text) ++ name_kinds h.names (Glyph byte)) e))
   token_agreed z h t text e = tt
 
   each_of : (xs : List Spelled) → ((k : ℕ) (x : Spelled) → slice_get xs k ≡ Some x → GlyphAgreed x.token)
@@ -95,62 +97,58 @@ module _ (agreed : Kind → Bool) where
       let both = and_parts (list_all is_blank row) (are_blank rs) h in
       (blanks_agreed row both.0, all_blank_agreed rs both.1)
 
-  row_agreed : (forced : ℕ) (p : Pen) (row : List Cell) → AllGlyphs (drawn forced p row)
-      → AllByRecursion CellAgreed row
-  row_agreed forced p [] h = tt
-  row_agreed forced p (c ∷ row) h =
-      by_test (is_passed forced c) refl (row_agreed (forced - 1) (pen p.attribute (p.passed + 1)) row)
-      (row_agreed (forced - 1) (pen c.attribute 0) row) h
+  row_agreed : (p : Pen) (row : List Cell) → AllGlyphs (drawn p row) → AllByRecursion CellAgreed row
+  row_agreed p [] h = tt
+  row_agreed p (c ∷ row) h =
+      by_test (is_blank c) refl (row_agreed (pen p.attribute (p.passed + 1)) row) (row_agreed (pen c.attribute 0) row) h
     where
-      by_test : (t : Bool) → is_passed forced c ≡ t
-          → (AllGlyphs (drawn (forced - 1) (pen p.attribute (p.passed + 1)) row) → AllByRecursion CellAgreed row)
-          → (AllGlyphs (drawn (forced - 1) (pen c.attribute 0) row) → AllByRecursion CellAgreed row)
+      by_test : (t : Bool) → is_blank c ≡ t
+          → (AllGlyphs (drawn (pen p.attribute (p.passed + 1)) row) → AllByRecursion CellAgreed row)
+          → (AllGlyphs (drawn (pen c.attribute 0) row) → AllByRecursion CellAgreed row)
           → AllGlyphs ((if t then []
           else over p.attribute p.passed ++ (colours_to p.attribute c.attribute ++ glyph c.byte ∷ []))
-          ++ drawn (forced - 1) (if t then pen p.attribute (p.passed + 1) else pen c.attribute 0) row)
+          ++ drawn (if t then pen p.attribute (p.passed + 1) else pen c.attribute 0) row)
           → CellAgreed c × AllByRecursion CellAgreed row
-      by_test true e passed printed g = (blank_agreed c (and_parts (forced == 0) (is_blank c) e).1, passed g)
+      by_test true e passed printed g = (blank_agreed c e, passed g)
       by_test false e passed printed g =
           let way : List Spelled = colours_to p.attribute c.attribute ++ glyph c.byte ∷ [] in
-          let rest : List Spelled = drawn (forced - 1) (pen c.attribute 0) row in
+          let rest : List Spelled = drawn (pen c.attribute 0) row in
           let here = glyphs_behind (colours_to p.attribute c.attribute) (glyph c.byte ∷ [])
           (glyphs_behind (over p.attribute p.passed) way
           (glyphs_before (over p.attribute p.passed ++ way) rest g)) in
           (here.0, printed (glyphs_behind (over p.attribute p.passed ++ way) rest g))
 
-  rows_agreed : (p : Pen) (rs : List (List Cell)) → AllGlyphs (rows_drawn p rs)
-      → AllByRecursion (AllByRecursion CellAgreed) rs
-  rows_agreed p [] h = tt
-  rows_agreed p (row ∷ rs) h =
-      by_test (are_blank (row ∷ rs)) refl
-      (rows_agreed (pen_behind (forced_in p row) (pen_below p) row) rs) h
-    where
-      forced : ℕ
-      forced = forced_in p row
+  -- a row, with what stands before and after it
+  whole_row_agreed : (opens follows : Bool) (r a : ℕ) (row : List Cell) → AllGlyphs (row_drawn opens follows r a row)
+      → AllByRecursion CellAgreed row
+  whole_row_agreed opens follows r a row h =
+      let p : Pen = pen (at_row opens a) 0 in
+      let after : List Spelled = after_row opens follows r (pen_behind p row).attribute in
+      row_agreed p row
+      (glyphs_before (drawn p row) after (glyphs_behind (before_row opens a) (drawn p row ++ after) h))
 
-      q : Pen
-      q = pen_behind (forced_in p row) (pen_below p) row
+  rows_agreed : (r a : ℕ) (rs : List (List Cell)) → AllGlyphs (rows_drawn r a rs)
+      → AllByRecursion (AllByRecursion CellAgreed) rs
+  rows_agreed r a [] h = tt
+  rows_agreed r a (row ∷ rs) h = by_test (are_blank (row ∷ rs)) refl (rows_agreed (r + 1) b rs) h
+    where
+      opens : Bool
+      opens = opens_below (not (are_blank rs)) (are_some rs) row
+
+      b : ℕ
+      b = attribute_after_row (opens_below (not (are_blank rs)) (are_some rs) row) (not (are_blank rs)) a row
 
       by_test : (t : Bool) → are_blank (row ∷ rs) ≡ t
-          → (AllGlyphs (rows_drawn q rs) → AllByRecursion (AllByRecursion CellAgreed) rs)
-          → AllGlyphs (if t then set_back p.attribute
-          else to_row_below p ++ (drawn forced (pen_below p) row ++ rows_drawn q rs))
+          → (AllGlyphs (rows_drawn (r + 1) b rs) → AllByRecursion (AllByRecursion CellAgreed) rs)
+          → AllGlyphs (if t then set_back
+          else row_drawn opens (not (are_blank rs)) r a row ++ rows_drawn (r + 1) b rs)
           → AllByRecursion (AllByRecursion CellAgreed) (row ∷ rs)
       by_test true e others g = all_blank_agreed (row ∷ rs) e
       by_test false e others g =
-          let here = glyphs_behind (to_row_below p) (drawn forced (pen_below p) row ++ rows_drawn q rs) g in (
-            row_agreed forced (pen_below p) row (glyphs_before (drawn forced (pen_below p) row) (rows_drawn q rs) here),
-            others (glyphs_behind (drawn forced (pen_below p) row) (rows_drawn q rs) here),
+          let here : List Spelled = row_drawn opens (not (are_blank rs)) r a row in (
+            whole_row_agreed opens (not (are_blank rs)) r a row (glyphs_before here (rows_drawn (r + 1) b rs) g),
+            others (glyphs_behind here (rows_drawn (r + 1) b rs) g),
           )
-
-  picture_agreed : (rs : List (List Cell)) → AllGlyphs (picture_drawn rs)
-      → AllByRecursion (AllByRecursion CellAgreed) rs
-  picture_agreed [] h = tt
-  picture_agreed (row ∷ rs) h =
-      let q : Pen = pen_behind 0 (pen 0x07 0) row in (
-        row_agreed 0 (pen 0x07 0) row (glyphs_before (drawn 0 (pen 0x07 0) row) (rows_drawn q rs) h),
-        rows_agreed q rs (glyphs_behind (drawn 0 (pen 0x07 0) row) (rows_drawn q rs) h),
-      )
 
   -- ---- the picture
   all_from : (cells : List Cell) → AllByRecursion CellAgreed cells → All CellAgreed cells
@@ -177,8 +175,8 @@ module _ (agreed : Kind → Bool) where
       → AreAgreed agreed z class (form picture) → BytesAreAgreed agreed picture
   bytes_agreed z class picture h each =
       let glyphs = all_glyphs z class (form picture) h.size.some_columns each in
-      let in_rows = picture_agreed (rows_of picture)
-      (glyphs_behind mending_spelled (picture_drawn (rows_of picture)) glyphs) in
+      let in_rows = rows_agreed 0 0x07 (rows_of picture)
+      (glyphs_behind mending_spelled (rows_drawn 0 0x07 (rows_of picture)) glyphs) in
       let count : length picture.cells ≡ picture.size.lines * picture.size.width =
       h.is_picture.count ∙ ap (λ (y : Size). y.lines * y.width) (sym h.is_picture.size) in
       all_from picture.cells (from_rows picture.size.width picture.size.lines picture.cells count in_rows)

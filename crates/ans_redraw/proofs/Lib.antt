@@ -13,10 +13,11 @@ pub mod FormLaws
 pub mod PrintedBytes
 pub mod PrintedPictures
 pub mod Redrawn
-pub mod FormLengths
+pub mod ColourLengths
 pub mod KindsBack
 pub mod NumberTexts
 pub mod WayTexts
 pub mod RowTexts
+pub mod RowEnds
 pub mod RowsGiven
 pub mod CopyLemmas

@@ -22,14 +22,9 @@ use Rattle.ans_players.proofs.Spellings.{of_byte, one_right}
 use Rattle.ans_redraw.specs.Form.{glyph, skip, over_few}
 use Rattle.ans_redraw.specs.Drawable.{IsPrinted, shown_kinds}
 use Rattle.ans_redraw.proofs.HalfDrawn.{half, half_printed, next_is, blanks_are_there}
+use Rattle.ans_redraw.proofs.ColourLaws.{named}
 use Rattle.ans_redraw.proofs.ColourTexts.{number_right, unmarked_both, number_unmarked}
 use Rattle.ans_redraw.proofs.Going.{Leads, stays, one_leads, both_lead}
-
--- a byte may be printed: players stand firm, or behind a wrap
-abbrev pub MayPrint : Grip → Type 0
-MayPrint Firm = Unit {0}
-MayPrint Wrapped = Unit {0}
-MayPrint g = ⊥
 
 module _ (z : Size) (cells : List Cell) where
   -- k cells are drawn
@@ -37,7 +32,7 @@ module _ (z : Size) (cells : List Cell) where
   state_at k p a = record { screen = half z cells k; cursor = p; saved = at 0 0; attribute = a; wrap = true }
 
   abbrev pub stand : Grip → ℕ → Position → ℕ → Stand
-  stand g k p a = record { grip = g; state = state_at k p a }
+  stand g k p a = record { grip = g; names = named; state = state_at k p a }
 
   -- behind a byte that was printed before column c of row r
   abbrev pub place : ℕ → ℕ → ℕ → ℕ → Stand
@@ -98,6 +93,7 @@ module _ (z : Size) (cells : List Cell) (agreed : Kind → Bool) where
   grip_is : (k r c a : ℕ) (t : Bool)
       → ◌≡◌ {A = Stand} (record {
         grip = grip_behind_print (state_at z cells k (if t then at r (c + 1) else at (r + 1) 0) a);
+        names = named;
         state = state_at z cells k (if t then at r (c + 1) else at (r + 1) 0) a;
       })
       (if t then stand z cells Firm k (at r (c + 1)) a else stand z cells Wrapped k (at (r + 1) 0) a)
@@ -106,37 +102,30 @@ module _ (z : Size) (cells : List Cell) (agreed : Kind → Bool) where
       rw more refl
   grip_is k r c a false = refl
 
-  behind_glyph : (g : Grip) (k r c b a : ℕ) (rest : List Cell) → MayPrint g → IsAt z cells k r c
-      → drop k cells ≡ cell b a ∷ rest
-      → stand_behind z (stand z cells g k (at r c) a) (glyph b) ≡ place z cells (suc k) r (c + 1) a
-  behind_glyph Firm k r c b a rest may h e =
-      ap (λ (v : State). record { grip = grip_behind_print v; state = v }) (put_is k r c b a rest h e)
+  behind_glyph : (k r c b a : ℕ) (rest : List Cell) → IsAt z cells k r c → drop k cells ≡ cell b a ∷ rest
+      → stand_behind z (stand z cells Firm k (at r c) a) (glyph b) ≡ place z cells (suc k) r (c + 1) a
+  behind_glyph k r c b a rest h e =
+      ap (λ (v : State). record { grip = grip_behind_print v; names = named; state = v }) (put_is k r c b a rest h e)
       ∙ grip_is (suc k) r c a (nat_lt (c + 1) z.width)
-  behind_glyph Wrapped k r c b a rest may h e =
-      ap (λ (v : State). record { grip = grip_behind_print v; state = v }) (put_is k r c b a rest h e)
-      ∙ grip_is (suc k) r c a (nat_lt (c + 1) z.width)
-  behind_glyph _ k r c b a rest may h e = absurd may
 
-  glyph_agreed : (g : Grip) (s : State) (b : ℕ) → MayPrint g → list_all agreed (shown_kinds b) ≡ true
-      → is_agreed agreed z (record { grip = g; state = s }) (glyph b) ≡ true
-  glyph_agreed Firm s b may h = rw (append-nil (shown_kinds b)) h
-  glyph_agreed Wrapped s b may h = rw (append-nil (shown_kinds b)) h
-  glyph_agreed _ s b may h = absurd may
+  glyph_agreed : (s : State) (b : ℕ) → list_all agreed (shown_kinds b) ≡ true
+      → is_agreed agreed z (record { grip = Firm; names = named; state = s }) (glyph b) ≡ true
+  glyph_agreed s b h = rw (append-nil (shown_kinds b ++ []), append-nil (shown_kinds b)) h
 
-  pub glyph_leads : (g : Grip) (k r c b a : ℕ) (rest : List Cell) → MayPrint g → IsAt z cells k r c
-      → drop k cells ≡ cell b a ∷ rest → IsPrinted b → list_all agreed (shown_kinds b) ≡ true
-      → Leads z agreed (stand z cells g k (at r c) a) (glyph b ∷ []) (place z cells (suc k) r (c + 1) a)
-  glyph_leads g k r c b a rest may h e is_printed shown =
-      one_leads z agreed (stand z cells g k (at r c) a) (glyph b) (place z cells (suc k) r (c + 1) a)
+  pub glyph_leads : (k r c b a : ℕ) (rest : List Cell) → IsAt z cells k r c → drop k cells ≡ cell b a ∷ rest
+      → IsPrinted b → list_all agreed (shown_kinds b) ≡ true
+      → Leads z agreed (stand z cells Firm k (at r c) a) (glyph b ∷ []) (place z cells (suc k) r (c + 1) a)
+  glyph_leads k r c b a rest h e is_printed shown =
+      one_leads z agreed (stand z cells Firm k (at r c) a) (glyph b) (place z cells (suc k) r (c + 1) a)
       (record {
         spelled = of_byte b (Glyph b) is_printed.is_byte is_printed.not_escape
             (sym is_printed.means_itself);
         unmarked = rw (ne_eqb b end_mark is_printed.not_end_mark) refl;
         allowed = record { no_static_fault = λ cause f. f; stays_above = λ same. omega (arith, h.row_stated) };
         feeds_on = tt;
-        agreed_there = glyph_agreed g (state_at z cells k (at r c) a) b may shown;
+        agreed_there = glyph_agreed (state_at z cells k (at r c) a) b shown;
       })
-      (behind_glyph g k r c b a rest may h e)
+      (behind_glyph k r c b a rest h e)
 
   -- ---- the way
   -- before the last column a printed byte leaves players firm
@@ -182,7 +171,7 @@ module _ (z : Size) (cells : List Cell) (agreed : Kind → Bool) where
       (stand z cells Firm (suc k) (at r (c + 1)) 0x07) =
       subst (λ (v : Stand). Leads z agreed (stand z cells Firm k (at r c) 0x07) (glyph blank ∷ []) v)
       (place_is (suc k) r (c + 1) 0x07 (omega arith))
-      (glyph_leads Firm k r c blank 0x07 (replicate n (blank_cell 0x07) ++ rest) tt h e blank_printed refl) in
+      (glyph_leads k r c blank 0x07 (replicate n (blank_cell 0x07) ++ rest) h e blank_printed refl) in
       let next = next_is k cells (blank_cell 0x07) (replicate n (blank_cell 0x07) ++ rest) e in
       let further : IsAt z cells (suc k) r (c + 1) =
       record { index_is = omega (arith, h.index_is); row_stated = h.row_stated; column = omega arith } in

@@ -1,28 +1,35 @@
 -- The rows of a picture, as they are given.
-use Rattle.std.proofs.Common.{◌≡◌, ℕ, zero, suc, ◌+◌, ◌-◌, ◌<◌, ◌≤◌, Bool, true, false, ◌&&◌, refl, ap}
-use Rattle.std.proofs.Common.{ap₂, sym, ◌∙◌, arith, List, [], ◌∷◌, ◌++◌, length, drop, get_or, append_assoc, subst}
-use Rattle.std.specs.Prelude.{◌||◌}
+use Rattle.std.proofs.Common.{◌≡◌, inl, inr, ℕ, zero, suc, ◌+◌, ◌-◌, ◌*◌, ◌<◌, ◌≤◌, Bool, true, false, ◌&&◌, not, refl}
+use Rattle.std.proofs.Common.{ap, ap₂, sym, ◌∙◌, arith, List, [], ◌∷◌, ◌++◌, length, drop, get_or, append_assoc}
+use Rattle.std.proofs.Common.{subst, codes}
+use Rattle.std.specs.Prelude.{nat_lt, ◌||◌}
+use Rattle.std.specs.Fmt.{digits}
 use Rattle.std.specs.List.{list_all}
 use Rattle.std.specs.Simd.Lanes.{zip2}
-use Rattle.std.proofs.lemmas.Bool.{and_right}
-use Rattle.std.proofs.lemmas.List.{drop_more, drop_all, length-drop, get_or-drop}
+use Rattle.std.proofs.lemmas.Bool.{and_right, cases_lt, lt-ltb, le-ltb}
+use Rattle.std.proofs.lemmas.List.{drop_more, drop_all, length-take, length-drop, length-map, get_or-drop}
+use Rattle.std.proofs.lemmas.Nat.{mul-le}
+use Rattle.std.proofs.lemmas.Simd.{get_or-zip2}
+use Rattle.ans_model.specs.Bytes.{escape}
 use Rattle.ans_model.specs.declared.cell.Cell.{Cell}
 use Rattle.ans_model.specs.Screen.State.{cell}
+use Rattle.ans_model.specs.Screen.Step.{blank_cell}
 use Rattle.ans_model.specs.Text.ReportText.{rows, rows_of}
-use Rattle.ans_model.specs.Verdict.Good.{Picture}
+use Rattle.ans_model.specs.Verdict.Good.{Picture, IsPictureOf}
 use Rattle.ans_players.specs.Situations.{Spelled}
 use Rattle.ans_players.specs.Mends.{mending_spelled}
 use Rattle.ans_play.specs.Shown.{attributes_of_row, bytes_of_row, cells_of_row}
 use Rattle.ans_play.proofs.PictureRows.{row_at, within_rows}
 use Rattle.ans_write.proofs.RowTexts.{cells_zipped}
+use Rattle.ans_redraw.specs.Form.{are_blank, are_some, is_blank, last_cell, opens_below, row_drawn, attribute_after_row}
 use Rattle.ans_redraw.specs.declared.pen.Pen.{Pen}
-use Rattle.ans_redraw.specs.Form.{drawn, pen, pen_behind, is_coloured, begins_coloured, has_wrapped, forced_in}
-use Rattle.ans_redraw.specs.Form.{to_row_below, pen_below, set_back, are_blank, is_blank, rows_drawn, texts}
-use Rattle.ans_redraw.specs.Form.{form_bytes, picture_drawn}
+use Rattle.ans_redraw.specs.Form.{pen, pen_behind, drawn, is_coloured, at_row, below_row, before_row, after_row}
+use Rattle.ans_redraw.specs.Form.{rows_drawn, texts, form_bytes}
 use Rattle.ans_redraw.proofs.WayTexts.{texts_both}
+use Rattle.ans_redraw.proofs.PictureDrawn.{suc_rows}
 
--- ---- what must be printed
-pub zipped_length : (bytes attributes : List ℕ) → length attributes ≡ length bytes
+-- ---- the last cell
+zipped_length : (bytes attributes : List ℕ) → length attributes ≡ length bytes
     → length (zip2 cell bytes attributes) ≡ length bytes
 zipped_length [] [] same = refl
 zipped_length [] (a ∷ attributes) same = refl
@@ -30,27 +37,16 @@ zipped_length (b ∷ bytes) [] same = absurd (let no : ⊥ = omega arith in no)
 zipped_length (b ∷ bytes) (a ∷ attributes) same =
     ap (λ (n : ℕ). suc n) (zipped_length bytes attributes (omega arith))
 
-pub zipped_begins : (bytes attributes : List ℕ) → 0 < length bytes → length attributes ≡ length bytes
-    → begins_coloured (zip2 cell bytes attributes) ≡ is_coloured (get_or attributes 0 0)
-zipped_begins [] attributes some same = absurd (let no : ⊥ = omega arith in no)
-zipped_begins (b ∷ bytes) [] some same = absurd (let no : ⊥ = omega arith in no)
-zipped_begins (b ∷ bytes) (a ∷ attributes) some same = refl
-
-pub none_forced : (p : Pen) (row : List Cell) → has_wrapped p ≡ false → 0 ≡ forced_in p row
-none_forced p row h = rw h refl
-
-pub all_forced : (p : Pen) (bytes attributes : List ℕ) → 0 < length bytes → length attributes ≡ length bytes
-    → has_wrapped p ≡ true → (is_coloured p.attribute || is_coloured (get_or attributes 0 0)) ≡ true
-    → length bytes ≡ forced_in p (zip2 cell bytes attributes)
-all_forced p bytes attributes some same wrapped coloured =
-    sym (zipped_length bytes attributes same)
-    ∙ rw (wrapped, zipped_begins bytes attributes some same, coloured) refl
-
-pub first_forced : (p : Pen) (bytes attributes : List ℕ) → 0 < length bytes → length attributes ≡ length bytes
-    → has_wrapped p ≡ true → (is_coloured p.attribute || is_coloured (get_or attributes 0 0)) ≡ false
-    → 1 ≡ forced_in p (zip2 cell bytes attributes)
-first_forced p bytes attributes some same wrapped coloured =
-    rw (wrapped, zipped_begins bytes attributes some same, coloured) refl
+-- that of a row, by its bytes and its attributes
+pub last_zipped : (bytes attributes : List ℕ) (width : ℕ) → length bytes ≡ width → length attributes ≡ width
+    → 0 < width
+    → cell (get_or bytes (width - 1) 0) (get_or attributes (width - 1) 0) ≡ last_cell (zip2 cell bytes attributes)
+last_zipped bytes attributes width is_bytes is_attributes some =
+    let long : length (zip2 cell bytes attributes) ≡ length bytes =
+    zipped_length bytes attributes (is_attributes ∙ sym is_bytes) in
+    let index : width - 1 ≡ length (zip2 cell bytes attributes) - 1 = omega arith in
+    sym (get_or-zip2 cell bytes attributes (width - 1) 0 0 (blank_cell 0x07) (omega arith) (omega arith))
+    ∙ ap (λ (i : ℕ). get_or (zip2 cell bytes attributes) i (blank_cell 0x07)) index
 
 -- ---- the rows of a picture
 rows_length : (w l : ℕ) (cells : List Cell) → length (rows w l cells) ≡ l
@@ -73,6 +69,25 @@ pub row_zipped : (p : Picture) (i : ℕ) (bytes attributes : List ℕ) → bytes
     → attributes ≡ attributes_of_row p i → zip2 cell bytes attributes ≡ cells_of_row p i
 row_zipped p i bytes attributes is_bytes is_attributes =
     ap₂ (λ (x y : List ℕ). zip2 cell x y) is_bytes is_attributes ∙ cells_zipped (cells_of_row p i)
+
+-- a row is as long as the picture is wide
+row_long : (p : Picture) (i : ℕ) → IsPictureOf p.size p → i < p.size.lines
+    → length (cells_of_row p i) ≡ p.size.width
+row_long p i whole lt =
+    let w : ℕ = p.size.width in
+    let sum : suc i * w ≡ w + i * w = suc_rows i w in
+    let le : suc i * w ≤ p.size.lines * w = mul-le (suc i) w p.size.lines w (omega arith) (omega arith) in
+    simp (length-take, length-drop) (omega (arith, whole.count))
+
+pub bytes_long : (p : Picture) (i : ℕ) (bytes : List ℕ) → IsPictureOf p.size p → i < p.size.lines
+    → bytes ≡ bytes_of_row p i → length bytes ≡ p.size.width
+bytes_long p i bytes whole lt is =
+    ap length is ∙ length-map (cells_of_row p i) (λ (c : Cell). c.byte) ∙ row_long p i whole lt
+
+pub attributes_long : (p : Picture) (i : ℕ) (attributes : List ℕ) → IsPictureOf p.size p → i < p.size.lines
+    → attributes ≡ attributes_of_row p i → length attributes ≡ p.size.width
+attributes_long p i attributes whole lt is =
+    ap length is ∙ length-map (cells_of_row p i) (λ (c : Cell). c.attribute) ∙ row_long p i whole lt
 
 -- ---- blank rows
 pub blank_from : (p : Picture) (i : ℕ) → i < p.size.lines → list_all is_blank (cells_of_row p i) ≡ true
@@ -101,60 +116,101 @@ not_blank_from p i j le lt h =
     there = omega arith
 
 -- ---- what is given
--- below the last row that is drawn
-pub set_back_ends : (p : Pen) (rs : List (List Cell)) → are_blank rs ≡ true → rows_drawn p rs ≡ set_back p.attribute
-set_back_ends p [] h = refl
-set_back_ends p (row ∷ rs) h = rw h refl
+-- rows are drawn below row i exactly if it is not the last of those that are
+pub follows_is : (p : Picture) (i end : ℕ) → i < end → end ≤ p.size.lines
+    → are_blank (drop end (rows_of p)) ≡ true → list_all is_blank (cells_of_row p (end - 1)) ≡ false
+    → nat_lt (i + 1) end ≡ not (are_blank (drop (i + 1) (rows_of p)))
+follows_is p i end lt le behind before = elim (cases_lt (i + 1) end) [
+  | inl more ↦ lt-ltb (i + 1) end more
+      ∙ ap (λ (t : Bool). not t) (sym (not_blank_from p (i + 1) (end - 1) (omega arith) (omega arith) before))
+  | inr last ↦
+      let same : i + 1 ≡ end = omega arith in
+      le-ltb (i + 1) end last
+      ∙ ap (λ (t : Bool). not t) (sym (ap (λ (n : ℕ). are_blank (drop n (rows_of p))) same ∙ behind))
+]
 
--- the first row and what is below it
-pub begins : (picture : Picture) (q : Pen) → 0 < picture.size.lines
-    → q ≡ pen_behind 0 (pen 0x07 0) (cells_of_row picture 0)
-    → (texts mending_spelled ++ texts (drawn 0 (pen 0x07 0) (cells_of_row picture 0)))
-    ++ texts (rows_drawn q (drop 1 (rows_of picture)))
-    ≡ form_bytes picture
-begins picture q some is_behind =
-    let row : List Cell = cells_of_row picture 0 in
-    let below : List (List Cell) = drop 1 (rows_of picture) in
-    let first : List Spelled = drawn 0 (pen 0x07 0) row in
-    let more : List Spelled = rows_drawn (pen_behind 0 (pen 0x07 0) row) below in
-    ap (λ (v : Pen). (texts mending_spelled ++ texts first) ++ texts (rows_drawn v below)) is_behind
-    ∙ append_assoc (texts mending_spelled) (texts first) (texts more)
-    ∙ ap (λ (v : List ℕ). texts mending_spelled ++ v) (sym (texts_both first more))
-    ∙ sym (texts_both mending_spelled (first ++ more))
-    ∙ ap (λ (rs : List (List Cell)). texts (mending_spelled ++ picture_drawn rs)) (sym (rows_from picture 0 some))
+pub there_is : (p : Picture) (i : ℕ) → nat_lt (i + 1) p.size.lines ≡ are_some (drop (i + 1) (rows_of p))
+there_is p i = elim (cases_lt (i + 1) p.size.lines) [
+  | inl more ↦ lt-ltb (i + 1) p.size.lines more ∙ ap are_some (sym (rows_from p (i + 1) more))
+  | inr last ↦ le-ltb (i + 1) p.size.lines last
+      ∙ ap are_some (sym (drop_all (i + 1) (rows_of p)
+      (omega (arith, rows_length p.size.width p.size.lines p.cells))))
+]
+
+-- whether a row opens the one below, by the last of its bytes and of its attributes
+pub opens_is : (p : Picture) (i : ℕ) (bytes attributes : List ℕ) (width : ℕ) (follows is_there opens : Bool)
+    → zip2 cell bytes attributes ≡ cells_of_row p i → length bytes ≡ width → length attributes ≡ width → 0 < width
+    → opens
+    ≡ (not (is_blank (cell (get_or bytes (width - 1) 0) (get_or attributes (width - 1) 0)))
+    && (follows || is_coloured (get_or attributes (width - 1) 0) && is_there))
+    → opens ≡ opens_below follows is_there (cells_of_row p i)
+opens_is p i bytes attributes width follows is_there opens is is_bytes is_attributes some e =
+    e ∙ ap (λ (c : Cell). not (is_blank c) && (follows || is_coloured c.attribute && is_there))
+    (last_zipped bytes attributes width is_bytes is_attributes some ∙ ap last_cell is)
+
+-- a row, with what stands before and after it: its attributes and its cells go by other names
+module _ (opens follows : Bool) (i a b e : ℕ) (row cells : List Cell) (is_b : b ≡ at_row opens a)
+    (is_row : cells ≡ row) (is_e : e ≡ (pen_behind (pen b 0) cells).attribute) where
+  pub row_given : texts (before_row opens a) ++ (texts (drawn (pen b 0) cells) ++ texts (after_row opens follows i e))
+      ≡ texts (row_drawn opens follows i a row)
+  row_given =
+      let p : Pen = pen (at_row opens a) 0 in
+      let before : List Spelled = before_row opens a in
+      let after : List Spelled = after_row opens follows i (pen_behind p row).attribute in
+      ap (λ (v : ℕ). texts before ++ (texts (drawn (pen b 0) cells) ++ texts (after_row opens follows i v))) is_e
+      ∙ ap (λ (v : ℕ). texts before ++ (texts (drawn (pen v 0) cells)
+      ++ texts (after_row opens follows i (pen_behind (pen v 0) cells).attribute))) is_b
+      ∙ ap (λ (v : List Cell). texts before ++ (texts (drawn p v)
+      ++ texts (after_row opens follows i (pen_behind p v).attribute))) is_row
+      ∙ ap (λ (v : List ℕ). texts before ++ v) (sym (texts_both (drawn p row) after))
+      ∙ sym (texts_both before (drawn p row ++ after))
+
+pub attribute_given : (opens follows : Bool) (a b e : ℕ) (row cells : List Cell) → b ≡ at_row opens a → cells ≡ row
+    → e ≡ (pen_behind (pen b 0) cells).attribute
+    → below_row opens follows e ≡ attribute_after_row opens follows a row
+attribute_given opens follows a b e row cells is_b is_row is_e =
+    ap (below_row opens follows) (is_e ∙ ap (λ (v : ℕ). (pen_behind (pen v 0) cells).attribute) is_b
+    ∙ ap (λ (v : List Cell). (pen_behind (pen (at_row opens a) 0) v).attribute) is_row)
+
+-- the mending, and all rows
+pub begins : (picture : Picture)
+    → texts mending_spelled ++ texts (rows_drawn 0 0x07 (rows_of picture)) ≡ form_bytes picture
+begins picture = sym (texts_both mending_spelled (rows_drawn 0 0x07 (rows_of picture)))
 
 -- one row more
-pub goes_on : (p q : Pen) (picture : Picture) (i : ℕ) (sent : List ℕ) → i < picture.size.lines
+pub goes_on : (picture : Picture) (i a b : ℕ) (follows is_there : Bool) (sent : List ℕ) → i < picture.size.lines
     → are_blank (drop i (rows_of picture)) ≡ false
-    → sent ++ texts (rows_drawn p (drop i (rows_of picture))) ≡ form_bytes picture
-    → q ≡ pen_behind (forced_in p (cells_of_row picture i)) (pen_below p) (cells_of_row picture i)
-    → (sent ++ (texts (to_row_below p)
-    ++ texts (drawn (forced_in p (cells_of_row picture i)) (pen_below p) (cells_of_row picture i))))
-    ++ texts (rows_drawn q (drop (i + 1) (rows_of picture)))
+    → follows ≡ not (are_blank (drop (i + 1) (rows_of picture)))
+    → is_there ≡ are_some (drop (i + 1) (rows_of picture))
+    → b ≡ attribute_after_row (opens_below follows is_there (cells_of_row picture i)) follows a (cells_of_row picture i)
+    → sent ++ texts (rows_drawn i a (drop i (rows_of picture))) ≡ form_bytes picture
+    → (sent ++ texts (row_drawn (opens_below follows is_there (cells_of_row picture i)) follows i a
+    (cells_of_row picture i)))
+    ++ texts (rows_drawn (i + 1) b (drop (i + 1) (rows_of picture)))
     ≡ form_bytes picture
-goes_on p q picture i sent lt some so_far is_behind =
+goes_on picture i a b follows is_there sent lt some is_followed is_below is_behind so_far =
     let row : List Cell = cells_of_row picture i in
     let below : List (List Cell) = drop (i + 1) (rows_of picture) in
-    let way : List Spelled = to_row_below p in
-    let here : List Spelled = drawn (forced_in p row) (pen_below p) row in
-    let more : List Spelled = rows_drawn (pen_behind (forced_in p row) (pen_below p) row) below in
+    let f : Bool = not (are_blank below) in
+    let t : Bool = are_some below in
+    let here : List Spelled = row_drawn (opens_below f t row) f i a row in
+    let more : List Spelled = rows_drawn (i + 1) (attribute_after_row (opens_below f t row) f a row) below in
     let is : are_blank (row ∷ below) ≡ false = ap are_blank (sym (rows_from picture i lt)) ∙ some in
-    let drawn_here : rows_drawn p (row ∷ below) ≡ way ++ (here ++ more) = rw is refl in
-    ap (λ (v : Pen). (sent ++ (texts way ++ texts here)) ++ texts (rows_drawn v below)) is_behind
-    ∙ append_assoc sent (texts way ++ texts here) (texts more)
+    let drawn_here : rows_drawn i a (row ∷ below) ≡ here ++ more = rw is refl in
+    ap (λ (v : ℕ). (sent ++ texts (row_drawn (opens_below follows is_there row) follows i a row))
+    ++ texts (rows_drawn (i + 1) v below)) is_behind
+    ∙ ap₂ (λ (u v : Bool). (sent ++ texts (row_drawn (opens_below u v row) u i a row))
+    ++ texts (rows_drawn (i + 1) (attribute_after_row (opens_below u v row) u a row) below)) is_followed is_below
+    ∙ append_assoc sent (texts here) (texts more)
     ∙ ap (λ (v : List ℕ). sent ++ v)
-    (append_assoc (texts way) (texts here) (texts more)
-    ∙ ap (λ (v : List ℕ). texts way ++ v) (sym (texts_both here more)) ∙ sym (texts_both way (here ++ more))
-    ∙ ap texts (sym drawn_here ∙ ap (rows_drawn p) (sym (rows_from picture i lt))))
+    (sym (texts_both here more) ∙ ap texts (sym drawn_here ∙ ap (rows_drawn i a) (sym (rows_from picture i lt))))
     ∙ so_far
 
--- what is done with a row of cells, by the pen behind the row above
-pub by_pen_above : {X : Type 0} (f : ℕ → Pen → List Cell → X) (p q : Pen) (forced : ℕ) (cells row : List Cell)
-    → forced ≡ forced_in p cells → q ≡ pen_below p → cells ≡ row
-    → f forced q cells ≡ f (forced_in p row) (pen_below p) row
-by_pen_above f p q forced cells row is_forced is_below is_row =
-    ap (λ (n : ℕ). f n q cells) is_forced ∙ ap (λ (v : Pen). f (forced_in p cells) v cells) is_below
-    ∙ ap (λ (v : List Cell). f (forced_in p v) (pen_below p) v) is_row
+-- below the last row that is drawn, the end
+pub ends : (i a : ℕ) (rs : List (List Cell)) → are_blank rs ≡ true → texts (rows_drawn i a rs) ≡ escape ∷ codes "[0m"
+unfolding digits
+ends i a [] h = refl
+ends i a (row ∷ rs) h = rw h refl
 
 -- the bytes are taken by another name
 pub takes_same : {S : Type 0} (takes : S → S → List ℕ → Type 0) {a b : S} {x y : List ℕ} → x ≡ y → takes a b x

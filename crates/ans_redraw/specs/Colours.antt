@@ -1,5 +1,5 @@
 -- How one attribute becomes another: by one sequence of colours.
-use Rattle.std.specs.Prelude.{ℕ, ◌+◌, ◌/◌, ◌%◌, Bool, not, ◌&&◌, ◌||◌, ◌==◌, nat_le, List, [], ◌∷◌, ◌++◌, length, map}
+use Rattle.std.specs.Prelude.{ℕ, ◌+◌, ◌/◌, ◌%◌, Bool, not, ◌&&◌, ◌||◌, ◌==◌, List, [], ◌∷◌, ◌++◌, map}
 use Rattle.std.specs.Prelude.{codes, decimal, slice_index, if◌then◌else◌}
 use Rattle.std.specs.List.{join_with_byte}
 use Rattle.ans_model.specs.Bytes.{escape, bracket, semicolon}
@@ -43,33 +43,26 @@ changes from to =
 abbrev pub stays : ℕ → ℕ → Bool
 stays from to = (not (is_bright from) || is_bright to) && (not (blinks from) || blinks to)
 
--- white, where no number is there
-abbrev pub or_white : List ℕ → List ℕ
-or_white [] = 37 ∷ []
-or_white numbers = numbers
-
--- 0, and what differs from white on black. Another number stands behind the 0 in any case, since some player prints
--- behind `ESC[0m` alone in the colours that are on the screen.
+-- 0, then 1 and 5 if they are set, the foreground and the background. Both colours are named, since after a 0 a player
+-- may have a white and a black of its own.
 abbrev pub anew : ℕ → List ℕ
-anew to = 0 ∷ or_white (changes 0x07 to)
+anew to =
+    0 ∷ (number_if (is_bright to) 1
+    ++ (number_if (blinks to) 5
+    ++ (30 + colour_number (foreground to)) ∷ (40 + colour_number (background to)) ∷ []))
 
 -- the sequence of these numbers
 abbrev pub colours_text : List ℕ → List ℕ
 colours_text numbers = escape ∷ bracket ∷ (join_with_byte semicolon (map decimal numbers) ++ codes "m")
 
--- the first sequence is no longer than the second
-abbrev pub is_no_longer : List ℕ → List ℕ → Bool
-is_no_longer numbers others = nat_le (length (colours_text numbers)) (length (colours_text others))
-
--- what changes, where neither bright nor blink goes and it is no longer; else anew
+-- what changes, if neither bright nor blink goes; else anew
 abbrev pub numbers_to : ℕ → ℕ → List ℕ
-numbers_to from to =
-    if stays from to && is_no_longer (changes from to) (anew to) then changes from to else anew to
+numbers_to from to = if stays from to then changes from to else anew to
 
 -- the colours of these numbers, as they are spelled
 abbrev pub colours : List ℕ → Spelled
 colours numbers = record { token = Colours numbers; text = colours_text numbers }
 
--- from one attribute to another: nothing where they are one
+-- from one attribute to another: nothing if they are the same
 abbrev pub colours_to : ℕ → ℕ → List Spelled
 colours_to from to = if from == to then [] else colours (numbers_to from to) ∷ []

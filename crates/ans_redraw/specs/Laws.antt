@@ -1,5 +1,5 @@
 -- What is proved of the form.
-use Rattle.std.specs.Prelude.{◌≡◌, ◌↔◌, ℕ, ◌+◌, ◌*◌, ◌<◌, ◌≤◌, Bool, IsFalse, List, [], length, map}
+use Rattle.std.specs.Prelude.{◌≡◌, ◌↔◌, ℕ, ◌+◌, ◌<◌, Bool, IsTrue, IsFalse, List, [], fold, map}
 use Rattle.std.specs.Prelude.{take, slice_get, All, Some}
 use Rattle.std.specs.List.{concat, list_any}
 use Rattle.ans_model.specs.Bytes.{IsByte}
@@ -14,7 +14,8 @@ use Rattle.ans_model.specs.Verdict.Good.{Picture, GoodWith}
 use Rattle.ans_model.specs.Verdict.Needs.{IsLeast}
 use Rattle.ans_players.specs.declared.kind.Kind.{Kind}
 use Rattle.ans_players.specs.Classes.{IsLeastSame}
-use Rattle.ans_players.specs.Grips.{Grip}
+use Rattle.ans_players.specs.Grips.{Stand}
+use Rattle.ans_players.specs.Names.{Names, are_both, names_after}
 use Rattle.ans_players.specs.Players.{Behaviour, IsShown}
 use Rattle.ans_players.specs.Situations.{Spelled, AreAgreed, situations}
 use Rattle.ans_redraw.specs.Colours.{colours_to}
@@ -26,10 +27,15 @@ abbrev pub ColoursLead : Type 0
 ColoursLead = (z : Size) (s : State) (to : ℕ) → IsByte s.attribute → IsByte to
     → final z s (map (λ x. x.token) (colours_to s.attribute to)) ≡ record s { attribute = to }
 
--- No kind arises at them, however firmly players stand.
+-- No kind arises at them, however firmly players stand and whichever colours are named.
 abbrev pub ColoursAreCalm : Type 0
-ColoursAreCalm = (z : Size) (g : Grip) (s : State) (from to : ℕ) → IsByte from → IsByte to
-    → All (λ x. situations z g s x ≡ []) (colours_to from to)
+ColoursAreCalm = (z : Size) (h : Stand) (from to : ℕ) → IsByte from → IsByte to
+    → All (λ x. situations z h x ≡ []) (colours_to from to)
+
+-- If both colours are named, both are named after them.
+abbrev pub ColoursKeepNames : Type 0
+ColoursKeepNames = (names : Names) (from to : ℕ) → IsByte from → IsByte to → IsTrue (are_both names)
+    → IsTrue (are_both (fold names_after names (map (λ x. x.token) (colours_to from to))))
 
 -- the texts spell the tokens, one after the other
 abbrev pub IsReadBack : List Spelled → Type 0
@@ -97,7 +103,3 @@ FormTellsThePicture = (z : Size) (p q : Picture) → IsDrawable z p → IsDrawab
 abbrev pub FormIsKept : Type 0
 FormIsKept = (z : Size) (class : Start) (p q : Picture) → IsDrawable z p → GoodWith z class (form_bytes p) q
     → form_bytes q ≡ form_bytes p
-
--- Its bytes are at most 13 for each cell, and 23 more.
-abbrev pub FormIsBounded : Type 0
-FormIsBounded = (picture : Picture) → length (form_bytes picture) ≤ 13 * length picture.cells + 23

@@ -1,7 +1,7 @@
 //! How one attribute becomes another.
 ghost use Rattle.std.specs.Prelude.{◌≡◌, ◌≢◌, ◌==◌, not, ◌&&◌, ◌+◌, ◌≤◌, ◌<◌, ◌++◌, length, take, if◌then◌else◌};
 ghost use Rattle.ans_redraw.specs.Colours.{anew, background, blinks, changes, colour_number, colours_to};
-ghost use Rattle.ans_redraw.specs.Colours.{foreground, is_bright, is_no_longer, number_if, numbers_to, stays};
+ghost use Rattle.ans_redraw.specs.Colours.{foreground, is_bright, number_if, numbers_to, stays};
 ghost use Rattle.ans_redraw.specs.Form.{texts};
 ghost use Rattle.ans_redraw.specs.Numbers.{listed};
 
@@ -25,7 +25,7 @@ fn is_bright(attribute: u8) -> bool
     attribute / 8 % 2 == 1
 }
 
-pub(crate) fn background(attribute: u8) -> u8
+fn background(attribute: u8) -> u8
     ensures { result ≡ background attribute }
 {
     attribute / 16 % 8
@@ -129,16 +129,20 @@ fn write_changes(text: &mut [u8], end: usize, from: u8, to: u8) -> usize
     write_number(text, front, number, recolours_back(from, to))
 }
 
-/// Writes 0 and the numbers of what differs from white on black, or of white, each with a semicolon.
+/// Writes 0, 1 and 5 if they are set, the foreground and the background, each with a semicolon.
 fn write_anew(text: &mut [u8], end: usize, to: u8) -> usize
-    requires { end + 15 ≤ length text.old }
-    ensures within { result ≤ end + 15 }
+    requires { end + 12 ≤ length text.old }
+    ensures within { result ≤ end + 12 }
     ensures length { length text.new ≡ length text.old }
     ensures text { take result text.new ≡ take end text.old ++ listed (anew to) }
 {
     let zero = write_digit(text, end, 0, true);
-    let changed = write_changes(text, zero, GREY, to);
-    write_number(text, changed, 37, changed == zero)
+    let bright = write_digit(text, zero, 1, is_bright(to));
+    let blink = write_digit(text, bright, 5, blinks(to));
+    let number = 30 + colour_number(foreground(to));
+    let front = write_number(text, blink, number, true);
+    let number = 40 + colour_number(background(to));
+    write_number(text, front, number, true)
 }
 
 /// So many bytes, where they are there.
@@ -149,43 +153,15 @@ fn length_if(is_there: bool, length: usize) -> usize
     if is_there { length } else { 0 }
 }
 
-/// How many bytes the numbers of what changes take, each with a semicolon.
-#[inline(always)]
-fn changes_length(from: u8, to: u8) -> usize
-    ensures is { result ≡ length (listed (changes from to)) }
-    ensures short { result ≤ 10 }
-{
-    length_if(brightens(from, to), 2)
-        + length_if(starts_blinking(from, to), 2)
-        + length_if(recolours_front(from, to), 3)
-        + length_if(recolours_back(from, to), 3)
-}
-
-/// How many bytes 0 and the other numbers take, each with a semicolon.
-#[inline(always)]
-fn anew_length(to: u8) -> usize
-    ensures { result ≡ length (listed (anew to)) }
-{
-    let changes = changes_length(GREY, to);
-    if changes == 0 { 5 } else { 2 + changes }
-}
-
-/// Whether the numbers of what changes are written, and not all anew.
-#[inline(always)]
-fn is_by_changes(from: u8, to: u8) -> bool
-    ensures { result ≡ (stays from to && is_no_longer (changes from to) (anew to)) }
-{
-    stays(from, to) && changes_length(from, to) <= anew_length(to)
-}
-
+/// Writes the numbers from one attribute to another, each with a semicolon.
 #[inline(always)]
 fn write_numbers(text: &mut [u8], end: usize, from: u8, to: u8) -> usize
-    requires { end + 15 ≤ length text.old }
+    requires { end + 12 ≤ length text.old }
     ensures within { result ≤ length text.new }
     ensures length { length text.new ≡ length text.old }
     ensures text { take result text.new ≡ take end text.old ++ listed (numbers_to from to) }
 {
-    if is_by_changes(from, to) {
+    if stays(from, to) {
         return write_changes(text, end, from, to);
     }
     write_anew(text, end, to)
@@ -195,7 +171,7 @@ fn write_numbers(text: &mut [u8], end: usize, from: u8, to: u8) -> usize
 #[inline(never)]
 fn write_sequence(text: &mut [u8], end: usize, from: u8, to: u8) -> usize
     requires apart { from ≢ to }
-    requires room { end + 17 ≤ length text.old }
+    requires room { end + 14 ≤ length text.old }
     ensures within { result ≤ end + 12 }
     ensures length { length text.new ≡ length text.old }
     ensures text { take result text.new ≡ take end text.old ++ texts (colours_to from to) }
@@ -208,7 +184,7 @@ fn write_sequence(text: &mut [u8], end: usize, from: u8, to: u8) -> usize
 /// Writes what leads from one attribute to another to a text from `end` on, and returns where it ends.
 #[inline(always)]
 pub(crate) fn write_colours(text: &mut [u8], end: usize, from: u8, to: u8) -> usize
-    requires { end + 17 ≤ length text.old }
+    requires { end + 14 ≤ length text.old }
     ensures within { result ≤ end + 12 }
     ensures length { length text.new ≡ length text.old }
     ensures text { take result text.new ≡ take end text.old ++ texts (colours_to from to) }

@@ -1,17 +1,18 @@
 //! Laws of the form.
 
-ghost use Rattle.ans_redraw.specs.Laws.{ColoursAreCalm, ColoursAreRead, ColoursLead, FormEndsGrey, FormFeedsOn};
-ghost use Rattle.ans_redraw.specs.Laws.{FormHasNoEndMark, FormIsAgreed, FormIsBounded, FormIsGood, FormIsKept};
-ghost use Rattle.ans_redraw.specs.Laws.{FormIsRead, FormIsSame, FormIsShown, FormNeedsNothing, FormTellsThePicture};
-ghost use Rattle.ans_redraw.specs.Laws.{GoodPicturesAreDrawable};
+ghost use Rattle.ans_redraw.specs.Laws.{ColoursAreCalm, ColoursAreRead, ColoursKeepNames, ColoursLead};
+ghost use Rattle.ans_redraw.specs.Laws.{FormEndsGrey, FormFeedsOn, FormHasNoEndMark, FormIsAgreed, FormIsGood};
+ghost use Rattle.ans_redraw.specs.Laws.{FormIsKept, FormIsRead, FormIsSame, FormIsShown, FormNeedsNothing};
+ghost use Rattle.ans_redraw.specs.Laws.{FormTellsThePicture, GoodPicturesAreDrawable};
 
 use ans_players::player::Player;
 
 /// From each of the 256 attributes to each other: the colours make it so and change nothing else, no player
-/// parts from another at them, and their bytes are read as they are meant.
+/// parts from another at them, both colours stay named, and their bytes are read as they are meant.
 pub fn colours_lead_from_each_to_each()
     ensures lead { ColoursLead }
     ensures calm { ColoursAreCalm }
+    ensures named { ColoursKeepNames }
     ensures read { ColoursAreRead }
 {}
 
@@ -55,9 +56,4 @@ pub fn pictures_of_good_content_are_drawable()
 pub fn one_form_of_each_picture()
     ensures tells { FormTellsThePicture }
     ensures kept { FormIsKept }
-{}
-
-/// The form of a picture has at most 13 bytes for each cell, and 23 more.
-pub fn form_is_bounded()
-    ensures { FormIsBounded }
 {}

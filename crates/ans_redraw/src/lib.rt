@@ -1,14 +1,19 @@
 //! The plainest form of a picture: a content that shows it the same from every start on every player.
 //!
-//! Behind the mending stand the cells that are no blanks, in reading order, each with the way to it, its
-//! colours and its byte; then white on black where it is not so already. `specs/Form.antt` has the form,
-//! and `specs/Colours.antt` how one attribute becomes another. [`form_length`] counts its bytes,
-//! [`put_form`] puts them, and [`copy_form`] copies them: each goes over the picture row by row, with no memory
-//! beyond a row. In [`laws`] stands what is proved of the form, in [`examples`] the bytes of small
-//! pictures.
+//! After the mending come the cells that are no blanks, in reading order, each with the way to it, its
+//! colours and its byte; then `ESC[0m`. Before a full row wraps into the row below, that row is there, and
+//! black; after it the place of that row follows, so a screen may have more columns, or fewer rows. What is
+//! proved of the form speaks of the stated columns and lines. That it shows on other screens, of two rows or
+//! more, is only tried.
+//!
+//! `specs/Form.antt` has the form, and `specs/Colours.antt` how one attribute becomes another.
+//! [`form_length`] counts its bytes, [`put_form`] puts them, and [`copy_form`] copies them: each goes over the
+//! picture row by row, with no memory beyond a row. In [`laws`] is what is proved of the form, in
+//! [`examples`] the bytes of small pictures.
 #![tactic(auto)]
 
 mod colours;
+mod ends;
 pub mod examples;
 mod form;
 pub mod laws;

@@ -1,17 +1,17 @@
 //! The cells of a row.
-ghost use Rattle.std.specs.Prelude.{◌≡◌, ◌+◌, ◌-◌, ◌*◌, ◌≤◌, [], ◌∷◌, ◌++◌, length, take};
+ghost use Rattle.std.specs.Prelude.{◌≡◌, ◌+◌, ◌*◌, ◌≤◌, [], ◌∷◌, ◌++◌, length, take};
 ghost use Rattle.std.specs.List.{list_all};
 ghost use Rattle.std.specs.Simd.Lanes.{zip2};
 ghost use Rattle.ans_model.specs.Screen.State.{cell};
 ghost use Rattle.ans_redraw.specs.Colours.{colours_to};
-ghost use Rattle.ans_redraw.specs.Form.{drawn, glyph, is_blank, is_passed, over, pen, pen_behind, texts};
+ghost use Rattle.ans_redraw.specs.Form.{drawn, glyph, is_blank, over, pen, pen_behind, texts};
 
 use crate::colours::{GREY, write_colours};
 use crate::pen::Pen;
 use crate::piece::write;
 use crate::way::write_over;
 
-fn is_blank(byte: u8, attribute: u8) -> bool
+pub(crate) fn is_blank(byte: u8, attribute: u8) -> bool
     ensures { result ≡ is_blank (cell byte attribute) }
 {
     byte == b' ' && attribute == GREY
@@ -30,19 +30,11 @@ pub(crate) fn are_blank(bytes: &[u8], attributes: &[u8]) -> bool
     true
 }
 
-/// Whether the cell of a column is passed over.
-#[inline(always)]
-fn is_passed(forced: usize, column: usize, byte: u8, attribute: u8) -> bool
-    ensures { result ≡ is_passed (forced - column) (cell byte attribute) }
-{
-    forced <= column && is_blank(byte, attribute)
-}
-
 /// Writes the way to a cell, its colours and its byte to a text from `end` on, and returns where they end. The
 /// pen is behind the cell then.
 #[inline(always)]
 fn write_cell(text: &mut [u8], end: usize, from: &mut Pen, byte: u8, attribute: u8) -> usize
-    requires { end + 6 * from.old.passed + 19 ≤ length text.old }
+    requires { end + 6 * from.old.passed + 16 ≤ length text.old }
     ensures within { result ≤ end + 6 * from.old.passed + 13 }
     ensures length { length text.new ≡ length text.old }
     ensures text { take result text.new ≡ take end text.old ++ texts
@@ -57,28 +49,21 @@ fn write_cell(text: &mut [u8], end: usize, from: &mut Pen, byte: u8, attribute: 
     write(text, colours, &[byte], 1)
 }
 
-/// Writes what a row of cells draws to the start of a text, and returns where it ends. The first `forced`
-/// cells are printed, blanks too. The pen is behind them then.
-pub(crate) fn write_row(
-    text: &mut [u8],
-    pen: &mut Pen,
-    forced: usize,
-    bytes: &[u8],
-    attributes: &[u8],
-) -> usize
+/// Writes the cells of a row to the start of a text, and returns where they end. The pen is after them then.
+pub(crate) fn write_row(text: &mut [u8], pen: &mut Pen, bytes: &[u8], attributes: &[u8]) -> usize
     requires begins { pen.old.passed ≡ 0 }
     requires same { length attributes.now ≡ length bytes.now }
-    requires room { 13 * length bytes.now + 19 ≤ length text.old }
+    requires room { 13 * length bytes.now + 16 ≤ length text.old }
     ensures within { result ≤ length text.new }
     ensures length { length text.new ≡ length text.old }
     ensures text { take result text.new
-        ≡ texts (drawn forced pen.old (zip2 cell bytes.now attributes.now)) }
-    ensures pen { pen.new ≡ pen_behind forced pen.old (zip2 cell bytes.now attributes.now) }
+        ≡ texts (drawn pen.old (zip2 cell bytes.now attributes.now)) }
+    ensures pen { pen.new ≡ pen_behind pen.old (zip2 cell bytes.now attributes.now) }
 {
     let mut at = *pen;
     let mut end = 0;
     for i in 0..bytes.len() {
-        if is_passed(forced, i, bytes[i], attributes[i]) {
+        if is_blank(bytes[i], attributes[i]) {
             at.passed += 1;
         } else {
             end = write_cell(text, end, &mut at, bytes[i], attributes[i]);

@@ -34,7 +34,7 @@ impl<W: Write> Sink for Outbox<'_, W> {
     ghost both = { λ a b c x y p q. Puts-then p q };
 }
 
-/// How many bytes were taken.
+/// How many bytes were taken, or as many as there is a number for.
 #[derive(Drop)]
 pub(crate) struct Count {
     pub(crate) bytes: usize,
@@ -50,9 +50,14 @@ impl Sink for Count {
         self.bytes = self.bytes.saturating_add(bytes.len());
     }
 
-    ghost nothing = { λ a fits. Prim.omega arith };
+    ghost nothing = { λ a low. Prim.omega arith };
 
-    ghost both = { λ a b c x y p q fits. Prim.omega (arith, p, q, length-append x y) };
+    ghost both = { λ a b c x y p q low. Prim.omega (
+      arith,
+      p low,
+      q (Prim.omega (arith, p low)),
+      length-append x y,
+    ) };
 }
 
 /// An array, of which the first bytes are taken.

@@ -1,6 +1,7 @@
 //! The way over blanks.
-ghost use Rattle.std.specs.Prelude.{◌≡◌, ◌+◌, ◌*◌, ◌≤◌, ◌<◌, [], ◌==◌, ◌++◌, decimal, if◌then◌else◌, length, take};
+ghost use Rattle.std.specs.Prelude.{◌≡◌, ◌+◌, ◌*◌, ◌≤◌, ◌<◌, [], ◌∷◌, ◌==◌, ◌++◌, decimal, if◌then◌else◌, length, take};
 ghost use Rattle.ans_redraw.specs.Form.{over, over_few, skip, texts};
+ghost use Rattle.ans_model.specs.Bytes.{bracket, escape};
 
 use crate::colours::GREY;
 use crate::piece::write;
@@ -21,6 +22,17 @@ fn write_decimal(text: &mut [u8], end: usize, number: u8) -> usize
         return write(text, end, &[tens, ones], 2);
     }
     write(text, end, &[b'0' + number / 100, tens, ones], 3)
+}
+
+/// Writes `ESC[`, a number and a letter: at most six bytes.
+pub(crate) fn write_move(text: &mut [u8], number: u8, letter: u8) -> usize
+    requires { 6 ≤ length text.old }
+    ensures within { result ≤ 6 }
+    ensures text { take result text.new ≡ escape ∷ bracket ∷ (decimal number ++ letter ∷ []) }
+{
+    let start = write(text, 0, b"\x1b[", 2);
+    let end = write_decimal(text, start, number);
+    write(text, end, &[letter], 1)
 }
 
 /// Writes the number of a skip, where it is not 1.

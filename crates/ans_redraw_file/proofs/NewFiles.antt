@@ -1,12 +1,12 @@
 -- What stands behind the content of a file, and the file that is put in its place.
-use Rattle.std.proofs.Common.{◌≡◌, ℕ, suc, ◌+◌, ◌-◌, ◌≤◌, ◌==◌, Bool, true, false, List, [], ◌∷◌, ◌++◌, length, take}
-use Rattle.std.proofs.Common.{drop, refl, sym, ap, ap₂, ◌∙◌, arith, append_assoc, true≢false}
+use Rattle.std.proofs.Common.{◌≡◌, ℕ, suc, ◌+◌, ◌-◌, ◌^◌, ◌<◌, ◌≤◌, min, ◌==◌, Bool, true, false, List, []}
+use Rattle.std.proofs.Common.{◌∷◌, ◌++◌, length, take, drop, refl, sym, ap, ap₂, ◌∙◌, arith, append_assoc, true≢false}
 use Rattle.std.proofs.lemmas.List.{drop-append-le, drop-take, length-append, length-drop, length-take-le}
 use Rattle.std.proofs.lemmas.List.{take-append-drop, take_all}
 use Rattle.std.proofs.Math.Seq.{drop-append_seam}
 use Rattle.std.specs.Prelude.{Some, None, if◌then◌else◌, ◌||◌}
 use Rattle.std.specs.List.{list_any, position_or_len}
-use Rattle.ans_model.specs.Bytes.{end_mark}
+use Rattle.ans_model.specs.Bytes.{end_mark, longest_file}
 use Rattle.ans_model.specs.File.Layout.{FileParts, Laid, after_content, comment_block, content, is_end_mark}
 use Rattle.ans_model.specs.File.Record.{comment_count, file_size}
 use Rattle.ans_model.specs.Verdict.Good.{Picture}
@@ -220,14 +220,32 @@ sauce_is file =
     take_all (length file - (length file - 128)) (drop (length file - 128) file)
     (omega (arith, length-drop (length file - 128) file))
 
--- at most one byte is put
-pub missing_short : (xs : List ℕ) → length (missing xs) ≤ 1
-missing_short xs = go (list_any is_end_mark (take 1 xs)) refl
-  where
-    go : (marked : Bool) → list_any is_end_mark (take 1 xs) ≡ marked → length (missing xs) ≤ 1
-    go true is = rw is (omega arith)
-    go false is = rw is (omega arith)
+-- ---- lengths that saturate
+-- a whole by what was counted of it, and what was not
+pub record IsWholeOf (n form rest whole : ℕ) : Type 0 where
+  pub form_is : form ≡ min n (2 ^ 64 - 1)
+  pub whole_is : whole ≡ min (form + rest) (2 ^ 64 - 1)
 
--- nothing behind a content is longer than its file
-pub behind_short : (file : List ℕ) (count : ℕ) → length (drop count (front_in file)) ≤ length file
-behind_short file count = omega (arith, length-drop count (front_in file), short file (length file - 128))
+-- it is what it would be, as far as there is a number for it
+pub whole_counted : (n form rest whole all : ℕ) → IsWholeOf n form rest whole → n + rest ≡ all
+    → whole ≡ min all (2 ^ 64 - 1)
+whole_counted n form rest whole all h is = omega (arith, h.form_is, h.whole_is)
+
+-- if it is short, it is exact
+pub form_exact : (n form rest whole : ℕ) → IsWholeOf n form rest whole → whole ≤ longest_file → form ≡ n
+form_exact n form rest whole h le = omega (arith, h.form_is, h.whole_is)
+
+pub whole_exact : (n form rest whole all : ℕ) → IsWholeOf n form rest whole → n + rest ≡ all → whole ≤ longest_file
+    → whole ≡ all
+whole_exact n form rest whole all h is le = omega (arith, h.form_is, h.whole_is)
+
+-- what is above the longest file is so in truth
+pub long_counted : (whole all : ℕ) → whole ≡ min all (2 ^ 64 - 1) → longest_file < whole → longest_file < all
+long_counted whole all is long = omega arith
+
+pub short_exact : (whole all : ℕ) → whole ≡ all → whole ≤ longest_file → all ≤ longest_file
+short_exact whole all is le = omega arith
+
+-- the pieces after a form, together
+pub pieces_behind : (n mark behind : ℕ) → n + (mark + behind + 128) ≡ n + mark + behind + 128
+pieces_behind n mark behind = omega arith

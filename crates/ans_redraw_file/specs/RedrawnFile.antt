@@ -1,5 +1,6 @@
 -- A file whose content is redrawn.
-use Rattle.std.specs.Prelude.{◌≡◌, ℕ, ◌≤◌, ◌<◌, List, [], ◌∷◌, ◌++◌, length, drop, Option, Some, None, if◌then◌else◌}
+use Rattle.std.specs.Prelude.{◌≡◌, ℕ, ◌-◌, ◌^◌, ◌≤◌, ◌<◌, min, List, [], ◌∷◌, ◌++◌, length, drop}
+use Rattle.std.specs.Prelude.{Option, Some, None, if◌then◌else◌}
 use Rattle.std.specs.List.{list_any}
 use Rattle.ans_model.specs.Bytes.{end_mark, longest_file}
 use Rattle.ans_model.specs.File.Layout.{after_content, is_end_mark}
@@ -47,7 +48,7 @@ pub record IsRedrawnWith (file : List ℕ) (picture : Picture) (redrawn : Redraw
   pub told : IsToldOf file picture redrawn
   pub room : length (redrawn_file file picture) ≤ longest_file
 
--- no file has room for it, and its length is told
+-- No file has room for it, and its length is reported, or 2^64 - 1 if it is more.
 pub record IsTooLong (file : List ℕ) (picture : Picture) (reason : Unredrawn) : Type 0 where
-  pub reason_is : reason ≡ unredrawn.TooLong (length (redrawn_file file picture))
+  pub reason_is : reason ≡ unredrawn.TooLong (min (length (redrawn_file file picture)) (2 ^ 64 - 1))
   pub long : longest_file < length (redrawn_file file picture)

@@ -74,7 +74,7 @@ pub fn redrawn_with<G: Screen>(
     let form = form_length(picture);
     let behind = behind_content(file, parts);
     let mark = missing_mark(behind);
-    let whole = form + mark.len() + behind.len() + RECORD_SIZE;
+    let whole = form.saturating_add(mark.len() + behind.len() + RECORD_SIZE);
     if whole > MAX_FILE {
         return Err(Unredrawn::TooLong(whole));
     }

@@ -30,11 +30,12 @@ fn picture_of(
     }
 }
 
-/// Whether these bytes behind the mending are the form of a picture, and are counted so.
+/// Whether the form of a picture is the mending, these bytes and `ESC[0m`, and is counted so.
 fn is_form(alloc: Global, picture: &Picture<PlainGrid>, drawn: &[u8]) -> Result<bool, AllocError> {
     let mut form = Vec::new(alloc);
-    form.extend_from_slice(b"\x1b[?7h\x1b[0m\x1b[2J\x1b[H\x1b[s")?;
+    form.extend_from_slice(b"\x1b[?7h\x1b[0;37;40m\x1b[2J\x1b[H\x1b[s")?;
     form.extend_from_slice(drawn)?;
+    form.extend_from_slice(b"\x1b[0m")?;
     Ok(form_length(picture) == form.len() && puts(form.as_slice(), |out| put_form(out, picture)))
 }
 
@@ -45,8 +46,8 @@ macro_rules! rows {
     };
 }
 
-/// The width, the lines, a content, and the form of its picture behind the mending.
-static FORMS: [(usize, usize, &[u8], &[u8]); 33] = rows! {
+/// The width, the lines, a content, and the form of its picture after the mending, but for `ESC[0m` at its end.
+static FORMS: [(usize, usize, &[u8], &[u8]); 39] = rows! {
     // Nothing but blanks.
     screen(1 x 1, b"") => b"";
     screen(3 x 2, b"") => b"";
@@ -56,11 +57,11 @@ static FORMS: [(usize, usize, &[u8], &[u8]); 33] = rows! {
     screen(4 x 1, b"one\rtwo") => b"two";
     screen(5 x 1, b"\x1b[3CA") => b"   A";
     screen(9 x 2, b"\x09a") => b"\x1b[8Ca";
-    screen(4 x 1, b"\x1b[44m\x1b[K") => b"\x1b[44m    \x1b[0m";
+    screen(4 x 1, b"\x1b[44m\x1b[K") => b"\x1b[44m    ";
     // Gaps, in white on black and in bright.
     screen(6 x 1, b"\x1b[4CA") => b"    A";
     screen(7 x 1, b"\x1b[5CA") => b"\x1b[5CA";
-    screen(3 x 1, b"\x1b[1mA\x1b[0m B") => b"\x1b[1mA\x1b[C\x1b[0;37mB";
+    screen(3 x 1, b"\x1b[1mA\x1b[0m B") => b"\x1b[1mA\x1b[C\x1b[0;37;40mB";
     screen(256 x 1, b"\x1b[255CA") => b"\x1b[255CA";
     screen(257 x 1, b"\x1b[255C A") => b"\x1b[255C A";
     screen(260 x 1, b"\x1b[255C    A") => b"\x1b[255C    A";
@@ -69,33 +70,39 @@ static FORMS: [(usize, usize, &[u8], &[u8]); 33] = rows! {
     // Rows that are full, and rows that are not.
     screen(3 x 3, b"A\r\n\r\nB") => b"A\r\n\r\nB";
     screen(2 x 2, b"AB") => b"AB";
-    screen(2 x 3, b"AB\x1b[3;1HC") => b"AB \r\nC";
-    screen(2 x 2, b"AB C") => b"AB C";
-    screen(1 x 3, b"A B") => b"A B";
-    screen(3 x 2, b"ABCDEF") => b"ABCDEF";
+    screen(2 x 3, b"AB\x1b[3;1HC") => b"\n\x1b[AAB\x1b[2H\r\nC";
+    screen(2 x 2, b"AB C") => b"\n\x1b[AAB\x1b[2H C";
+    screen(1 x 3, b"A B") => b"\n\x1b[AA\x1b[2H\r\nB";
+    screen(3 x 2, b"ABCDEF") => b"\n\x1b[AABC\x1b[2HDEF";
+    screen(2 x 2, b"ABCD") => b"\n\x1b[AAB\x1b[2HCD";
+    screen(1 x 2, b"A\x1b[2H\x1b[1mB") => b"\n\x1b[AA\x1b[2H\x1b[1mB";
     screen(2 x 3, b"\x1b[3;2HA") => b"\r\n\r\n A";
     // Coloured backgrounds.
-    screen(3 x 2, b"AB\x1b[44m ") => b"AB\x1b[44m \x1b[0m";
+    screen(3 x 2, b"AB\x1b[44m ") => b"\n\x1b[AAB\x1b[44m \x1b[2H";
     screen(3 x 2, b"\x1b[44m A\x1b[40m  B") => b"\x1b[44m A\x1b[40m\r\n B";
-    screen(2 x 2, b"\x1b[1mA\r\n\x1b[0mB") => b"\x1b[1mA\r\n\x1b[0;37mB";
-    screen(2 x 3, b"\x1b[44mAB\x1b[40m CD") => b"\x1b[44mAB\x1b[40m CD";
-    screen(3 x 2, b"ABC\x1b[44mD") => b"ABC\x1b[44mD\x1b[40m  ";
-    screen(2 x 2, b"\x1b[44mAB") => b"\x1b[44mAB\x1b[0m";
-    screen(3 x 2, b"\x1b[44mABC\x1b[1mDEF") => b"\x1b[44mABC\x1b[1mDEF\x1b[0m";
-    screen(2 x 2, b"\x1b[5;44mA\x1b[0m \x1b[42mB") => b"\x1b[5;44mA\x1b[0;37m\r\n\x1b[42mB\x1b[0m";
+    screen(2 x 2, b"\x1b[1mA\r\n\x1b[0mB") => b"\x1b[1mA\r\n\x1b[0;37;40mB";
+    screen(2 x 3, b"\x1b[44mAB\x1b[40m CD") => b"\n\x1b[A\x1b[44mAB\x1b[2H\x1b[40m\n\x1b[A C\x1b[3HD";
+    screen(3 x 2, b"ABC\x1b[44mD") => b"\n\x1b[AABC\x1b[2H\x1b[44mD";
+    screen(2 x 2, b"\x1b[44mAB") => b"\n\x1b[A\x1b[44mAB\x1b[2H";
+    screen(3 x 2, b"\x1b[44mABC\x1b[1mDEF") => b"\n\x1b[A\x1b[44mABC\x1b[2H\x1b[1mDEF";
+    screen(2 x 2, b"\x1b[5;44mA\x1b[0m \x1b[42mB") => b"\x1b[5;44mA\x1b[0;37;40m\r\n\x1b[42mB";
+    screen(2 x 1, b"\x1b[44mAB") => b"\x1b[44mAB";
+    screen(2 x 2, b"\x1b[5mAB") => b"\n\x1b[A\x1b[5mAB\x1b[2H";
+    screen(1 x 3, b"\x1b[44mA\x1b[1;42mB") => b"\n\x1b[A\x1b[44mA\x1b[2H\x1b[40m\n\x1b[A\x1b[1;42mB\x1b[3H";
+    screen(2 x 2, b"\x1b[5mA\r\n\x1b[0mB") => b"\x1b[5mA\x1b[0;37;40m\r\nB";
     // From one attribute to another, by random pairs.
     screen(25 x 1,
         b"\x1b[0;1;35;41mc\x1b[0;36;46mg\x1b[0;5;37;42me\x1b[0;33;45ma\x1b[0;5;32;45md\x1b[0;33;42ma\x1b[0;30;41\
         mc\x1b[0;5;32;47me\x1b[0;5;33;43md\x1b[0;1;32;43mb\x1b[0;5;32;42mf\x1b[0;1;5;36;42mc\x1b[0;1;5;32;45ma\
         \x1b[0;1;5;36;47md\x1b[0;1;34;42mb\x1b[0;1;31;47ma\x1b[0;37;43ma\x1b[0;1;32;42mb\x1b[0;5;34;40mf\x1b[0\
         ;5;34;44mc\x1b[0;5;36;40mb\x1b[0;1;31;46ma\x1b[0;1;5;30;40mf\x1b[0;37;47mg")
-        => b"\x1b[1;35;41mc\x1b[0;36;46mg\x1b[0;5;42me\x1b[0;33;45ma\x1b[5;32md\x1b[0;33;42ma\x1b[30;41mc\x1b[5;3\
-        2;47me\x1b[33;43md\x1b[0;1;32;43mb\x1b[0;5;32;42mf\x1b[1;36mc\x1b[32;45ma\x1b[36;47md\x1b[0;1;34;42m\
-        b\x1b[31;47ma\x1b[0;43ma\x1b[1;32;42mb\x1b[0;5;34mf\x1b[44mc\x1b[36;40mb\x1b[0;1;31;46ma\x1b[5;30;40\
-        mf\x1b[0;47mg\x1b[0m";
+        => b"\x1b[1;35;41mc\x1b[0;36;46mg\x1b[5;37;42me\x1b[0;33;45ma\x1b[5;32md\x1b[0;33;42ma\x1b[30;41mc\x1b[\
+        5;32;47me\x1b[33;43md\x1b[0;1;32;43mb\x1b[0;5;32;42mf\x1b[1;36mc\x1b[32;45ma\x1b[36;47md\x1b[0;1;3\
+        4;42mb\x1b[31;47ma\x1b[0;37;43ma\x1b[1;32;42mb\x1b[0;5;34;40mf\x1b[44mc\x1b[36;40mb\x1b[0;1;31;46m\
+        a\x1b[5;30;40mf\x1b[0;37;47mg";
     // Moves, a saved place, and what is written over.
     screen(5 x 2, b"ab\x1b[scd\x1b[u\x1b[31mX\x1b[2;4H\x1b[1;44mY\x1b[A\x1b[D\x1b[0mZ")
-        => b"ab\x1b[31mX\x1b[37mZ\r\n   \x1b[1;31;44mY\x1b[0m";
+        => b"ab\x1b[31mX\x1b[37mZ\r\n   \x1b[1;31;44mY";
 };
 
 #[test]
@@ -120,7 +127,7 @@ const PRINTED: &[u8] =
 
 #[test]
 fn printed_bytes_stay_as_they_are(rt: HostRuntime) -> Result<(), Fail> {
-    let picture = picture_of(&rt, 83, 3, PRINTED)?;
+    let picture = picture_of(&rt, 249, 1, PRINTED)?;
     let holds = is_form(rt.alloc(), &picture, PRINTED)?;
     assert!(rt; holds);
     Ok(())

@@ -1,10 +1,13 @@
-use Rattle.std.proofs.Common.{arith, take}
+use Rattle.std.proofs.Common.{take, ap, ◌∙◌}
+use Rattle.ans_redraw.specs.Colours.{colour_number}
 use Rattle.ans_redraw.proofs.NumberTexts.{anew_text}
 use Rattle.ans_redraw.proofs.colours.write_anew.Goals as goal
 
 pub returns-clause-text : goal.returns-clause-text
 returns-clause-text c =
-    anew_text (take c.args.end c.args.text.now) c.write_digit-zero.new.text c.write_changes-changed.new.text
-    c.write_number.new.text c.write_digit-zero.result c.write_changes-changed.result c.write_number.result c.args.to
-    (omega (arith, c.requires)) (omega (arith, c.requires)) c.write_digit-zero.ensures.text
-    c.write_changes-changed.ensures.text c.write_number.ensures.text
+    anew_text (take c.args.end c.args.text.now) _ _ _ _ _ c.args.to c.colour_number-number.result
+    c.colour_number-number-2.result c.is_bright.result c.blinks.result c.is_bright.ensures c.blinks.ensures
+    (c.colour_number-number.ensures ∙ ap colour_number c.foreground.ensures)
+    (c.colour_number-number-2.ensures ∙ ap colour_number c.background.ensures)
+    c.write_digit-zero.ensures.text c.write_digit-bright.ensures.text c.write_digit-blink.ensures.text
+    c.write_number-front.ensures.text c.write_number.ensures.text

@@ -3,7 +3,7 @@ use Rattle.std.specs.Prelude.{◌<◌}
 use Rattle.ans_redraw.specs.Form.{texts}
 use Rattle.ans_redraw.specs.Colours.{colours_to}
 use Rattle.ans_redraw.proofs.NumberTexts.{end_is, colours_written}
-use Rattle.ans_redraw.proofs.FormLengths.{colours_to_length}
+use Rattle.ans_redraw.proofs.ColourLengths.{colours_to_length}
 use Rattle.ans_redraw.proofs.colours.write_sequence.Goals as goal
 
 pub overflow_sub-numbers : goal.overflow_sub-numbers

@@ -8,7 +8,10 @@ returns c = record {
   blank_at_the_end = refl;
   line_end = refl;
   bright_line_end = refl;
-  wrap = refl;
-  first_cell = refl;
-  before_nothing = refl;
+  blink_line_end = refl;
+  full = refl;
+  full_below_full = refl;
+  last = refl;
+  last_in_blink = refl;
+  last_line = refl;
 }

@@ -10,10 +10,11 @@ returns c = record {
   bright_goes = refl;
   blink = refl;
   blink_goes = refl;
+  bright_goes_from_blink = refl;
   background = refl;
   background_goes = refl;
   both = refl;
-  shorter_anew = refl;
-  white_anew = refl;
+  other_colours = refl;
+  most = refl;
   all = refl;
 }

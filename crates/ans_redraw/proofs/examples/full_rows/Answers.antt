@@ -5,7 +5,10 @@ use Rattle.ans_redraw.proofs.examples.full_rows.Goals as goal
 pub returns : goal.returns
 unfolding digits
 returns c = record {
+  before_a_byte = refl;
+  before_a_full_one = refl;
   before_empty = refl;
   before_a_blank = refl;
   before_nothing = refl;
+  one_column = refl;
 }

@@ -8,6 +8,7 @@ returns c = record {
   four = refl;
   five = refl;
   one_in_bright = refl;
+  three_in_colour = refl;
   most = refl;
   one_more = refl;
   four_more = refl;

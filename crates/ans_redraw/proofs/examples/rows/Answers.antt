@@ -7,7 +7,6 @@ unfolding digits
 returns c = record {
   hi = refl;
   empty = refl;
-  two = refl;
-  one_column = refl;
+  one = refl;
   short = refl;
 }

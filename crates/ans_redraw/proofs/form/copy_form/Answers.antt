@@ -7,5 +7,5 @@ pub returns-clause-form : goal.returns-clause-form
 returns-clause-form g c =
     let form = form_bytes c.args.picture.now in
     let taken : take (length form) c.give_form.new.sink.array.now ≡ form =
-    copied _ c.give_form.new.sink form c.give_form.ensures.takes refl c.requires in
+    copied _ c.give_form.new.sink form c.give_form.ensures refl c.requires in
     search rules

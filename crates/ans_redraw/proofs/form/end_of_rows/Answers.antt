@@ -8,7 +8,6 @@ use Rattle.ans_redraw.proofs.form.end_of_rows.Goals as goal
 
 pub loop-end-init : goal.loop-end-init
 loop-end-init g c = record {
-  some = omega (arith, c.width-width.ensures.limits.some_lines, c.lines-end.ensures.lines);
   within = omega (arith, c.lines-end.ensures.lines);
   bytes = search rules;
   attributes = search rules;
@@ -34,7 +33,6 @@ loop-end-preserved g c =
     ∙ sym c.are_blank.ensures ∙ c.if-not-are_blank.false in
     let same : (end - 1) + 1 ≡ end = omega arith in
     record {
-      some = omega arith;
       within = omega arith;
       bytes = search rules;
       attributes = search rules;

@@ -5,7 +5,6 @@ use Rattle.ans_redraw.proofs.form.end_of_rows.Given as goal
 
 abbrev pub invariant-loop-end : goal.invariant-loop-end
 invariant-loop-end g l = record {
-  some : 1 ≤ l.end;
   within : l.end ≤ l.picture.size.lines;
   bytes : length l.bytes ≡ l.picture.size.width;
   attributes : length l.attributes ≡ l.picture.size.width;

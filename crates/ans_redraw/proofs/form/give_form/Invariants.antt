@@ -8,5 +8,5 @@ invariant-loop-row g l = record {
   room : length l.text ≡ 13336;
   sent : (sent : List ℕ)
       × g.S.Sink.takes l.fn.sink l.sink sent
-      × (sent ++ texts (rows_drawn l.pen (drop l.row (rows_of l.picture))) ≡ form_bytes l.picture);
+      × (sent ++ texts (rows_drawn l.row l.attribute (drop l.row (rows_of l.picture))) ≡ form_bytes l.picture);
 }
