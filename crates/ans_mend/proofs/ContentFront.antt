@@ -57,7 +57,7 @@ left_behind_content memory used count order within =
 -- ---- in a memory of which the first bytes are the file
 module _ (memory : List ℕ) (used : ℕ) (file : List ℕ) (within : used ≤ length memory)
     (are : file ≡ take used memory) where
-  content_few : length (content_in file) ≤ used
+  pub content_few : length (content_in file) ≤ used
   content_few =
       let a = short (body_in file) (position_or_len is_end_mark (body_in file)) in
       let b = short (front_in file) (length (front_in file) - block_size (comment_count (record_in file))) in

@@ -12,3 +12,14 @@ mod RecordFlags
 mod SequencesOut
 mod MendedTexts
 mod FewerEnds
+pub mod NamesWaiting
+mod NumbersToZero
+mod Searching
+mod SearchSteps
+mod MovedUp
+mod SearchResults
+mod NamedParts
+mod FirstPrint
+mod NamedGrowth
+mod NamedWriting
+mod NamedFiles

@@ -1,8 +1,9 @@
 -- Bytes that are written over as many.
 use Rattle.std.proofs.Common.{◌≡◌, ℕ, ◌+◌, ◌-◌, ◌≤◌, List, ◌++◌, length, take, drop, ap, ap₂, sym, ◌∙◌, arith}
-use Rattle.std.proofs.Common.{append_assoc}
-use Rattle.std.proofs.Math.Seq.{take-add}
-use Rattle.std.proofs.lemmas.List.{drop-drop}
+use Rattle.std.proofs.Common.{append_assoc, length-append}
+use Rattle.std.proofs.Math.Seq.{take-add, take-append_seam}
+use Rattle.std.proofs.lemmas.List.{drop-drop, length-take-le}
+use Rattle.std.proofs.lemmas.Slice.{drop-append-drop}
 use Rattle.ans_sauce.specs.Found.{front_in, record_in}
 use Rattle.ans_mend.specs.Drafts.{overwritten}
 
@@ -18,3 +19,24 @@ of_record file bytes offset long =
     ap₂ (λ (v w : List ℕ). v ++ (bytes ++ w)) front behind
     ∙ append_assoc (take start file) (take offset (drop start file))
     (bytes ++ drop (offset + length bytes) (drop start file))
+
+module _ (memory bytes : List ℕ) (count : ℕ) (within : count + length bytes ≤ length memory) where
+  front_long : length (take count memory ++ bytes) ≡ count + length bytes
+  front_long =
+      let front = length-take-le count memory (omega (arith, within)) in
+      omega (arith, front, length-append (take count memory) bytes)
+
+  regrouped : overwritten count bytes memory ≡ (take count memory ++ bytes) ++ drop (count + length bytes) memory
+  regrouped = sym (append_assoc (take count memory) bytes (drop (count + length bytes) memory))
+
+  pub front_overwritten : take (count + length bytes) (overwritten count bytes memory) ≡ take count memory ++ bytes
+  front_overwritten =
+      ap (λ (v : ℕ). take v (overwritten count bytes memory)) (sym front_long)
+      ∙ ap (take (length (take count memory ++ bytes))) regrouped
+      ∙ take-append_seam (take count memory ++ bytes) (drop (count + length bytes) memory)
+
+  pub behind_overwritten : (place : ℕ) → count + length bytes ≤ place
+      → drop place (overwritten count bytes memory) ≡ drop place memory
+  behind_overwritten place reached =
+      ap (drop place) regrouped
+      ∙ drop-append-drop (count + length bytes) memory (take count memory ++ bytes) place reached front_long

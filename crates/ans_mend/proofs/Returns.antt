@@ -1,14 +1,13 @@
 -- A turn of the loop that closes the gap.
-use Rattle.std.proofs.Common.{◌≡◌, ℕ, ◌+◌, ◌-◌, ◌≤◌, ◌<◌, Bool, true, false, List, [], ◌∷◌, ◌++◌, length, take}
+use Rattle.std.proofs.Common.{◌≡◌, ℕ, ◌+◌, ◌≤◌, ◌<◌, Bool, true, false, List, [], ◌∷◌, ◌++◌, length, take}
 use Rattle.std.proofs.Common.{drop, refl, sym, ap, ap₂, ◌∙◌, arith, slice_index_or}
 use Rattle.std.specs.Prelude.{if◌then◌else◌}
 use Rattle.std.proofs.lemmas.List.{get_or-drop, get_or-take, length-drop, length-take-le, take_more, drop-drop}
-use Rattle.std.proofs.lemmas.List.{append-nil, drop-take, take-take}
-use Rattle.std.proofs.lemmas.List.Edits.{take-paste}
-use Rattle.std.proofs.Math.Seq.{drop-append_seam, paste, take-add}
+use Rattle.std.proofs.lemmas.List.{append-nil}
 use Rattle.std.proofs.lemmas.List.Sums.{count_by_more_no, count_by_more_yes, sum_by-take-le}
 use Rattle.std.proofs.lemmas.Grind.{flat_map-append}
 use Rattle.ans_mend.specs.LineEnds.{is_line_feed, line_feeds, returned, with_returns}
+use Rattle.ans_mend.proofs.MovedUp.{filled_front, moved, moved_content}
 
 -- one byte more
 feeds_more : (xs : List ℕ) (i : ℕ) → i < length xs
@@ -90,44 +89,21 @@ module _ (start memory : List ℕ) (gap count index written : ℕ) (more : index
 
 module _ (memory : List ℕ) (used count gap : ℕ) (room : used + gap ≤ length memory) (within : count ≤ used)
     (feeds : gap ≡ line_feeds (take count memory)) where
-  -- the bytes that are used have moved by as much as the gap
-  abbrev moved : List ℕ
-  moved = paste memory gap (drop 0 memory) used
+  abbrev there : List ℕ
+  there = moved memory used count gap room within
 
-  -- they stand behind the gap
-  moved_behind : take used (drop gap moved) ≡ take used memory
-  moved_behind =
-      let long : length (take gap memory) ≡ gap = length-take-le gap memory (omega (arith, room)) in
-      sym (drop-take gap used moved)
-      ∙ ap (drop gap) (take-paste memory gap (drop 0 memory) used (omega (arith, room)) (omega (arith, room)))
-      ∙ ap (λ (v : ℕ). drop v (take gap memory ++ take used memory)) (sym long)
-      ∙ drop-append_seam (take gap memory) (take used memory)
+  same : take count (drop gap there) ≡ take count memory
+  same = moved_content memory used count gap room within
 
-  moved_content : take count (drop gap moved) ≡ take count memory
-  moved_content =
-      sym (take-take count used (drop gap moved) within) ∙ ap (take count) moved_behind
-      ∙ take-take count used memory within
-
-  moved_rest : take (used - count) (drop (gap + count) moved) ≡ drop count (take used memory)
-  moved_rest =
-      let sum : used ≡ count + (used - count) = omega (arith, within) in
-      ap (λ (v : List ℕ). take (used - count) v)
-      (ap (λ (v : ℕ). drop v moved) (omega arith) ∙ sym (drop-drop count gap moved))
-      ∙ sym (drop-take count (used - count) (drop gap moved))
-      ∙ ap (λ (v : ℕ). drop count (take v (drop gap moved))) (sym sum) ∙ ap (drop count) moved_behind
-
-  pub moved_feeds : line_feeds (take count (drop gap moved)) ≤ gap
-  moved_feeds = let same = ap line_feeds moved_content in omega (arith, feeds, same)
+  pub moved_feeds : line_feeds (take count (drop gap there)) ≤ gap
+  moved_feeds = let found = ap line_feeds same in omega (arith, feeds, found)
 
   pub returned_front : (new : List ℕ)
-      → take (count + line_feeds (take count (drop gap moved))) new ≡ with_returns (take count (drop gap moved))
-      → drop (gap + count) new ≡ drop (gap + count) moved
+      → take (count + line_feeds (take count (drop gap there))) new ≡ with_returns (take count (drop gap there))
+      → drop (gap + count) new ≡ drop (gap + count) there
       → take (used + gap) new ≡ with_returns (take count memory) ++ drop count (take used memory)
   returned_front new written left =
-      let same = ap line_feeds moved_content in
-      let sum : used + gap ≡ (gap + count) + (used - count) = omega (arith, within) in
-      let first : gap + count ≡ count + line_feeds (take count (drop gap moved)) = omega (arith, feeds, same) in
-      ap (λ (v : ℕ). take v new) sum ∙ take-add (gap + count) (used - count) new
-      ∙ ap₂ (λ (v w : List ℕ). v ++ w)
-      (ap (λ (v : ℕ). take v new) first ∙ written ∙ ap with_returns moved_content)
-      (ap (take (used - count)) left ∙ moved_rest)
+      let found = ap line_feeds same in
+      let first : gap + count ≡ count + line_feeds (take count (drop gap there)) = omega (arith, feeds, found) in
+      filled_front memory used count gap room within new (with_returns (take count memory))
+      (ap (λ (v : ℕ). take v new) first ∙ written ∙ ap with_returns same) left

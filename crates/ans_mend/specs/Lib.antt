@@ -9,3 +9,5 @@ pub mod FullRows
 pub mod TakingOut
 pub mod MendedText
 pub mod LastEnds
+pub mod NamedColours
+pub mod NameSearch

@@ -80,7 +80,7 @@ end_mark_line None = []
 end_mark_line (Some at) = codes "put an end mark at " ++ (decimal at ++ codes "\n")
 
 abbrev pub front_line : Bool → List ℕ
-front_line true = codes "put 19 bytes in front\n"
+front_line true = codes "put 25 bytes in front\n"
 front_line false = []
 
 -- all lines, in the order in which the file is mended
@@ -93,9 +93,10 @@ mended_text m =
     ++ (flag_line m.non_blink.was m.non_blink.is
     ++ (times_line (codes "took out a line end behind a full row") m.edits.row_ends
     ++ (times_line (codes "took out a line end at the end") m.edits.last_ends
+    ++ (times_line (codes "named the colours of a sequence") m.edits.named_colours
     ++ (reset_line (codes "lines ") m.lines
     ++ (end_mark_line m.end_mark
-    ++ (front_line m.front ++ reset_line (codes "file size ") m.file_size)))))))))
+    ++ (front_line m.front ++ reset_line (codes "file size ") m.file_size))))))))))
 
 -- ---- why there is none
 

@@ -2,7 +2,7 @@
 
 ghost use Rattle.std.specs.Prelude.{◌≡◌, ◌+◌, ◌-◌, ◌≤◌, ◌<◌, ◌∷◌, ◌++◌, length, take, drop};
 ghost use Rattle.ans_sauce.specs.Found.{front_in, record_in};
-ghost use Rattle.ans_mend.specs.Drafts.{draft_of, overwritten, with_byte};
+ghost use Rattle.ans_mend.specs.Drafts.{draft_of, memory_of, overwritten, with_byte};
 
 use std::marker::Model;
 
@@ -48,6 +48,13 @@ impl<'a> Draft<'a> {
         ensures { result.now ≡ self.now.file }
     {
         &self.memory[..self.used]
+    }
+
+    /// How many bytes the memory has in all.
+    pub fn capacity(&self) -> usize
+        ensures { result ≡ memory_of self.now }
+    {
+        self.memory.len()
     }
 
     /// Cuts off what stands behind the first `count` bytes. It is room then.
@@ -101,7 +108,7 @@ impl<'a> Draft<'a> {
     }
 }
 
-fn overwrite(file: &mut [u8], offset: usize, bytes: &[u8])
+pub(crate) fn overwrite(file: &mut [u8], offset: usize, bytes: &[u8])
     requires { offset + length bytes.now ≤ length file.old }
     ensures { file.new ≡ overwritten offset bytes.now file.old }
 {

@@ -154,7 +154,7 @@ fn put_front_line<W: Write>(out: &mut Outbox<'_, W>, front: bool)
     ensures { Puts W.contents out.old out.new (front_line front) }
 {
     if front {
-        out.put(b"put 19 bytes in front\n");
+        out.put(b"put 25 bytes in front\n");
     }
 }
 
@@ -181,6 +181,11 @@ pub fn put_mended<W: Write>(out: &mut Outbox<'_, W>, mended: &Mended)
         out,
         b"took out a line end at the end",
         &mended.edits.last_ends,
+    );
+    put_times_line(
+        out,
+        b"named the colours of a sequence",
+        &mended.edits.named_colours,
     );
     put_reset_line(out, b"lines ", &mended.lines);
     put_end_mark_line(out, mended.end_mark);

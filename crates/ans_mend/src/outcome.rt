@@ -16,6 +16,8 @@ pub struct Edits {
     pub row_ends: Option<Times>,
     /// How many line ends at the very end were taken out, and where the first began.
     pub last_ends: Option<Times>,
+    /// How many colour sequences got names of colours, and where the first stood.
+    pub named_colours: Option<Times>,
 }
 
 /// What was changed of a file that is mended.
@@ -74,7 +76,7 @@ pub enum Unmended {
     Torn,
     /// It states no lines. The least number was asked for, and it passes with none up to 8192.
     NoLines,
-    /// With what is put into it, a record, returns, an end mark or the safe beginning, it would have more
-    /// than 16,777,216 bytes.
+    /// With what is put into it, a record, returns, names of colours, an end mark or the safe beginning, it would have
+    /// more than 16,777,216 bytes.
     TooLong,
 }

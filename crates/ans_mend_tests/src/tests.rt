@@ -20,6 +20,7 @@ const UNCHANGED: Mended = Mended {
         },
         row_ends: None,
         last_ends: None,
+        named_colours: None,
     },
     non_blink: NonBlink {
         was: true,
@@ -77,6 +78,7 @@ fn changed_once() -> Mended {
             told,
             row_ends: times(1, 2),
             last_ends: times(1, 7),
+            named_colours: times(1, 12),
         },
         non_blink: NonBlink {
             was: false,
@@ -96,9 +98,10 @@ const SAID_ONCE: &[u8] = b"cut 1 byte at 137, behind the record\n\
     set the non-blink flag\n\
     took out a line end behind a full row at 2\n\
     took out a line end at the end at 7\n\
+    named the colours of a sequence at 12\n\
     lines 2, was 1\n\
     put an end mark at 9\n\
-    put 19 bytes in front\n\
+    put 25 bytes in front\n\
     file size 28, was 0\n";
 
 /// Changes, several times each, with texts of 32 bytes and of more.
@@ -129,6 +132,7 @@ fn changed_often() -> Mended {
             told,
             row_ends: times(24, 81),
             last_ends: times(3, 1999),
+            named_colours: times(5, 12),
         },
         non_blink: NonBlink {
             was: true,
@@ -158,6 +162,7 @@ const SAID_OFTEN: &[u8] = b"cut 2 bytes at 2724, behind the record\n\
     cleared the non-blink flag\n\
     took out a line end behind a full row, 24 times, first at 81\n\
     took out a line end at the end, 3 times, first at 1999\n\
+    named the colours of a sequence, 5 times, first at 12\n\
     lines 8192, was 0\n\
     put an end mark at 16777215\n\
     file size 0, was 4294967295\n";
@@ -387,6 +392,7 @@ const ALL: Mends = Mends {
     line_ends: true,
     take_out: true,
     full_rows: true,
+    name_colours: true,
     least_lines: true,
     lines: None,
 };

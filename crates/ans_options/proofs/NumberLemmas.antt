@@ -528,12 +528,12 @@ mend_parsed id p before here behind =
 widths_parsed : AllParsedBy (codes "width") (numbers_up_to 1024) (built anscheck).subs
 widths_parsed =
     mend_parsed (codes "width") (numbers_up_to 1024) refl
-    (other, (other, (other, (other, (other, (other, ((λ e. (refl, refl, refl, refl)), (other, tt)))))))) refl
+    (other, (other, (other, (other, (other, (other, (other, ((λ e. (refl, refl, refl, refl)), (other, tt))))))))) refl
 
 lines_parsed : AllParsedBy (codes "lines") (numbers_up_to 8192) (built anscheck).subs
 lines_parsed =
     mend_parsed (codes "lines") (numbers_up_to 8192) refl
-    (other, (other, (other, (other, (other, ((λ e. (refl, refl, refl, refl)), (other, (other, tt)))))))) refl
+    (other, (other, (other, (other, (other, (other, ((λ e. (refl, refl, refl, refl)), (other, (other, tt))))))))) refl
 
 -- ---- numbers
 

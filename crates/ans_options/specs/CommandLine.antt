@@ -89,7 +89,8 @@ command_app (Show form) =
 command_app (Table form) =
     with_flags (with_rule (new_app (command_name (Table form))) files_rule) (codes "json" ∷ codes "no-header" ∷ [])
 command_app (Mend mends) =
-    let flags = codes "take-out" ∷ codes "line-ends" ∷ codes "full-rows" ∷ codes "least-lines" ∷ [] in
+    let flags =
+    codes "take-out" ∷ codes "line-ends" ∷ codes "full-rows" ∷ codes "name-colours" ∷ codes "least-lines" ∷ [] in
     with_rule
     (with_rule (with_flags (file_app (command_name (Mend mends))) flags)
     (number_rule (codes "lines") (numbers_up_to 8192)))
@@ -237,6 +238,7 @@ mends_asked rows = record {
   line_ends = holds_flag (codes "line-ends") rows;
   take_out = holds_flag (codes "take-out") rows;
   full_rows = holds_flag (codes "full-rows") rows;
+  name_colours = holds_flag (codes "name-colours") rows;
   least_lines = holds_flag (codes "least-lines") rows;
   lines = number_asked (codes "lines") rows;
 }

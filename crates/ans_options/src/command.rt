@@ -42,6 +42,9 @@ pub struct Mends {
     pub take_out: bool,
     /// Whether the line ends behind full rows are taken out, where each full row has one.
     pub full_rows: bool,
+    /// Whether colour sequences with a 0 or an omitted number name the foreground and the background after
+    /// it, 37 and 40, where something is printed or cleared in a player's own colours.
+    pub name_colours: bool,
     /// Whether the least number of lines with which the drawing passes is stated where those that the
     /// record states are too few, or none are. Where `lines` has a number, that one is.
     pub least_lines: bool,
@@ -57,6 +60,7 @@ impl Mends {
         line_ends: false,
         take_out: false,
         full_rows: false,
+        name_colours: false,
         least_lines: false,
         lines: None,
     };

@@ -66,7 +66,17 @@ Exit status:
     };
 }
 
-/// The last lines of the help of `why` and `needs`.
+/// The last lines of the help of `why`.
+const WHY_END: &str = with_exit_statuses!(
+    "\
+If players: names own-colours alone, the drawing is the same on every player in
+named colours; a light theme shows its own black and white.
+
+",
+    "The file passes from the cleared screen, or help was asked for"
+);
+
+/// The last lines of the help of `needs`.
 const NEEDS_END: &str = with_exit_statuses!(
     "",
     "The file passes from the cleared screen, or help was asked for"
@@ -111,6 +121,9 @@ The mended file goes to standard output: give it another name, as in
 since the shell empties a file before it is read. Each change is told on
 standard error; without a flag only what is safe is changed.
 
+--name-colours is for terminals whose own white and black, those of a 0, are
+not those of 37 and 40: the drawing then shows in the latter everywhere.
+
 Exit status:
   0  A file was written, or help was asked for
   1  No file could be mended so; standard error says why
@@ -122,8 +135,10 @@ The redrawn file goes to standard output: give it another name, as in
   anscheck redraw drawing.ans > redrawn.ans
 since the shell empties a file before it is read. The picture is the one that
 the drawing shows in the end on a cleared screen, so an animation becomes
-still; it then shows from every start. Comments and record stay, but for the
-file size; an end mark is put behind the drawing where there is none.
+still; it then shows from every start. Record and comments stay, except the
+file size, and an end mark is put after the drawing where there is none. Both
+colours are named after each 0, and ESC[0m ends it. It shows on screens of two
+rows and more, of the stated columns or more; that is tried, not proved.
 
 Exit status:
   0  A file was written, or help was asked for
@@ -185,7 +200,7 @@ const COMMANDS: [Command; 9] = [
 ];
 
 /// The flags of `mend`.
-const MEND_FLAGS: [(&str, &str); 4] = [
+const MEND_FLAGS: [(&str, &str); 5] = [
     ("take-out", "Take out the sequences that players differ in"),
     (
         "line-ends",
@@ -196,16 +211,20 @@ const MEND_FLAGS: [(&str, &str); 4] = [
         "Take out the line ends behind full rows, if each has one",
     ),
     (
+        "name-colours",
+        "Put 37 and 40 after a 0 that something is printed in",
+    ),
+    (
         "least-lines",
         "State the least number of lines that is enough",
     ),
 ];
 
 /// What `--lines` of `mend` does.
-const LINES: &str = "State N lines, where too few or none are stated: 1 to 8192";
+const LINES: &str = "State N lines, if too few or none are stated: 1 to 8192";
 
 /// What `--width` of `mend` does.
-const WIDTH: &str = "Give a drawing with no record one for N columns: 1 to 1024";
+const WIDTH: &str = "Give a drawing with no record one of N columns: 1 to 1024";
 
 /// The flags that name a part of the start, each with its help.
 const PART_FLAGS: [(&str, &str); 5] = [
@@ -346,7 +365,7 @@ fn subcommand<'a>(alloc: Global, command: Command) -> Result<clap::Command<'a>, 
     ensures { IfOk result (λ c. app_of c ≡ command_app command) }
 {
     match command {
-        Command::Why => file_command(alloc, "why", WHY, NEEDS_END),
+        Command::Why => file_command(alloc, "why", WHY, WHY_END),
         Command::Mend(_) => mend_command(alloc),
         Command::Redraw => file_command(alloc, "redraw", REDRAW, REDRAW_END),
         Command::Needs => file_command(alloc, "needs", NEEDS, NEEDS_END),
@@ -450,6 +469,7 @@ fn mends_asked(matches: &ArgMatches<'_>) -> Mends
         line_ends: holds(matches, "line-ends"),
         take_out: holds(matches, "take-out"),
         full_rows: holds(matches, "full-rows"),
+        name_colours: holds(matches, "name-colours"),
         least_lines: holds(matches, "least-lines"),
         lines: number_asked(matches, "lines"),
     }

@@ -22,12 +22,13 @@ const EVERYTHING: Mends = Mends {
     line_ends: true,
     take_out: true,
     full_rows: true,
+    name_colours: true,
     least_lines: true,
     lines: Some(25),
 };
 
 /// Words that ask for a file mended, what may be changed, and the file.
-static MENDED: [(&[&str], Mends, Option<&str>); 26] = words! {
+static MENDED: [(&[&str], Mends, Option<&str>); 27] = words! {
     "mend" => mends!(), None;
     "mend" "f" => mends!(), Some("f");
     "mend" "-" => mends!(), Some("-");
@@ -35,6 +36,7 @@ static MENDED: [(&[&str], Mends, Option<&str>); 26] = words! {
     "mend" "--take-out" => mends!(take_out: true), None;
     "mend" "--line-ends" => mends!(line_ends: true), None;
     "mend" "--full-rows" => mends!(full_rows: true), None;
+    "mend" "--name-colours" => mends!(name_colours: true), None;
     "mend" "--least-lines" => mends!(least_lines: true), None;
     "mend" "--lines" "1" => mends!(lines: Some(1)), None;
     "mend" "--lines" "8192" => mends!(lines: Some(8192)), None;
@@ -49,9 +51,9 @@ static MENDED: [(&[&str], Mends, Option<&str>); 26] = words! {
     "mend" "--lines" "50" "f" "--width" "132" => mends!(width: Some(132), lines: Some(50)), Some("f");
     "mend" "--take-out" "f" "--full-rows" => mends!(take_out: true, full_rows: true), Some("f");
     "mend" "--line-ends" "--least-lines" => mends!(line_ends: true, least_lines: true), None;
-    "mend" "--take-out" "--line-ends" "--full-rows" "--least-lines" "--lines" "25" "--width" "80" "f"
+    "mend" "--take-out" "--line-ends" "--full-rows" "--name-colours" "--least-lines" "--lines" "25" "--width" "80" "f"
         => EVERYTHING, Some("f");
-    "mend" "f" "--width" "80" "--lines" "25" "--least-lines" "--full-rows" "--line-ends" "--take-out"
+    "mend" "f" "--width" "80" "--lines" "25" "--least-lines" "--name-colours" "--full-rows" "--line-ends" "--take-out"
         => EVERYTHING, Some("f");
     "mend" "--" "--take-out" => mends!(), Some("--take-out");
     "mend" "--" "--lines" => mends!(), Some("--lines");

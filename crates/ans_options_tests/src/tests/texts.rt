@@ -109,7 +109,10 @@ const PROGRAM_HELP: &str = help!(
 static COMMANDS: [(&str, &str); 6] = command_helps! {
     "why":
         "Say why a drawing is refused, what it relies on, and how to mend it", " [FILE]",
-        "  -h, --help  Print help\n",
+        "  -h, --help  Print help\n\
+        \n\
+        If players: names own-colours alone, the drawing is the same on every player in\n\
+        named colours; a light theme shows its own black and white.\n",
         "The file passes from the cleared screen, or help was asked for";
     "needs":
         "Print what a drawing relies on: screen, cursor, saved, colours, wrap", " [FILE]",
@@ -183,18 +186,22 @@ const MEND_HELP: &str = "\
     \x20 [FILE]  The file to read; - or none is standard input\n\
     \n\
     Options:\n\
-    \x20     --take-out     Take out the sequences that players differ in\n\
-    \x20     --line-ends    Put a return before each line feed, where there is none\n\
-    \x20     --full-rows    Take out the line ends behind full rows, if each has one\n\
-    \x20     --least-lines  State the least number of lines that is enough\n\
-    \x20     --lines <N>    State N lines, where too few or none are stated: 1 to 8192\n\
-    \x20     --width <N>    Give a drawing with no record one for N columns: 1 to 1024\n\
-    \x20 -h, --help         Print help\n\
+    \x20     --take-out      Take out the sequences that players differ in\n\
+    \x20     --line-ends     Put a return before each line feed, where there is none\n\
+    \x20     --full-rows     Take out the line ends behind full rows, if each has one\n\
+    \x20     --name-colours  Put 37 and 40 after a 0 that something is printed in\n\
+    \x20     --least-lines   State the least number of lines that is enough\n\
+    \x20     --lines <N>     State N lines, if too few or none are stated: 1 to 8192\n\
+    \x20     --width <N>     Give a drawing with no record one of N columns: 1 to 1024\n\
+    \x20 -h, --help          Print help\n\
     \n\
     The mended file goes to standard output: give it another name, as in\n\
     \x20 anscheck mend drawing.ans > mended.ans\n\
     since the shell empties a file before it is read. Each change is told on\n\
     standard error; without a flag only what is safe is changed.\n\
+    \n\
+    --name-colours is for terminals whose own white and black, those of a 0, are\n\
+    not those of 37 and 40: the drawing then shows in the latter everywhere.\n\
     \n\
     Exit status:\n\
     \x20 0  A file was written, or help was asked for\n\
@@ -216,8 +223,10 @@ const REDRAW_HELP: &str = "\
     \x20 anscheck redraw drawing.ans > redrawn.ans\n\
     since the shell empties a file before it is read. The picture is the one that\n\
     the drawing shows in the end on a cleared screen, so an animation becomes\n\
-    still; it then shows from every start. Comments and record stay, but for the\n\
-    file size; an end mark is put behind the drawing where there is none.\n\
+    still; it then shows from every start. Record and comments stay, except the\n\
+    file size, and an end mark is put after the drawing where there is none. Both\n\
+    colours are named after each 0, and ESC[0m ends it. It shows on screens of two\n\
+    rows and more, of the stated columns or more; that is tried, not proved.\n\
     \n\
     Exit status:\n\
     \x20 0  A file was written, or help was asked for\n\

@@ -1,12 +1,7 @@
-use Rattle.std.proofs.Common.{◌≡◌, ℕ, ◌-◌, List, drop, ap, arith, ◌∙◌}
-use Rattle.std.proofs.Math.Seq.{paste}
+use Rattle.std.proofs.Common.{◌∙◌}
+use Rattle.ans_mend.proofs.MovedUp.{from_start}
 use Rattle.ans_mend.proofs.Returns.{moved_feeds, returned_front}
 use Rattle.ans_mend.proofs.line_ends.put_returns_in.Goals as goal
-
--- a copy from the start copies as many
-from_start : (memory : List ℕ) (used gap : ℕ)
-    → paste memory gap (drop 0 memory) (used - 0) ≡ paste memory gap (drop 0 memory) used
-from_start memory used gap = ap (paste memory gap (drop 0 memory)) (omega arith)
 
 pub close_gap-requires-clause-room : goal.close_gap-requires-clause-room
 close_gap-requires-clause-room c =

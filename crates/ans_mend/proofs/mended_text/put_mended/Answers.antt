@@ -10,6 +10,7 @@ returns g c =
     (Puts-then c.put_flag_line.ensures
     (Puts-then c.put_times_line-2.ensures
     (Puts-then c.put_times_line-3.ensures
+    (Puts-then c.put_times_line-4.ensures
     (Puts-then c.put_reset_line.ensures
     (Puts-then c.put_end_mark_line.ensures
-    (Puts-then c.put_front_line.ensures c.put_reset_line-2.ensures)))))))))
+    (Puts-then c.put_front_line.ensures c.put_reset_line-2.ensures))))))))))
