@@ -1,16 +1,23 @@
 -- What is changed of a content where it is asked for.
-use Rattle.std.proofs.Common.{◌≡◌, ℕ, ◌+◌, ◌≤◌, Bool, true, List, length, Ok, Err, sym, subst}
-use Rattle.std.specs.Prelude.{MatchBool, Option, None, OnOk, Result}
-use Rattle.ans_model.specs.Bytes.{most_lines}
+use Rattle.std.proofs.Common.{◌≡◌, inr, ℕ, ◌+◌, ◌-◌, ◌<◌, ◌≤◌, Bool, true, false, List, length, Ok, Err, sym, ap, subst}
+use Rattle.std.proofs.Common.{arith}
+use Rattle.std.specs.Prelude.{MatchBool, Option, None, OnErr, OnOk, IfOk, IsTrue, Result, if◌then◌else◌}
+use Rattle.ans_model.specs.Bytes.{longest_file, most_lines}
 use Rattle.ans_model.specs.Screen.State.{Size, sized}
 use Rattle.ans_walks.specs.declared.times.Times.{Times}
 use Rattle.ans_sauce.specs.Found.{front_in}
 use Rattle.ans_mend.specs.FullRows.{HasFullRows}
 use Rattle.ans_mend.specs.LineEnds.{line_feeds, with_line_ends}
+use Rattle.ans_mend.specs.NamedColours.{HasNamedColours, IsTooLongNamed}
 use Rattle.ans_mend.specs.declared.draft.NoRoom.{NoRoom}
+use Rattle.ans_mend.specs.declared.outcome.Unmended.{Unmended}
+use Rattle.ans_mend.specs.declared.outcome.Unmended.TheVariants.{TooLong}
+use Rattle.ans_mend.specs.declared.taking_out.Told.{Told}
 use Rattle.ans_options.specs.declared.command.Mends.{Mends}
-use Rattle.ans_check.specs.Mending.{AreRowsJoined}
-use Rattle.ans_check.specs.MendingRoom.{most_returns}
+use Rattle.ans_check.specs.Mending.{AreLastEndsGone, AreNamed, AreRowsJoined, AreSequencesOut, IsEdited}
+use Rattle.ans_check.specs.Mending.{TellsReturns, returned}
+use Rattle.ans_check.specs.MendingRoom.{most_names, most_returns}
+use Rattle.ans_check.specs.MendingSteps.{IsEditedTooLong, IsNamedTooLong}
 use Rattle.ans_check.proofs.MendRoomLemmas.{line_ends_length}
 
 -- where returns are put, the file is longer by no more than its line feeds
@@ -26,3 +33,71 @@ pub rows_joined : (mends : Mends) (z : Size) (file joined : List ℕ) (times : O
 rows_joined mends z file joined times asked rows =
     subst (λ (b : Bool). MatchBool b (HasFullRows (sized z.width most_lines) file joined times)
     ((joined ≡ file) × (times ≡ None))) (sym asked) rows
+
+pub colours_named : (mends : Mends) (file new : List ℕ) (times : Option Times) → mends.name_colours ≡ true
+    → HasNamedColours file new times → AreNamed mends file new times
+colours_named mends file new times asked named =
+    subst (λ (b : Bool). MatchBool b (HasNamedColours file new times) ((new ≡ file) × (times ≡ None))) (sym asked) named
+
+pub named_if : (mends : Mends) (file new : List ℕ) (r : Result (Option Times) NoRoom) → mends.name_colours ≡ true
+    → IfOk r (HasNamedColours file new) → IfOk r (AreNamed mends file new)
+named_if mends file new (Ok times) asked named = colours_named mends file new times asked named
+named_if mends file new (Err none) asked named = tt
+
+-- no room was asked for
+pub lacks_if : (mends : Mends) (P Q : Type 0) (r : Result (Option Times) NoRoom) → mends.name_colours ≡ true
+    → OnErr r (P × Q) → OnErr r (IsTrue mends.name_colours × Q)
+lacks_if mends P Q (Ok times) asked lacks = tt
+lacks_if mends P Q (Err none) asked lacks = (asked, lacks.1)
+
+-- where the memory is as long as the longest file, the names are too many
+pub too_many_names : (mends : Mends) (file : List ℕ) (memory : ℕ) → longest_file ≤ memory
+    → IsTrue mends.name_colours × IsTooLongNamed file memory → IsNamedTooLong mends file
+too_many_names mends file memory long (asked, (new, times, named, more)) =
+    (new, times, colours_named mends file new times asked named, omega (arith, long, more))
+
+-- with the content changed
+module _ (mends : Mends) (z : Size) (file returned_file out joined ended : List ℕ) (returns row_ends last_ends : Option
+    Times) (told : Told) (put : TellsReturns mends file returns) (returned_is : returned_file ≡ returned mends file)
+    (sequences : AreSequencesOut mends returned_file out told) (rows : AreRowsJoined mends z out joined row_ends)
+    (ends : AreLastEndsGone mends z joined ended last_ends) where
+  pub edited_so : (new : List ℕ) (named : Option Times) → AreNamed mends ended new named
+      → IsEdited mends z file new (record {
+        returns = returns;
+        told = told;
+        row_ends = row_ends;
+        last_ends = last_ends;
+        named_colours = named;
+      })
+  edited_so new named are_named = record {
+    returns = put;
+    out = out;
+    sequences = subst (λ (v : List ℕ). AreSequencesOut mends v out told) returned_is sequences;
+    joined = joined;
+    rows = rows;
+    ended = ended;
+    ends = ends;
+    named = are_named;
+  }
+
+  pub edited_too_long : (reason : Unmended) → (reason ≡ TooLong) × IsNamedTooLong mends ended
+      → IsEditedTooLong mends z file reason
+  edited_too_long reason (is, (new, times, are_named, long)) =
+      (is, inr (new, _, edited_so new times are_named, long))
+
+-- a file with its names is as long as the longest, at most
+pub longer_by_names : (mends : Mends) (old returns : ℕ) (ended new : List ℕ) (times : Option Times)
+    → AreNamed mends ended new times → length ended ≤ old + returns → length new ≤ longest_file
+    → length new ≤ old + (returns + most_names mends old)
+longer_by_names mends old returns ended new times named shorter long = go mends.name_colours named
+  where
+    go : (asked : Bool) → MatchBool asked (HasNamedColours ended new times) ((new ≡ ended) × (times ≡ None))
+        → length new ≤ old + (returns + (if asked then longest_file - old else 0))
+    go true named = omega (arith, long)
+    go false (same, none) = let as_long = ap length same in omega (arith, as_long, shorter)
+
+-- there is no room for what is asked for
+pub lacks_names : (mends : Mends) (memory room old returns : ℕ) → memory ≡ old + room
+    → IsTrue mends.name_colours → memory < longest_file → room < returns + most_names mends old
+lacks_names mends memory room old returns sum asked few =
+    rw asked (omega (arith, sum, few))

@@ -1,16 +1,19 @@
 -- What a file's parts say of mending.
-use Rattle.std.proofs.Common.{◌≡◌, inr, ℕ, Bool, true, false, List, length, refl, sym, ap, ◌∙◌}
+use Rattle.std.proofs.Common.{◌≡◌, inl, inr, ℕ, Bool, true, false, List, length, refl, sym, ap, ◌∙◌}
 use Rattle.std.proofs.Common.{Option, Some, None, true≢false}
 use Rattle.std.proofs.Common.{subst₂, ap₂, Result, Ok, Err, ◌+◌, ◌==◌}
 use Rattle.std.specs.Prelude.{is_some, not, ◌||◌, IsTrue, ◌↔◌, IfOk, IfErr, IfSome, IfNone, if◌then◌else◌}
 use mir.Val.{bool_byte}
 use Rattle.ans_model.specs.Screen.State.{Size}
+use Rattle.ans_model.specs.Sequence.TokenKind.{TokenKind}
+use Rattle.ans_model.specs.Sequence.Reads.{Reads}
+use Rattle.ans_model.specs.declared.start.Start.{Start}
 use Rattle.ans_model.specs.Verdict.Needs.{IsLeast}
 use Rattle.ans_model.proofs.ClassLemmas.{covers_good, none_known_covers}
 use Rattle.ans_players.specs.declared.kind.Kind.{Kind}
 use Rattle.ans_players.proofs.NamedKinds.{named_are_least}
 use Rattle.ans_walks.specs.SaidOfPlayers.{IsSameWhereCleared}
-use Rattle.ans_check.specs.Mending.{WantsMending}
+use Rattle.ans_check.specs.Mending.{BeginsUnnamed, WantsMending}
 use Rattle.ans_model.specs.Bytes.{most_lines}
 use Rattle.ans_walks.specs.Lines.{IsNeverGood}
 use Rattle.ans_model.specs.Verdict.Good.{IsGood}
@@ -51,20 +54,20 @@ split_fault file parts fault h deserved =
     (split_record file parts h) (split_content file parts h) deserved)
 
 -- its parts pass from the cleared start, and this is what they want
-pub judged : (file : List ℕ) (parts : Parts) (judgement : Judgement) → IsSplit file parts
+pub judged : (mends : Mends) (file : List ℕ) (parts : Parts) (judgement : Judgement) → IsSplit file parts
     → IsGood (size_of parts) all_known (content_of parts)
     → (judgement.front ≡ false → IsGood (size_of parts) none_known (content_of parts))
-    → IsTrue judgement.front ↔ WantsMending (size_of parts) (content_of parts)
+    → IsTrue judgement.front ↔ WantsMending mends (size_of parts) (content_of parts)
     → judgement.content ≡ length (content_of parts) → judgement.lines ≡ lines_of parts
-    → judgement.non_blink ≡ is_non_blink (record_of parts) → IsJudgement file judgement
-judged file parts judgement h cleared every wants count lines non_blink = record {
+    → judgement.non_blink ≡ is_non_blink (record_of parts) → IsJudgement mends file judgement
+judged mends file parts judgement h cleared every wants count lines non_blink = record {
   apart = h.apart;
   accepts = h.accepts;
   cleared = subst₂ (λ (sauce bytes : List ℕ). IsGood (stated_size sauce) all_known bytes) h.shows.sauce h.shows.content
       cleared;
   every = λ off. subst₂ (λ (sauce bytes : List ℕ). IsGood (stated_size sauce) none_known bytes) h.shows.sauce
       h.shows.content (every off);
-  wants = subst₂ (λ (sauce bytes : List ℕ). IsTrue judgement.front ↔ WantsMending (stated_size sauce) bytes)
+  wants = subst₂ (λ (sauce bytes : List ℕ). IsTrue judgement.front ↔ WantsMending mends (stated_size sauce) bytes)
       h.shows.sauce h.shows.content wants;
   count = count ∙ ap length h.shows.content;
   lines = lines ∙ ap stated_lines h.shows.sauce;
@@ -76,18 +79,28 @@ abbrev all_agreed : Kind → Bool
 all_agreed kind = true
 
 -- what a content wants whose play from all starts has come to this
-module _ (z : Size) (content : List ℕ) where
+module _ (mends : Mends) (z : Size) (content : List ℕ) where
   pub faulty_wants : IsGood z all_known content → (fault : Fault) → Deserves z none_known content fault
-      → WantsMending z content
-  faulty_wants cleared fault deserved same =
-      not_good z none_known content fault deserved
-      (same all_agreed (cleared, (named_are_least z content all_agreed cleared).1 (λ kind some. refl))).0
+      → WantsMending mends z content
+  faulty_wants cleared fault deserved =
+      inl (λ same. not_good z none_known content fault deserved
+      (same all_agreed (cleared, (named_are_least z content all_agreed cleared).1 (λ kind some. refl))).0)
 
-  pub parted_wants : (same : Bool) → IsTrue same ↔ IsSameWhereCleared z content
-      → IsTrue (not same) ↔ WantsMending z content
-  parted_wants true tells = (λ is. absurd (true≢false (sym is)), λ wants. absurd (wants (tells.0 refl)))
-  parted_wants false tells = (λ is. λ all. true≢false (sym (tells.1 all)), λ wants. refl)
+  pub parted_wants : (same : Bool) → IsTrue same ↔ IsSameWhereCleared z content → same ≡ false
+      → WantsMending mends z content
+  parted_wants same tells is = inl (λ all. true≢false (sym (tells.1 all) ∙ is))
 
+  pub same_wants : (same names : Bool) → IsTrue same ↔ IsSameWhereCleared z content → same ≡ true
+      → IsTrue names ↔ BeginsUnnamed mends content → IsTrue names ↔ WantsMending mends z content
+  same_wants same names tells is begins = (
+    λ on. inr (begins.0 on),
+    λ wants. elim wants [
+      | inl parted ↦ absurd (parted (tells.0 is))
+      | inr unnamed ↦ begins.1 unnamed
+    ],
+  )
+
+module _ (z : Size) (content : List ℕ) where
   -- what passes from every start needs nothing
   pub nothing_needed : IsGood z none_known content → IsLeast z content none_known
   nothing_needed good class = (
@@ -95,13 +108,18 @@ module _ (z : Size) (content : List ℕ) where
     λ covers. (good.0, covers_good z none_known class content good.0 covers good.1),
   )
 
+-- what is good can be read
+pub good_reads : (z : Size) (class : Start) (content : List ℕ) → IsGood z class content
+    → (tokens : List TokenKind) × Reads content tokens
+good_reads z class content good = (good.1.tokens, good.1.reads)
+
 -- a reason by its parts is one of the file
 pub split_reason : (mends : Mends) (lacks : Bool) (file : List ℕ) (parts : Parts) (reason : Unmended)
     → IsSplit file parts → IsReasonOfLines mends lacks (record_of parts) (content_of parts) reason
     → IsReasonOfEdited mends lacks file reason
 split_reason mends lacks file parts reason h is =
-    inr (subst₂ (λ (sauce bytes : List ℕ). IsReasonOfLines mends lacks sauce bytes reason)
-    (split_record file parts h) (split_content file parts h) is)
+    inr (inr (subst₂ (λ (sauce bytes : List ℕ). IsReasonOfLines mends lacks sauce bytes reason)
+    (split_record file parts h) (split_content file parts h) is))
 
 -- ---- what is taken
 

@@ -1,5 +1,5 @@
 -- A file that is mended passes from every start.
-use Rattle.std.proofs.Common.{◌≡◌, inr, ℕ, ◌+◌, ◌-◌, ◌≤◌, ◌==◌, Bool, true, false, List, ◌++◌}
+use Rattle.std.proofs.Common.{◌≡◌, inl, inr, ℕ, ◌+◌, ◌-◌, ◌≤◌, ◌==◌, Bool, true, false, List, ◌++◌}
 use Rattle.std.proofs.Common.{length, take, refl, sym, ap, ap₂, ◌∙◌, arith, subst, subst₂}
 use Rattle.std.proofs.Common.{append_assoc, true≢false, Result, Ok, Err}
 use Rattle.std.specs.Prelude.{if◌then◌else◌, ◌&&◌, ◌||◌, IfOk, IfErr, nat_le, bytes_eq, codes, Option, None, Some}
@@ -34,8 +34,8 @@ use Rattle.ans_mend.proofs.SameLength.{overwritten_length, recorded_length}
 use Rattle.ans_options.specs.declared.command.Mends.{Mends}
 use Rattle.std.specs.Prelude.{IsTrue, ◌↔◌}
 use Rattle.ans_check.specs.Mending.{IsEditedAsStated, IsSettled, WantsMending, asked_for, recorded}
-use Rattle.ans_check.specs.Mending.{IsFaulty, IsMended, IsReason}
-use Rattle.ans_check.specs.MendingSteps.{IsFinished, IsJudgement, IsSurvey, IsPrepared, IsTooLong}
+use Rattle.ans_check.specs.Mending.{IsFaulty, IsMended, IsReason, IsReasonFor}
+use Rattle.ans_check.specs.MendingSteps.{IsEditedTooLong, IsFinished, IsJudgement, IsPrepared, IsSurvey, IsTooLong}
 use Rattle.ans_check.specs.Mending.{asks_for_lines, first_lines, front_bytes, gives_record, lacks_lines, lined, opened}
 use Rattle.ans_check.specs.Mending.{record_put}
 use Rattle.ans_check.specs.MendingRoom.{LacksScreenFor, LacksScreenInTheEnd}
@@ -231,7 +231,7 @@ passing z false bytes good every =
     }
 
 pub mended : (mends : Mends) (file : List ℕ) (prepared : Prepared) (settled : List ℕ) (judgement : Judgement)
-    (m : Mended) (draft : List ℕ) → IsPrepared mends file prepared settled → IsJudgement settled judgement
+    (m : Mended) (draft : List ℕ) → IsPrepared mends file prepared settled → IsJudgement mends settled judgement
     → IsFinished prepared judgement settled m draft → IsMended mends file m draft
 mended mends file prepared settled judgement m draft prep judged done =
     let front : List ℕ = front_bytes m.front in
@@ -294,9 +294,9 @@ mended mends file prepared settled judgement m draft prep judged done =
           (sym body_is) passes.cleared;
       from_every = subst₂ (λ (z : Size) (bytes : List ℕ). GoodWith z none_known bytes passes.picture) (sym size_is)
           (sym content_is) passes.every;
-      front = subst (λ (b : Bool). IsTrue b ↔ WantsMending (stated_size (resized_parts front n apart).record_bytes)
-          (content_in settled)) (sym done.front)
-          (subst₂ (λ (z : Size) (bytes : List ℕ). IsTrue judgement.front ↔ WantsMending z bytes) (sym size_is)
+      front = subst (λ (b : Bool). IsTrue b ↔ WantsMending mends
+          (stated_size (resized_parts front n apart).record_bytes) (content_in settled)) (sym done.front)
+          (subst₂ (λ (z : Size) (bytes : List ℕ). IsTrue judgement.front ↔ WantsMending mends z bytes) (sym size_is)
           (sym body_is) judged.wants);
       tail = done.tail ∙ prep.tail;
       given_record = done.given_record ∙ prep.given_record;
@@ -331,12 +331,12 @@ faulty mends file prepared settled fault prep is =
 
 -- and so is want of room for the mending
 pub too_long : (mends : Mends) (file : List ℕ) (prepared : Prepared) (settled : List ℕ) (judgement : Judgement)
-    (reason : Unmended) → IsPrepared mends file prepared settled → IsJudgement settled judgement
+    (reason : Unmended) → IsPrepared mends file prepared settled → IsJudgement mends settled judgement
     → IsTooLong judgement settled reason → IsReason mends file reason
 too_long mends file prepared settled judgement reason prep judged is =
     let apart : FileParts = judged.apart in
-    let wants : WantsMending (stated_size (record_in settled)) (content_in settled) =
-    subst₂ (λ (r b : List ℕ). WantsMending (stated_size r) (content b))
+    let wants : WantsMending mends (stated_size (record_in settled)) (content_in settled) =
+    subst₂ (λ (r b : List ℕ). WantsMending mends (stated_size r) (content b))
     (sym (laid_record settled apart judged.accepts.laid)) (sym (laid_body settled apart judged.accepts.laid))
     (judged.wants.0 is.1) in
     let passes : IsGood (stated_size (record_in settled)) all_known (content_in settled) =
@@ -357,7 +357,8 @@ lacks_screen lacks mends file prepared settled prep none =
 
 -- what finishing comes to
 module _ (mends : Mends) (file : List ℕ) (prepared : Prepared) (settled : List ℕ) (judgement : Judgement)
-    (prep : IsPrepared mends file prepared settled) (judged : IsJudgement settled judgement) (draft : List ℕ) where
+    (prep : IsPrepared mends file prepared settled) (judged : IsJudgement mends settled judgement)
+    (draft : List ℕ) where
   pub finished : (r : Result Mended Unmended) → IfOk r (λ m. IsFinished prepared judgement settled m draft)
       → IfOk r (λ m. IsMended mends file m draft)
   finished (Ok m) done = mended mends file prepared settled judgement m draft prep judged done
@@ -367,3 +368,12 @@ module _ (mends : Mends) (file : List ℕ) (prepared : Prepared) (settled : List
       → IfErr r (IsReason mends file)
   unfinished (Ok m) is = is
   unfinished (Err reason) is = too_long mends file prepared settled judgement reason prep judged is
+
+-- a file that is too long with its returns, or with its content changed, is not mended for that
+pub too_long_edited : (asked : Mends) (based : List ℕ) (reason : Unmended)
+    → IsEditedTooLong asked (stated_size (record_in (opened asked based))) (opened asked based) reason
+    → IsReasonFor asked based reason
+too_long_edited asked based reason (is, why) = elim why [
+  | inl long ↦ inl (is, inr long)
+  | inr (edited, edits, is_edited, long) ↦ inr (inr (inl (edited, edits, is_edited, inl (is, long))))
+]

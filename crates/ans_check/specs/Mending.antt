@@ -12,6 +12,9 @@ use Rattle.ans_walks.specs.SaidOfPlayers.{IsSameWhereCleared}
 use Rattle.ans_model.specs.Screen.StartClass.{all_known, none_known}
 use Rattle.ans_model.specs.Verdict.Good.{Picture, GoodWith, IsGood}
 use Rattle.ans_model.specs.declared.fault.Fault.{Fault}
+use Rattle.ans_model.specs.Sequence.TokenKind.{TokenKind}
+use Rattle.ans_model.specs.Sequence.Reads.{Reads}
+use Rattle.ans_players.specs.Situations.{spelled}
 use Rattle.ans_sauce.specs.Found.{record_in}
 use Rattle.ans_sauce.specs.Judged.{IsRecordFault}
 use Rattle.ans_walks.specs.Hints.{are_torn}
@@ -27,6 +30,7 @@ use Rattle.ans_mend.specs.Fields.{with_lines, with_record}
 use Rattle.ans_mend.specs.LastEnds.{HasFewerEnds, times_at}
 use Rattle.ans_mend.specs.LineEnds.{ArePut, with_line_ends}
 use Rattle.ans_mend.specs.FullRows.{HasFullRows}
+use Rattle.ans_mend.specs.NamedColours.{HasNamedColours, begins_unnamed}
 use Rattle.ans_mend.specs.NewRecord.{record_given, takes_record, with_new_record}
 use Rattle.std.specs.Option.{option_map_or}
 use Rattle.ans_mend.specs.Tail.{IsTailCut}
@@ -100,6 +104,11 @@ abbrev pub AreLastEndsGone : Mends → Size → List ℕ → List ℕ → Option
 AreLastEndsGone mends z file new times =
     MatchBool mends.take_out (HasFewerEnds z file new times) ((new ≡ file) × (times ≡ None))
 
+-- the colours are named and told, where that is asked for
+abbrev pub AreNamed : Mends → List ℕ → List ℕ → Option Times → Type 0
+AreNamed mends file new times =
+    MatchBool mends.name_colours (HasNamedColours file new times) ((new ≡ file) × (times ≡ None))
+
 -- The file with its content changed as it is asked for, on a screen of this size, and what is told of that.
 pub record IsEdited (mends : Mends) (z : Size) (file edited : List ℕ) (edits : Edits) : Type 0 where
   pub returns : TellsReturns mends file edits.returns
@@ -107,7 +116,9 @@ pub record IsEdited (mends : Mends) (z : Size) (file edited : List ℕ) (edits :
   pub sequences : AreSequencesOut mends (returned mends file) out edits.told
   pub joined : List ℕ
   pub rows : AreRowsJoined mends z out joined edits.row_ends
-  pub ends : AreLastEndsGone mends z joined edited edits.last_ends
+  pub ended : List ℕ
+  pub ends : AreLastEndsGone mends z joined ended edits.last_ends
+  pub named : AreNamed mends ended edited edits.named_colours
 
 -- the same on the screen that its record states
 abbrev pub IsEditedAsStated : Mends → List ℕ → List ℕ → Edits → Type 0
@@ -177,9 +188,15 @@ pub record IsSettled (asked : Mends) (based settled : List ℕ) : Type 0 where
 
 -- ---- the file that is written
 
--- From some start something arises that does not from the cleared one: a fault, or a kind in which players part.
-abbrev pub WantsMending : Size → List ℕ → Type 0
-WantsMending z content = ¬ IsSameWhereCleared z content
+-- names of colours are asked for, and something is printed or cleared before a sequence that could have them
+abbrev pub BeginsUnnamed : Mends → List ℕ → Type 0
+BeginsUnnamed mends content = IsTrue mends.name_colours × (tokens : List TokenKind) × (reads : Reads content tokens)
+    × IsTrue (begins_unnamed (spelled tokens reads.0))
+
+-- From some start something arises that does not from the cleared one: a fault, or a kind in which players part. Or
+-- names of colours are wanted from the beginning on.
+abbrev pub WantsMending : Mends → Size → List ℕ → Type 0
+WantsMending mends z content = (¬ IsSameWhereCleared z content) ⊎ BeginsUnnamed mends content
 
 -- the bytes before those of the draft
 abbrev pub front_bytes : Bool → List ℕ
@@ -214,7 +231,7 @@ pub record IsMended (mends : Mends) (file : List ℕ) (mended : Mended) (draft :
   pub picture : Picture
   pub from_cleared : GoodWith (stated_size apart.record_bytes) all_known (content_in settled) picture
   pub from_every : GoodWith (stated_size apart.record_bytes) none_known (content apart.body) picture
-  pub front : IsTrue mended.front ↔ WantsMending (stated_size apart.record_bytes) (content_in settled)
+  pub front : IsTrue mended.front ↔ WantsMending asked (stated_size apart.record_bytes) (content_in settled)
   pub tail : mended.tail ≡ times_at (length file - length cut) (length cut)
   pub given_record : mended.given_record ≡ record_put mends cut
   pub flag_was : mended.non_blink.was ≡ is_non_blink (record_in (opened asked based))
@@ -247,19 +264,21 @@ IsFaulty file fault =
 abbrev pub HasRecordFault : List ℕ → Unmended → Type 0
 HasRecordFault file reason = (fault : Fault) × (reason ≡ Refused fault) × IsRecordFault file fault
 
--- Of the file with its content changed: it has a fault of its own, or the number of lines is why.
+-- Of the file with its content changed: it is too long, or has a fault of its own, or the number of lines is why.
 abbrev pub IsReasonOfEdited : Mends → Bool → List ℕ → Unmended → Type 0
 IsReasonOfEdited mends lacks file reason =
-    HasRecordFault file reason ⊎ IsReasonOfLines mends lacks (record_in file) (content_in file) reason
+    ((reason ≡ TooLong) × (longest_file < length file)) ⊎ HasRecordFault file reason
+    ⊎ IsReasonOfLines mends lacks (record_in file) (content_in file) reason
 
 -- With all done that was asked for, the content does not pass; or there is no room for it, or it passes and there is
 -- none for the mending that it needs.
-abbrev pub IsReasonOfContent : List ℕ → Unmended → Type 0
-IsReasonOfContent settled (Refused fault) = IsFaulty settled fault
-IsReasonOfContent settled TooLong = (longest_file < length settled) ⊎ ((longest_file < length settled + length mending)
-    × WantsMending (stated_size (record_in settled)) (content_in settled)
+abbrev pub IsReasonOfContent : Mends → List ℕ → Unmended → Type 0
+IsReasonOfContent mends settled (Refused fault) = IsFaulty settled fault
+IsReasonOfContent mends settled TooLong =
+    (longest_file < length settled) ⊎ ((longest_file < length settled + length mending)
+    × WantsMending mends (stated_size (record_in settled)) (content_in settled)
     × PassesAsStated (record_in settled) (content_in settled))
-IsReasonOfContent settled _ = ⊥
+IsReasonOfContent mends settled _ = ⊥
 
 -- what is true of a file whose content is changed is true of one to which this one may come
 abbrev pub HasEdited : Mends → List ℕ → (List ℕ → Type 0) → Type 0
@@ -279,7 +298,7 @@ IsTooLongFor asked based reason = (reason ≡ TooLong)
 abbrev pub IsReasonFor : Mends → List ℕ → Unmended → Type 0
 IsReasonFor asked based reason = IsTooLongFor asked based reason ⊎ HasRecordFault (opened asked based) reason
     ⊎ HasEdited asked based (λ edited. IsReasonOfEdited asked (lacks_lines asked based) edited reason)
-    ⊎ HasSettled asked based (λ settled. IsReasonOfContent settled reason)
+    ⊎ HasSettled asked based (λ settled. IsReasonOfContent asked settled reason)
 
 -- the reason is true of the file
 abbrev pub IsReason : Mends → List ℕ → Unmended → Type 0

@@ -1,5 +1,6 @@
 -- What mending takes of the room in a draft, and when there may be none for its screen.
-use Rattle.std.specs.Prelude.{ℕ, ◌+◌, ◌<◌, List, if◌then◌else◌}
+use Rattle.std.specs.Prelude.{ℕ, ◌+◌, ◌-◌, ◌<◌, List, length, if◌then◌else◌}
+use Rattle.ans_model.specs.Bytes.{longest_file}
 use Rattle.ans_model.specs.File.Layout.{FileParts}
 use Rattle.ans_model.specs.File.Record.{stated_size}
 use Rattle.ans_model.specs.File.Refusals.{Accepts}
@@ -14,9 +15,14 @@ use Rattle.ans_check.specs.Mending.{HasSettled, asked_for, recorded}
 abbrev pub most_returns : Mends → List ℕ → ℕ
 most_returns mends bytes = if mends.line_ends then line_feeds bytes else 0
 
--- how many bytes are put into a file at most: returns, an end mark and a record, and an end mark behind the content
+-- how many bytes names of colours are at most, where they are asked for, in a file of so many bytes: up to the longest
+abbrev pub most_names : Mends → ℕ → ℕ
+most_names mends long = if mends.name_colours then longest_file - long else 0
+
+-- how many bytes are put into a file at most: returns, names, an end mark and a record, and an end mark behind the
+-- content
 abbrev pub most_put : Mends → List ℕ → ℕ
-most_put mends file = most_returns mends file + 130
+most_put mends file = most_returns mends file + most_names mends (length file) + 130
 
 -- the draft has no room for so many
 abbrev pub LacksRoom : Mends → DraftView → Type 0

@@ -17,8 +17,12 @@ use Rattle.ans_mend.specs.Tail.{IsTailCut}
 use Rattle.ans_mend.specs.declared.outcome.Mended.{Mended}
 use Rattle.ans_mend.specs.declared.outcome.Unmended.{Unmended}
 use Rattle.ans_mend.specs.declared.outcome.Unmended.TheVariants.{TooLong}
-use Rattle.std.specs.Prelude.{IsTrue, ◌↔◌}
-use Rattle.ans_check.specs.Mending.{WantsMending, asked_for, record_put, recorded}
+use Rattle.std.specs.Prelude.{IsTrue, ◌↔◌, ◌⊎◌, Option}
+use Rattle.ans_check.specs.Mending.{AreNamed, IsEdited, WantsMending, asked_for, record_put, recorded, returned}
+use Rattle.ans_model.specs.Screen.State.{Size}
+use Rattle.ans_walks.specs.declared.times.Times.{Times}
+use Rattle.ans_mend.specs.Drafts.{DraftView, memory_of}
+use Rattle.ans_mend.specs.declared.outcome.Edits.{Edits}
 use Rattle.ans_options.specs.declared.command.Mends.{Mends}
 use Rattle.ans_check.specs.declared.mend_judge.Judgement.{Judgement}
 use Rattle.ans_check.specs.declared.mend_steps.Done.{Done}
@@ -39,15 +43,29 @@ pub record IsSurvey (lacks : Bool) (file : List ℕ) (survey : Survey) : Type 0 
 
 -- the file is accepted, and its content passes from the cleared start; the front is wanted where it does not from every
 -- start
-pub record IsJudgement (file : List ℕ) (judgement : Judgement) : Type 0 where
+pub record IsJudgement (mends : Mends) (file : List ℕ) (judgement : Judgement) : Type 0 where
   pub apart : FileParts
   pub accepts : Accepts file apart
   pub cleared : IsGood (stated_size apart.record_bytes) all_known (content apart.body)
   pub every : judgement.front ≡ false → IsGood (stated_size apart.record_bytes) none_known (content apart.body)
-  pub wants : IsTrue judgement.front ↔ WantsMending (stated_size apart.record_bytes) (content apart.body)
+  pub wants : IsTrue judgement.front ↔ WantsMending mends (stated_size apart.record_bytes) (content apart.body)
   pub count : judgement.content ≡ length (content apart.body)
   pub lines : judgement.lines ≡ stated_lines apart.record_bytes
   pub non_blink : judgement.non_blink ≡ is_non_blink apart.record_bytes
+
+-- with its colours named the file is too long
+abbrev pub IsNamedTooLong : Mends → List ℕ → Type 0
+IsNamedTooLong mends file = (new : List ℕ) × (times : Option Times) × AreNamed mends file new times
+    × (longest_file < length new)
+
+-- the file is too long with its returns, or with all that is changed of its content
+abbrev pub IsEditedTooLong : Mends → Size → List ℕ → Unmended → Type 0
+IsEditedTooLong mends z file reason = (reason ≡ TooLong) × ((longest_file < length (returned mends file))
+    ⊎ ((edited : List ℕ) × (edits : Edits) × IsEdited mends z file edited edits × (longest_file < length edited)))
+
+-- there is no room for names that are asked for, and would be if the memory were as long as the longest file
+abbrev pub LacksNameRoom : Mends → DraftView → Type 0
+LacksNameRoom mends draft = IsTrue mends.name_colours × (memory_of draft < longest_file)
 
 -- what was done with the content, the lines and the end mark
 pub record IsDone (asked : Mends) (based : List ℕ) (done : Done) (settled : List ℕ) : Type 0 where

@@ -1,10 +1,13 @@
 //! What is changed of the content of a file that is mended.
-ghost use Rattle.std.specs.Prelude.{◌≡◌, ◌+◌, ◌≤◌, ◌<◌, length, IfOk, IfErr, OnErr, OnOk};
+ghost use Rattle.std.specs.Prelude.{◌≡◌, ◌+◌, ◌≤◌, ◌<◌, length, IfOk, IfErr, IsTrue, OnErr, OnOk};
 ghost use Rattle.ans_model.specs.Bytes.{longest_file};
 ghost use Rattle.ans_mend.specs.declared.outcome.Unmended.TheVariants.{TooLong};
-ghost use Rattle.ans_check.specs.Mending.{AreLastEndsGone, AreRowsJoined, AreSequencesOut, IsEdited, TellsReturns};
+ghost use Rattle.ans_check.specs.Mending.{AreLastEndsGone, AreNamed, AreRowsJoined, AreSequencesOut, IsEdited};
+ghost use Rattle.ans_check.specs.Mending.{TellsReturns};
 ghost use Rattle.ans_check.specs.Mending.{returned};
-ghost use Rattle.ans_check.specs.MendingRoom.{most_returns};
+ghost use Rattle.ans_check.specs.MendingRoom.{most_names, most_returns};
+ghost use Rattle.ans_check.specs.MendingSteps.{IsEditedTooLong, IsNamedTooLong, LacksNameRoom};
+ghost use Rattle.ans_mend.specs.NamedColours.{IsTooLongNamed};
 ghost use Rattle.ans_mend.specs.Drafts.{memory_of};
 ghost use Rattle.ans_sauce.specs.Found.{front_in};
 
@@ -68,8 +71,49 @@ fn take_out_last_ends(draft: &mut Draft<'_>, mends: &Mends, size: Size) -> Optio
     None
 }
 
+/// Names the colours, where that is asked for.
+fn name_colours(draft: &mut Draft<'_>, mends: &Mends) -> Result<Option<Times>, NoRoom>
+    requires { length draft.old.file ≤ longest_file }
+    ensures file { IfOk result (AreNamed mends.now draft.old.file draft.new.file) }
+    ensures memory { memory_of draft.new ≡ memory_of draft.old }
+    ensures no_room { OnErr result (IsTrue mends.now.name_colours
+        × IsTooLongNamed draft.old.file (memory_of draft.old)) }
+{
+    if mends.name_colours {
+        return draft.name_colours();
+    }
+    Ok(None)
+}
+
+/// The same. An error in the answer says that the file is too long with the names. `Err` says that it is not, or may
+/// not be, and that there is no room for them in the draft.
+fn name_within(
+    draft: &mut Draft<'_>,
+    mends: &Mends,
+) -> Result<Result<Option<Times>, Unmended>, NoRoom>
+    requires { length draft.old.file ≤ longest_file }
+    ensures named { IfOk result (λ answer. IfOk answer (AreNamed mends.now draft.old.file draft.new.file)) }
+    ensures length { IfOk result (λ answer. OnOk answer (length draft.new.file ≤ longest_file)) }
+    ensures reason { IfOk result (λ answer. IfErr answer (λ reason.
+        (reason ≡ TooLong) × IsNamedTooLong mends.now draft.old.file)) }
+    ensures memory { memory_of draft.new ≡ memory_of draft.old }
+    ensures no_room { OnErr result (LacksNameRoom mends.now draft.old) }
+{
+    let Ok(named) = name_colours(draft, mends) else {
+        if draft.capacity() < MAX_FILE {
+            return Err(NoRoom);
+        }
+        return Ok(Err(Unmended::TooLong));
+    };
+    if draft.file().len() > MAX_FILE {
+        return Ok(Err(Unmended::TooLong));
+    }
+    Ok(Ok(named))
+}
+
 /// Changes of the content what is asked for, on a screen of this size. An error in the answer says that the
-/// file is too long with its returns. `Err` says that there is no room for them in the draft.
+/// file is too long with its returns, or with names of colours. `Err` says that there is no room for these in
+/// the draft.
 pub(crate) fn edit(
     draft: &mut Draft<'_>,
     mends: &Mends,
@@ -77,12 +121,12 @@ pub(crate) fn edit(
 ) -> Result<Result<Edits, Unmended>, NoRoom>
     ensures edits { IfOk result (λ answer. IfOk answer (IsEdited mends.now size draft.old.file draft.new.file)) }
     ensures length { IfOk result (λ answer. OnOk answer (length draft.new.file ≤ longest_file)) }
-    ensures reason { IfOk result (λ answer. IfErr answer (λ reason.
-        (reason ≡ TooLong) × (longest_file < length (returned mends.now draft.old.file)))) }
-    ensures longer { IfOk result (λ answer. OnOk answer
-        (length draft.new.file ≤ length draft.old.file + most_returns mends.now (front_in draft.old.file))) }
+    ensures reason { IfOk result (λ answer. IfErr answer (IsEditedTooLong mends.now size draft.old.file)) }
+    ensures longer { IfOk result (λ answer. OnOk answer (length draft.new.file ≤ length draft.old.file
+        + (most_returns mends.now (front_in draft.old.file) + most_names mends.now (length draft.old.file)))) }
     ensures memory { memory_of draft.new ≡ memory_of draft.old }
-    ensures no_room { OnErr result (draft.old.room < most_returns mends.now (front_in draft.old.file)) }
+    ensures no_room { OnErr result (draft.old.room < most_returns mends.now (front_in draft.old.file)
+        + most_names mends.now (length draft.old.file)) }
 {
     let returns = put_returns(draft, mends)?;
     if draft.file().len() > MAX_FILE {
@@ -91,10 +135,14 @@ pub(crate) fn edit(
     let told = take_out_sequences(draft, mends);
     let row_ends = join_rows(draft, mends, size);
     let last_ends = take_out_last_ends(draft, mends, size);
-    Ok(Ok(Edits {
-        returns,
-        told,
-        row_ends,
-        last_ends,
-    }))
+    match name_within(draft, mends)? {
+        Ok(named_colours) => Ok(Ok(Edits {
+            returns,
+            told,
+            row_ends,
+            last_ends,
+            named_colours,
+        })),
+        Err(reason) => Ok(Err(reason)),
+    }
 }

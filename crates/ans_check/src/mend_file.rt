@@ -4,7 +4,7 @@ ghost use Rattle.ans_model.specs.Bytes.{longest_file};
 ghost use Rattle.ans_write.specs.Puts.{Puts};
 ghost use Rattle.ans_write.specs.Tried.{has_failed};
 ghost use Rattle.ans_check.specs.Mending.{front_bytes};
-ghost use Rattle.ans_check.specs.MendingRoom.{most_put};
+ghost use Rattle.ans_check.specs.MendingRoom.{most_names, most_put};
 ghost use Rattle.ans_check.specs.Reported.{PutsMended};
 ghost use Rattle.ans_check.specs.Served.{ServesMended, mended_bytes};
 
@@ -13,6 +13,7 @@ use crate::mend_steps::mend_on;
 use crate::reading::read_all;
 use crate::screens::KeptScreens;
 use ans_mend::{Draft, Mended, Unmended, count_line_feeds};
+use ans_model::limits::MAX_FILE;
 use ans_options::Mends;
 use ans_report::{Tried, WriteFault};
 use ans_walks::SAFE_BEGINNING;
@@ -49,15 +50,29 @@ fn put_answer<W: Write>(out: &mut Outbox<'_, W>, answer: &Result<Mended, Unmende
     }
 }
 
-/// How many bytes are put into a file at most: a return before each line feed, a record and end marks.
+/// How many bytes names of colours are at most, where they are asked for: up to the longest file.
+fn room_for_names(file: &[u8], mends: &Mends) -> usize
+    requires { length file.now ≤ longest_file }
+    ensures { result ≡ most_names mends.now (length file.now) }
+{
+    if mends.name_colours {
+        MAX_FILE - file.len()
+    } else {
+        0
+    }
+}
+
+/// How many bytes are put into a file at most: a return before each line feed, names of colours, a record and
+/// end marks.
 fn room_for(file: &[u8], mends: &Mends) -> usize
     requires { length file.now ≤ longest_file }
     ensures { result ≡ most_put mends.now file.now }
 {
+    let names = room_for_names(file, mends);
     if !mends.line_ends {
-        return RECORD_ROOM;
+        return names + RECORD_ROOM;
     }
-    count_line_feeds(file) + RECORD_ROOM
+    count_line_feeds(file) + names + RECORD_ROOM
 }
 
 /// Mends the file in the first `count` bytes of a memory, and puts it.

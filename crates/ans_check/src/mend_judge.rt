@@ -1,19 +1,23 @@
 //! What a file says that is to be mended, and how one comes out that was.
-ghost use Rattle.std.specs.Prelude.{◌≡◌, ◌≤◌, ◌↔◌, IsTrue, false, length, IfOk, IfErr};
+ghost use Rattle.std.specs.Prelude.{◌≡◌, ◌≤◌, ◌↔◌, IsTrue, List, false, length, IfOk, IfErr};
 ghost use Rattle.ans_model.specs.Bytes.{longest_file};
 ghost use Rattle.ans_model.specs.Screen.StartClass.{all_known, none_known};
 ghost use Rattle.ans_model.specs.Verdict.Good.{IsGood};
 ghost use Rattle.ans_sauce.specs.Judged.{IsRecordFault};
 ghost use Rattle.ans_sauce.specs.Parts.{content_of, size_of};
 ghost use Rattle.ans_check.specs.StartParts.{EndsFrom};
-ghost use Rattle.ans_check.specs.Mending.{IsFaulty, WantsMending};
+ghost use Rattle.ans_check.specs.Mending.{BeginsUnnamed, IsFaulty, WantsMending};
+ghost use Rattle.ans_model.specs.Sequence.TokenKind.{TokenKind};
+ghost use Rattle.ans_model.specs.Sequence.Reads.{Reads};
 ghost use Rattle.ans_check.specs.MendingSteps.{IsJudgement, IsSurvey};
 ghost use Rattle.ans_check.specs.ScreenRoom.{AnswersWithin, TakesRoom};
 
 use crate::screens::Screens;
+use ans_mend::begins_unnamed;
 use ans_model::fault::Fault;
 use ans_model::size::Size;
 use ans_model::start::Start;
+use ans_options::Mends;
 use ans_sauce::{Parts, split};
 use ans_walks::is_same_where_cleared;
 use std::alloc::AllocError;
@@ -60,18 +64,32 @@ pub(crate) struct Judgement {
     pub(crate) lines: usize,
 }
 
+/// Whether names of colours are asked for, and are wanted before a sequence that could have them.
+fn wants_names(content: &[u8], mends: &Mends) -> bool
+    requires length { length content.now ≤ longest_file }
+    requires reads { (tokens : List TokenKind) × Reads content.now tokens }
+    ensures { IsTrue result ↔ BeginsUnnamed mends.now content.now }
+{
+    mends.name_colours && begins_unnamed(content)
+}
+
 /// Whether a content that passes from the cleared start wants the mending in front, by its fault from all
 /// starts.
-fn wants_mending(parts: &Parts<'_>, fault: Option<Fault>) -> bool
+fn wants_mending(parts: &Parts<'_>, fault: Option<Fault>, mends: &Mends) -> bool
     requires length { length (content_of parts.now) ≤ longest_file }
     requires cleared { IsGood (size_of parts.now) all_known (content_of parts.now) }
     requires ends { EndsFrom (size_of parts.now) (content_of parts.now) none_known fault }
-    ensures wants { IsTrue result ↔ WantsMending (size_of parts.now) (content_of parts.now) }
+    ensures wants { IsTrue result ↔ WantsMending mends.now (size_of parts.now) (content_of parts.now) }
     ensures every { result ≡ false → IsGood (size_of parts.now) none_known (content_of parts.now) }
 {
     match fault {
         Some(_) => true,
-        None => !is_same_where_cleared(parts.size(), Start::ANY, parts.content()),
+        None => {
+            if !is_same_where_cleared(parts.size(), Start::ANY, parts.content()) {
+                return true;
+            }
+            wants_names(parts.content(), mends)
+        }
     }
 }
 
@@ -99,9 +117,10 @@ fn cleared_fault<S: Screens>(
 pub(crate) fn judge<S: Screens>(
     screens: &mut S,
     file: &[u8],
+    mends: &Mends,
 ) -> Result<Result<Judgement, Fault>, AllocError>
     requires { length file.now ≤ longest_file }
-    ensures passes { IfOk result (λ answer. IfOk answer (IsJudgement file.now)) }
+    ensures passes { IfOk result (λ answer. IfOk answer (IsJudgement mends.now file.now)) }
     ensures fault { IfOk result (λ answer. IfErr answer (IsFaulty file.now)) }
     ensures room { AnswersWithin S.has_room S.may_lack file.now screens.old result }
 {
@@ -115,7 +134,7 @@ pub(crate) fn judge<S: Screens>(
     }
     Ok(Ok(Judgement {
         non_blink: parts.sauce().is_non_blink(),
-        front: wants_mending(&parts, fault),
+        front: wants_mending(&parts, fault, mends),
         content: parts.content().len(),
         lines: parts.lines(),
     }))

@@ -163,8 +163,10 @@ mended_clean m bytes =
     let from_front : List ℕ = front_line m.front ++ size in
     let from_mark : List ℕ = end_mark_line m.end_mark ++ from_front in
     let from_lines : List ℕ = reset_line (codes "lines ") m.lines ++ from_mark in
+    let named : List ℕ = times_line (codes "named the colours of a sequence") m.edits.named_colours in
+    let from_named : List ℕ = named ++ from_lines in
     let last : List ℕ = times_line (codes "took out a line end at the end") m.edits.last_ends in
-    let from_last : List ℕ = last ++ from_lines in
+    let from_last : List ℕ = last ++ from_named in
     let rows : List ℕ = times_line (codes "took out a line end behind a full row") m.edits.row_ends in
     let from_rows : List ℕ = rows ++ from_last in
     let from_flag : List ℕ = flag_line m.non_blink.was m.non_blink.is ++ from_rows in
@@ -181,14 +183,17 @@ mended_clean m bytes =
     (clean_append rows from_last
     (times_line_clean (codes "took out a line end behind a full row") m.edits.row_ends
     (plain_text (codes "took out a line end behind a full row") refl))
-    (clean_append last from_lines
+    (clean_append last from_named
     (times_line_clean (codes "took out a line end at the end") m.edits.last_ends
     (plain_text (codes "took out a line end at the end") refl))
+    (clean_append named from_lines
+    (times_line_clean (codes "named the colours of a sequence") m.edits.named_colours
+    (plain_text (codes "named the colours of a sequence") refl))
     (clean_append (reset_line (codes "lines ") m.lines) from_mark
     (reset_clean (codes "lines ") m.lines (plain_text (codes "lines ") refl))
     (clean_append (end_mark_line m.end_mark) from_front (end_mark_clean m.end_mark)
     (clean_append (front_line m.front) size (front_clean m.front)
-    (reset_clean (codes "file size ") m.file_size (plain_text (codes "file size ") refl)))))))))))
+    (reset_clean (codes "file size ") m.file_size (plain_text (codes "file size ") refl))))))))))))
 
 -- ---- why there is none
 

@@ -10,11 +10,11 @@ use Rattle.ans_players.specs.Kinds.{all_kinds, kind_word}
 use Rattle.ans_players.specs.declared.kind.Kind.{Kind}
 use Rattle.ans_players.specs.declared.kind.Kind.TheVariants.{WrapAtOnce, LineEnds, HomeOnClear, ClearInColour}
 use Rattle.ans_players.specs.declared.kind.Kind.TheVariants.{SavePlaceOnly, DosColours, TabPrints, LineErased, WrapOff}
-use Rattle.ans_players.specs.declared.kind.Kind.TheVariants.{StopsAtEdge, PageControls, TerminalControls}
+use Rattle.ans_players.specs.declared.kind.Kind.TheVariants.{StopsAtEdge, PageControls, TerminalControls, OwnColours}
 use Rattle.ans_walks.specs.KindsUsed.{used_of, words_used}
 use Rattle.ans_walks.specs.declared.kinds.KindsUsed.{KindsUsed}
 use Rattle.ans_walks.specs.declared.players.Players.{Players}
-use Rattle.ans_walks.specs.declared.players.Players.TheVariants.{Agreeing, Any}
+use Rattle.ans_walks.specs.declared.players.Players.TheVariants.{Agreeing, Any, InNamedColours}
 use Rattle.ans_walks.specs.declared.times.Times.{Times}
 use Rattle.ans_why.specs.PlayersText.{everywhere_line, is_same_class, kind_line, kind_lines, more_times, players_lines}
 use Rattle.ans_check_laws.specs.CleanTexts.{IsCleanText}
@@ -35,6 +35,7 @@ word_clean WrapOff = plain_text (codes "wrap-off") refl
 word_clean StopsAtEdge = plain_text (codes "stops-at-edge") refl
 word_clean PageControls = plain_text (codes "page-controls") refl
 word_clean TerminalControls = plain_text (codes "terminal-controls") refl
+word_clean OwnColours = plain_text (codes "own-colours") refl
 
 each_word_clean : (kinds : List Kind) → All IsCleanText (map kind_word kinds)
 each_word_clean [] = All-nil IsCleanText
@@ -76,6 +77,11 @@ pub players_clean : (needs : Start) (players : Players) → IsCleanText (players
 players_clean needs (Any class) =
     clean_append (named_line (codes "players") (codes "any")) (everywhere_line needs class)
     (plain_text (named_line (codes "players") (codes "any")) refl) (everywhere_clean needs class)
+players_clean needs (InNamedColours class times) =
+    let own = named_line (codes "players") (kind_word OwnColours) in
+    clean_append own (kind_line OwnColours (Some times) ++ everywhere_line needs class) (plain_text own refl)
+    (clean_append (kind_line OwnColours (Some times)) (everywhere_line needs class)
+    (kind_line_clean OwnColours (Some times)) (everywhere_clean needs class))
 players_clean needs (Agreeing used) =
     clean_append (named_line (codes "players") (words_text (words_used used))) (kind_lines used)
     (named_clean (codes "players") (words_text (words_used used)) (plain_text (codes "players") refl)

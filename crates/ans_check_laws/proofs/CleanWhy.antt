@@ -33,6 +33,7 @@ use Rattle.ans_sauce.specs.Found.{IsFound, record_in}
 use Rattle.ans_sauce.specs.Parts.{content_of, notes_of, record_of, size_of}
 use Rattle.ans_sauce.specs.Split.{IsSplit}
 use Rattle.ans_model.specs.Verdict.LastFault.{IsDeserved}
+use Rattle.ans_walks.specs.Hints.{much_dark}
 use Rattle.ans_walks.specs.Evidence.{ShowsNamed}
 use Rattle.ans_why.specs.Fonts.{font_name, has_other_code_page}
 use Rattle.ans_why.specs.HintsText.{hint_line, times_text, times_line, font_line, empty_rows_line, hints_text}
@@ -309,9 +310,14 @@ colour_hints_clean hints =
     let later = codes "a sequence has a colour of later terminals (38, 48, 90 to 97 or 100 to 107)" in
     let blinks = codes "a character blinks" in
     let bright = codes ": for bright backgrounds set the non-blink flag" in
-    clean_append (times_line later hints.later_colours []) (times_line blinks hints.blinking_glyphs bright)
+    let dark = codes "a character is dark grey on black" in
+    let black = codes ": some terminals show it as black" in
+    clean_append (times_line later hints.later_colours [])
+    (times_line blinks hints.blinking_glyphs bright ++ times_line dark (much_dark hints) black)
     (times_clean later hints.later_colours [] (plain_text later refl) clean_nil)
+    (clean_append (times_line blinks hints.blinking_glyphs bright) (times_line dark (much_dark hints) black)
     (times_clean blinks hints.blinking_glyphs bright (plain_text blinks refl) (plain_text bright refl))
+    (times_clean dark (much_dark hints) black (plain_text dark refl) (plain_text black refl)))
 
 hints_clean : (hints : Hints) (font : List ℕ) → All IsByte font → IsCleanText (hints_text hints font)
 hints_clean hints font bytes =

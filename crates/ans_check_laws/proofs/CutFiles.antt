@@ -1,15 +1,15 @@
 -- A file of which the last 128 bytes are taken for a record, whatever they are, and what its changes leave of it.
 use Rattle.std.proofs.Common.{◌≡◌, inl, inr, ℕ, suc, ◌+◌, ◌-◌, ◌≤◌, ◌<◌, Bool, true, false, List, [], ◌∷◌, ◌++◌}
-use Rattle.std.proofs.Common.{length, take, drop, refl, sym, ap, ap₂, ◌∙◌, arith, append_assoc, true≢false, codes}
-use Rattle.std.specs.Prelude.{if◌then◌else◌, not, ◌&&◌, nat_le, bytes_eq}
+use Rattle.std.proofs.Common.{length, take, drop, refl, sym, ap, ap₂, ◌∙◌, arith, append_assoc, append-nil, true≢false}
+use Rattle.std.specs.Prelude.{codes, if◌then◌else◌, not, ◌&&◌, nat_le, bytes_eq}
 use Rattle.std.specs.List.{list_any, position_or_len}
 use Rattle.std.proofs.lemmas.Bool.{and_parts, cases_lt, leb-true, le-leb}
 use Rattle.std.proofs.lemmas.List.{length-append, length-drop, length-take-le, take-append-drop, take-append-le}
-use Rattle.std.proofs.lemmas.List.{drop-append-le, take-take}
+use Rattle.std.proofs.lemmas.List.{drop-append-le, drop-take, take-take}
 use Rattle.std.proofs.lemmas.Slice.{drop-append-drop}
 use Rattle.std.proofs.Math.Seq.{take-append-add, take-append_seam, drop-append_seam}
 use Rattle.ans_model.specs.Bytes.{end_mark}
-use Rattle.ans_model.specs.File.Layout.{content, is_end_mark}
+use Rattle.ans_model.specs.File.Layout.{after_content, content, is_end_mark}
 use Rattle.ans_model.specs.File.Record.{comment_count, number}
 use Rattle.ans_model.specs.File.Refusals.{block_size, has_record}
 use Rattle.ans_sauce.specs.Found.{body_in, front_in, record_in}
@@ -236,7 +236,7 @@ module _ (file : List ℕ) where
 
 -- ---- returns
 
-content_unmarked : (body : List ℕ) → list_any is_end_mark (content body) ≡ false
+pub content_unmarked : (body : List ℕ) → list_any is_end_mark (content body) ≡ false
 content_unmarked [] = refl
 content_unmarked (b ∷ body) = go (is_end_mark b) refl (content_unmarked body)
   where
@@ -252,6 +252,25 @@ content_unmarked (b ∷ body) = go (is_end_mark b) refl (content_unmarked body)
     go false is more =
         rw is (ap (list_any is_end_mark) (one_more (position_or_len is_end_mark body))
         ∙ (rw is more))
+
+-- behind the content stands an end mark, or nothing
+content_after : (body : List ℕ) → content (after_content body) ≡ []
+content_after [] = refl
+content_after (b ∷ body) = go (is_end_mark b) refl (content_after body)
+  where
+    one_and : (n : ℕ) → 1 + n ≡ suc n
+    one_and n = omega arith
+
+    ends : is_end_mark b ≡ true → content (b ∷ body) ≡ []
+    ends is = rw is refl
+
+    goes_on : is_end_mark b ≡ false → content (b ∷ body) ≡ b ∷ content body
+    goes_on is = rw is (ap (λ (v : ℕ). take v (b ∷ body)) (one_and (position_or_len is_end_mark body)))
+
+    go : (marked : Bool) → is_end_mark b ≡ marked → content (after_content body) ≡ []
+        → content (after_content (b ∷ body)) ≡ []
+    go true is more = ap (λ (v : List ℕ). content (drop (length v) (b ∷ body))) (ends is) ∙ ends is
+    go false is more = ap (λ (v : List ℕ). content (drop (length v) (b ∷ body))) (goes_on is) ∙ more
 
 -- bytes without an end mark in front of a body
 content_behind : (bytes body : List ℕ) → list_any is_end_mark bytes ≡ false
@@ -285,18 +304,8 @@ module _ (file : List ℕ) (has : has_record file ≡ true) where
   abbrev comments : ℕ
   comments = block_size (comment_count (record_in file))
 
-  module _ (wants : wants_returns c ≡ true) where
-    -- there is a content
-    some : 1 ≤ length c
-    some = go c wants
-      where
-        go : (bytes : List ℕ) → wants_returns bytes ≡ true → 1 ≤ length bytes
-        go [] h = absurd (true≢false (sym h))
-        go (b ∷ bytes) h = omega arith
-
-    abbrev new : List ℕ
-    new = with_returns c
-
+  -- other bytes in the place of a content that is there
+  module _ (new : List ℕ) (unmarked : list_any is_end_mark new ≡ false) (some : 1 ≤ length c) where
     abbrev new_front : List ℕ
     new_front = new ++ drop (length c) before
 
@@ -311,26 +320,59 @@ module _ (file : List ℕ) (has : has_record file ≡ true) where
         length-append new (drop (length c) before)
         ∙ ap (λ (v : ℕ). length new + v) (length-drop (length c) before)
 
+    body_size : length (body_in file) ≡ length before - comments
+    body_size = length-take-le (length before - comments) before (omega arith)
+
     new_body : body_in (with_content new file)
         ≡ new ++ take (length before - length c - comments) (drop (length c) before)
     new_body =
         let long = recorded_long file has in
         let size : length (record_in file) ≡ 128 = length-drop (length file - 128) file ∙ omega (arith, long) in
         let few = front_shorter (body_in file) (position_or_len is_end_mark (body_in file)) in
-        let body : length (body_in file) ≡ length before - comments =
-        length-take-le (length before - comments) before (omega arith) in
+        let body = body_size in
         let at : length new_front - comments ≡ length new + (length before - length c - comments) =
         omega (arith, new_size, few, body, some) in
         ap body_in new_whole ∙ body_before new_front (record_in file) size
         ∙ ap (λ (v : ℕ). take v new_front) at
         ∙ take-append-add new (drop (length c) before) (length before - length c - comments)
 
-    new_wants_none : wants_returns (content_in (with_content new file)) ≡ false
-    new_wants_none =
+    -- what stands behind them is what stood behind the content
+    same_rest : take (length before - length c - comments) (drop (length c) before) ≡ after_content (body_in file)
+    same_rest =
+        let few = front_shorter (body_in file) (position_or_len is_end_mark (body_in file)) in
+        let body = body_size in
+        let at : length c + (length before - length c - comments) ≡ length before - comments =
+        omega (arith, few, body, some) in
+        sym (drop-take (length c) (length before - length c - comments) before)
+        ∙ ap (λ (v : ℕ). drop (length c) (take v before)) at
+
+    some_put : content_in (with_content new file) ≡ new
+    some_put =
         let rest : List ℕ = take (length before - length c - comments) (drop (length c) before) in
-        ap wants_returns (ap content new_body
-        ∙ content_behind new rest (put_unmarked c (content_unmarked (body_in file))))
-        ∙ put_wants_none c (content rest) wants
+        ap content new_body ∙ content_behind new rest unmarked
+        ∙ ap (λ (v : List ℕ). new ++ v) (ap content same_rest ∙ content_after (body_in file)) ∙ append-nil new
+
+  -- bytes in the place of a content are the content then
+  pub content_put : (new : List ℕ) → list_any is_end_mark new ≡ false → (c ≡ [] → new ≡ [])
+      → content_in (with_content new file) ≡ new
+  content_put new unmarked none = elim (cases_lt (length c) 1) [
+    | inl short ↦
+        let empty : c ≡ [] = is_empty c short in
+        let same : with_content new file ≡ file =
+        ap₂ (λ (v w : List ℕ). v ++ drop (length w) file) (none empty) empty in
+        ap content_in same ∙ empty ∙ sym (none empty)
+    | inr some ↦ some_put new unmarked some
+  ]
+    where
+      is_empty : (bytes : List ℕ) → length bytes < 1 → bytes ≡ []
+      is_empty [] few = refl
+      is_empty (b ∷ bytes) few = absurd (let no : ⊥ = omega (arith, few) in no)
+
+  put_wanted : wants_returns c ≡ true → wants_returns (content_in (with_content (with_returns c) file)) ≡ false
+  put_wanted wants =
+      ap wants_returns (content_put (with_returns c) (put_unmarked c (content_unmarked (body_in file)))
+      (λ empty. ap with_returns empty))
+      ∙ ap wants_returns (sym (append-nil (with_returns c))) ∙ put_wants_none c [] wants
 
   -- where returns are put, none is wanted any more
   pub returned_wants_none : wants_returns (content_in (with_line_ends file)) ≡ false
@@ -338,6 +380,6 @@ module _ (file : List ℕ) (has : has_record file ≡ true) where
     where
       go : (recorded wanted : Bool) → recorded ≡ true → wants_returns c ≡ wanted
           → wants_returns (content_in (if recorded && wanted then with_content (with_returns c) file else file)) ≡ false
-      go true true is wants = new_wants_none wants
+      go true true is wants = put_wanted wants
       go true false is none = none
       go false wanted is e = absurd (true≢false (sym is))

@@ -15,6 +15,8 @@ pub mod CleanWhy
 pub mod CleanReports
 pub mod CleanBytes
 pub mod ReturnsPut
+pub mod NamedBytes
+pub mod NamedAgain
 pub mod CleanMended
 pub mod CleanRedrawn
 pub mod BytesTold

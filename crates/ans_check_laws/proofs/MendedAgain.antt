@@ -23,13 +23,14 @@ use Rattle.ans_mend.specs.EndMark.{with_end_mark}
 use Rattle.ans_mend.specs.Fields.{with_lines, with_record}
 use Rattle.ans_mend.specs.LastEnds.{AreLastEndsOut, HasFewerEnds}
 use Rattle.ans_mend.specs.LineEnds.{wants_returns, with_line_ends, with_returns}
+use Rattle.ans_mend.specs.NamedColours.{AreColoursNamed, HasNamedColours}
 use Rattle.ans_mend.specs.NewRecord.{holds_sauce, new_record, with_new_record}
 use Rattle.ans_mend.specs.Tail.{is_tail_byte}
 use Rattle.ans_mend.specs.TakingOut.{AreTakenOut, Gone, TakesOutOf, flagged, nothing_told, told_of}
 use Rattle.ans_mend.specs.declared.taking_out.Told.{Told}
 use Rattle.ans_mend.specs.declared.outcome.Mended.{Mended}
 use Rattle.ans_options.specs.declared.command.Mends.{Mends}
-use Rattle.ans_check.specs.Mending.{AreLastEndsGone, AreLinesFor, AreSequencesOut, IsEditedAsStated}
+use Rattle.ans_check.specs.Mending.{AreLastEndsGone, AreLinesFor, AreNamed, AreSequencesOut, IsEditedAsStated}
 use Rattle.ans_check.specs.Mending.{IsMended, PassesAsStated, asks_for_lines, first_lines, lacks_lines, lined}
 use Rattle.ans_check.specs.Mending.{TakesLines, opened, recorded, returned}
 use Rattle.ans_check_laws.proofs.NothingGone.{all_left, nothing_gone}
@@ -38,6 +39,10 @@ use Rattle.ans_check_laws.proofs.WholeFiles.{nothing_cut}
 -- where nothing is asked for, nothing changes
 pub off : {P : Type 0} (b : Bool) (A : Type 0) → b ≡ false → MatchBool b A P → P
 off {P} b A is h = subst (λ (v : Bool). MatchBool v A P) is h
+
+-- and where it is, what is asked for
+pub on : {A : Type 0} (b : Bool) (P : Type 0) → b ≡ true → MatchBool b A P → A
+on {A} b P is h = subst (λ (v : Bool). MatchBool v A P) is h
 
 never_and : (a b c : Bool) → b ≡ false → (a && (b && c)) ≡ false
 never_and true true c is = absurd (true≢false is)
@@ -76,8 +81,10 @@ module _ (file : List ℕ) (apart : FileParts) (accepts : Accepts file apart) wh
 module _ (mends : Mends) (no_rows : mends.full_rows ≡ false) (file : List ℕ) (apart : FileParts)
     (accepts : Accepts file apart) (picture : Picture)
     (good : GoodWith (stated_size apart.record_bytes) none_known (content apart.body) picture)
-    (no_returns : mends.line_ends ≡ true → wants_returns (content apart.body) ≡ false) (again : Mended)
-    (draft : List ℕ) (k : IsMended mends file again draft) where
+    (no_returns : mends.line_ends ≡ true → wants_returns (content apart.body) ≡ false)
+    (names_stay : mends.name_colours ≡ true → (left : List ℕ) (times : Option Times)
+    → AreColoursNamed (content_in file) left times → left ≡ content_in file)
+    (again : Mended) (draft : List ℕ) (k : IsMended mends file again draft) where
   has : has_record file ≡ true
   has = laid_has_record file apart accepts.laid
 
@@ -177,25 +184,47 @@ module _ (mends : Mends) (no_rows : mends.full_rows ≡ false) (file : List ℕ)
       t.left_is ∙ all_left z (content_in file) t.count (picture, file_good) t.leaves
   none_fewer left times (inr (never, is, none)) = is
 
-  pub edited_stays : k.edited ≡ file
-  edited_stays =
+  ended_stays : edited_again.ended ≡ file
+  ended_stays =
       go k.asked.take_out
-      (subst (λ (v : List ℕ). AreLastEndsGone k.asked z v k.edited again.edits.last_ends) joined_stays
+      (subst (λ (v : List ℕ). AreLastEndsGone k.asked z v edited_again.ended again.edits.last_ends) joined_stays
       edited_again.ends)
     where
       of_file : (recorded : Bool)
           → MatchBool recorded ((left : List ℕ) × AreLastEndsOut z (content_in file) left again.edits.last_ends
-          × (k.edited ≡ with_content left file)) ((k.edited ≡ file) × (again.edits.last_ends ≡ None))
-          → k.edited ≡ file
+          × (edited_again.ended ≡ with_content left file))
+          ((edited_again.ended ≡ file) × (again.edits.last_ends ≡ None))
+          → edited_again.ended ≡ file
       of_file true (left, out, is) =
           is ∙ ap (λ (v : List ℕ). with_content v file) (none_fewer left again.edits.last_ends out)
           ∙ same_content file apart accepts
       of_file false t = t.0
 
-      go : (takes : Bool) → MatchBool takes (HasFewerEnds z file k.edited again.edits.last_ends)
-          ((k.edited ≡ file) × (again.edits.last_ends ≡ None)) → k.edited ≡ file
+      go : (takes : Bool) → MatchBool takes (HasFewerEnds z file edited_again.ended again.edits.last_ends)
+          ((edited_again.ended ≡ file) × (again.edits.last_ends ≡ None)) → edited_again.ended ≡ file
       go true t = of_file (has_record file) t
       go false t = t.0
+
+  pub edited_stays : k.edited ≡ file
+  edited_stays =
+      go k.asked.name_colours (sym (ap (λ (m : Mends). m.name_colours) k.asked_is))
+      (subst (λ (v : List ℕ). AreNamed k.asked v k.edited again.edits.named_colours) ended_stays edited_again.named)
+    where
+      of_file : (recorded : Bool) → mends.name_colours ≡ true
+          → MatchBool recorded ((left : List ℕ) × AreColoursNamed (content_in file) left again.edits.named_colours
+          × (k.edited ≡ with_content left file))
+          ((k.edited ≡ file) × (again.edits.named_colours ≡ None))
+          → k.edited ≡ file
+      of_file true asks (left, named, is) =
+          is ∙ ap (λ (v : List ℕ). with_content v file) (names_stay asks left again.edits.named_colours named)
+          ∙ same_content file apart accepts
+      of_file false asks t = t.0
+
+      go : (names : Bool) → mends.name_colours ≡ names
+          → MatchBool names (HasNamedColours file k.edited again.edits.named_colours)
+          ((k.edited ≡ file) × (again.edits.named_colours ≡ None)) → k.edited ≡ file
+      go true asks t = of_file (has_record file) asks t
+      go false none t = t.0
 
   -- ---- nor of its lines
   edited_good : PassesAsStated (record_in k.edited) (content_in k.edited)

@@ -2,7 +2,7 @@
 use Rattle.std.proofs.Common.{◌≡◌, inl, inr, ℕ, ◌+◌, ◌-◌, ◌≤◌, ◌<◌, ◌==◌, Bool, true, false, List, [], ◌++◌}
 use Rattle.std.proofs.Common.{length, take, drop, refl, sym, ap, ap₂, ◌∙◌, arith, append_assoc, subst, subst₂}
 use Rattle.std.proofs.Common.{true≢false}
-use Rattle.std.specs.Prelude.{if◌then◌else◌, IsTrue, ◌↔◌, ◌&&◌, bytes_eq, codes, Option, Some, None}
+use Rattle.std.specs.Prelude.{if◌then◌else◌, IsTrue, ◌↔◌, ◌&&◌, bytes_eq, codes, Option, Some, None, MatchBool}
 use Rattle.std.proofs.lemmas.Bool.{cases_lt, eq-eqb, ne_eqb}
 use Rattle.std.proofs.lemmas.List.{length-append, length-drop, length-take-le, take-append-drop}
 use Rattle.std.proofs.Math.Seq.{take-append_seam, drop-append_seam}
@@ -10,27 +10,36 @@ use Rattle.ans_model.specs.Bytes.{longest_file}
 use Rattle.ans_model.specs.File.Layout.{content}
 use Rattle.ans_model.specs.File.Record.{file_size, stated_size}
 use Rattle.ans_model.specs.File.Refusals.{has_record}
-use Rattle.ans_model.specs.Screen.State.{Size}
-use Rattle.ans_sauce.specs.Found.{front_in, record_in}
+use Rattle.ans_model.specs.Screen.State.{Size, State}
+use Rattle.ans_model.specs.Sequence.TokenKind.{TokenKind}
+use Rattle.ans_model.specs.Sequence.Reads.{Reads}
+use Rattle.ans_players.specs.Situations.{spelled}
+use Rattle.ans_sauce.specs.Found.{body_in, front_in, record_in}
 use Rattle.ans_sauce.proofs.LaidParts.{laid_body, laid_record}
 use Rattle.ans_walks.specs.MendedFile.{four_bytes, with_file_size}
 use Rattle.ans_walks.proofs.MendedFiles.{resized_file_size}
 use Rattle.ans_walks.specs.Mend.{mending}
+use Rattle.ans_walks.specs.declared.times.Times.{Times}
 use Rattle.ans_walks.specs.SaidOfPlayers.{IsSameWhereCleared}
 use Rattle.ans_walks.proofs.NamedPlayers.{mended_is_same_where_cleared}
 use Rattle.ans_mend.specs.Contents.{content_in, with_content}
 use Rattle.ans_mend.specs.EndMark.{with_end_mark}
 use Rattle.ans_mend.specs.LineEnds.{wants_returns, with_line_ends, with_returns}
+use Rattle.ans_mend.specs.NamedColours.{AreColoursNamed, HasNamedColours, NamesColours, begins_unnamed, named_content}
 use Rattle.ans_mend.specs.declared.outcome.Mended.{Mended}
 use Rattle.ans_options.specs.declared.command.Mends.{Mends}
-use Rattle.ans_check.specs.Mending.{IsMended, WantsMending, end_mark_counted, front_bytes, lined, opened}
+use Rattle.ans_check.specs.Mending.{BeginsUnnamed, IsMended, WantsMending, end_mark_counted, front_bytes}
+use Rattle.ans_check.specs.Mending.{lined, opened}
+use Rattle.ans_names_laws.specs.NameLaws.{NeverOwn, NoneOwnIsLeft}
 use Rattle.ans_check_laws.proofs.WholeFiles.{accepted_long}
 use Rattle.ans_check_laws.proofs.MarkedContents.{marked_stays}
 use Rattle.ans_check_laws.proofs.CutFiles.{front_shorter, content_before, front_of_front, has_by, length_front}
 use Rattle.ans_check_laws.proofs.CutFiles.{lines_had, lines_kept, mark_had, mark_kept, record_behind}
-use Rattle.ans_check_laws.proofs.CutFiles.{returned_wants_none}
-use Rattle.ans_check_laws.proofs.MendedAgain.{off, opened_stays, settled_stays}
+use Rattle.ans_check_laws.proofs.CutFiles.{content_put, content_unmarked, returned_wants_none}
+use Rattle.ans_check_laws.proofs.MendedAgain.{off, on, opened_stays, settled_stays}
 use Rattle.ans_check_laws.proofs.MendedItself.{same_size, settled_content}
+use Rattle.ans_check_laws.proofs.NamedAgain.{NamingLaws, begins_named, named_again, own_gone}
+use Rattle.ans_check_laws.proofs.NamedBytes.{named_wants, named_unmarked, nothing_named}
 use Rattle.ans_check_laws.proofs.ReturnsPut.{wants_behind}
 use Rattle.ans_check_laws.specs.KeptReturns.{KeepsReturns}
 
@@ -171,19 +180,38 @@ module _ (mends : Mends) (file : List ℕ) (mended : Mended) (draft : List ℕ) 
   states_size room =
       sym (ap file_size same_again) ∙ resized_file_size [] refl size written h.apart h.accepts room
 
-  -- it wants no mending
-  pub calm : ¬ WantsMending z shown
-  calm wants = go mended.front h.front h.content_is
+  -- from every start it is as from the cleared one
+  pub still : ¬ ¬ IsSameWhereCleared z shown
+  still wants = go mended.front h.front h.content_is
     where
-      go : (front : Bool) → IsTrue front ↔ WantsMending z (content_in h.settled)
+      go : (front : Bool) → IsTrue front ↔ WantsMending h.asked z (content_in h.settled)
           → shown ≡ front_bytes front ++ content_in h.settled → ⊥
       go true tells is =
           wants (subst (λ (v : List ℕ). IsSameWhereCleared z v) (sym is)
           (mended_is_same_where_cleared z (content_in h.settled) (h.picture, h.from_cleared)))
-      go false tells is = true≢false (sym (tells.1 (λ same. wants (subst (λ (v : List ℕ). IsSameWhereCleared z v)
-          (sym is) same))))
+      go false tells is = true≢false (sym (tells.1 (inl (λ same. wants (subst (λ (v : List ℕ). IsSameWhereCleared z v)
+          (sym is) same)))))
 
-  -- ---- its returns
+  -- so it wants no mending, and nor for names: it begins in named colours behind the mending, or did so without it
+  calm : (asked : Mends) → asked.name_colours ≡ h.asked.name_colours → ¬ WantsMending asked z shown
+  calm asked same (inl wants) = still wants
+  calm asked same (inr (asks, tokens, reads, begins)) = go mended.front h.front h.content_is
+    where
+      unnamed : BeginsUnnamed h.asked shown
+      unnamed = (sym same ∙ asks, tokens, reads, begins)
+
+      begins_not : BeginsUnnamed h.asked (mending ++ content_in h.settled) → ⊥
+      begins_not (asks, tokens, reads, begins) =
+          true≢false (sym begins
+          ∙ begins_named (content_in h.settled) h.from_cleared.tokens tokens h.from_cleared.reads reads)
+
+      go : (front : Bool) → IsTrue front ↔ WantsMending h.asked z (content_in h.settled)
+          → shown ≡ front_bytes front ++ content_in h.settled → ⊥
+      go true tells is = begins_not (subst (λ (v : List ℕ). BeginsUnnamed h.asked v) is unnamed)
+      go false tells is =
+          true≢false (sym (tells.1 (inr (subst (λ (v : List ℕ). BeginsUnnamed h.asked v) is unnamed))))
+
+  -- ---- its record
   settled_id : bytes_eq (take 5 (record_in h.settled)) (codes "SAUCE") ≡ true
   settled_id =
       let r : List ℕ = record_in h.settled in
@@ -212,6 +240,73 @@ module _ (mends : Mends) (file : List ℕ) (mended : Mended) (draft : List ℕ) 
   same_content : content_in h.settled ≡ content_in h.edited
   same_content = ap content_in h.settled_is ∙ mark_kept with_its_lines has_lined ∙ kept h.lines has_edited
 
+  -- ---- its names
+
+  -- the file before its colours are named
+  abbrev ended : List ℕ
+  ended = h.is_edited.ended
+
+  abbrev times : Option Times
+  times = mended.edits.named_colours
+
+  has_ended : has_record ended ≡ true
+  has_ended = go (has_record ended) refl
+    where
+      same : (names : Bool) → has_record ended ≡ false
+          → MatchBool names (HasNamedColours ended h.edited times) ((h.edited ≡ ended) × (times ≡ None))
+          → h.edited ≡ ended
+      same true is t = (off (has_record ended) _ is t).0
+      same false is t = t.0
+
+      go : (recorded : Bool) → has_record ended ≡ recorded → has_record ended ≡ true
+      go true is = is
+      go false is = ap has_record (sym (same h.asked.name_colours is h.is_edited.named)) ∙ has_edited
+
+  -- where names are asked for
+  module _ (asks : mends.name_colours ≡ true) where
+    put : (left : List ℕ) × AreColoursNamed (content_in ended) left times × (h.edited ≡ with_content left ended)
+    put =
+        let names_on : h.asked.name_colours ≡ true = ap (λ (m : Mends). m.name_colours) h.asked_is ∙ asks in
+        on (has_record ended) _ has_ended (on h.asked.name_colours _ names_on h.is_edited.named)
+
+    left_is : content_in h.settled ≡ put.0
+    left_is =
+        same_content ∙ ap content_in put.2
+        ∙ content_put ended has_ended put.0
+        (named_unmarked (content_in ended) put.0 times put.1 (content_unmarked (body_in ended)))
+        (nothing_named (content_in ended) put.0 times put.1)
+
+    -- what passes can be read
+    was_named : NamesColours (content_in ended) put.0 times
+    was_named = go put.1
+      where
+        go : AreColoursNamed (content_in ended) put.0 times → NamesColours (content_in ended) put.0 times
+        go (inl t) = t
+        go (inr (never, is, none)) =
+            absurd (never h.from_cleared.tokens (subst (λ (v : List ℕ). Reads v h.from_cleared.tokens) (left_is ∙ is)
+            h.from_cleared.reads))
+
+    abbrev named_written : List ℕ
+    named_written = front_bytes mended.front ++ named_content (spelled was_named.tokens was_named.reads.0)
+
+    named_is : shown ≡ named_written
+    named_is =
+        h.content_is ∙ ap (λ (v : List ℕ). front_bytes mended.front ++ v) (left_is ∙ was_named.left_is)
+
+    names_stay : NamingLaws → (left : List ℕ) (again : Option Times) → AreColoursNamed (content_in written) left again
+        → left ≡ content_in written
+    names_stay laws left again =
+        subst (λ (v : List ℕ). AreColoursNamed v left again → left ≡ v)
+        (sym (ap content (laid_body written h.apart h.accepts.laid) ∙ named_is)) go
+      where
+        go : AreColoursNamed named_written left again → left ≡ named_written
+        go (inl t) =
+            t.left_is
+            ∙ named_again laws (content_in ended) was_named.tokens was_named.reads mended.front t.tokens t.reads
+        go (inr (never, is, none)) = is
+
+  -- ---- its returns
+
   -- where returns are put and none is taken out, none is wanted
   module _ (no_rows : mends.full_rows ≡ false) (keeps : KeepsReturns mends) (puts : mends.line_ends ≡ true) where
     keeps_all : h.asked.take_out ≡ false
@@ -219,8 +314,8 @@ module _ (mends : Mends) (file : List ℕ) (mended : Mended) (draft : List ℕ) 
         ap (λ (m : Mends). m.take_out) h.asked_is
         ∙ sym (ap (λ (b : Bool). b && mends.take_out) puts) ∙ keeps
 
-    edited_is : h.edited ≡ with_line_ends was
-    edited_is =
+    ended_is : ended ≡ with_line_ends was
+    ended_is =
         let rows_off : h.asked.full_rows ≡ false =
         ap (λ (m : Mends). m.full_rows) h.asked_is ∙ no_rows in
         let ends_on : h.asked.line_ends ≡ true = ap (λ (m : Mends). m.line_ends) h.asked_is ∙ puts in
@@ -238,11 +333,25 @@ module _ (mends : Mends) (file : List ℕ) (mended : Mended) (draft : List ℕ) 
             let same : with_line_ends was ≡ was =
             ap (λ (b : Bool). if b && wants_returns (content_in was)
             then with_content (with_returns (content_in was)) was else was) is in
-            ap has_record (sym same ∙ sym edited_is) ∙ has_edited
+            ap has_record (sym same ∙ sym ended_is) ∙ has_ended
+
+    ended_wants_none : wants_returns (content_in ended) ≡ false
+    ended_wants_none = ap wants_returns (ap content_in ended_is) ∙ returned_wants_none was has_was
 
     settled_wants_none : wants_returns (content_in h.settled) ≡ false
-    settled_wants_none =
-        ap wants_returns (same_content ∙ ap content_in edited_is) ∙ returned_wants_none was has_was
+    settled_wants_none = go mends.name_colours refl
+      where
+        go : (names : Bool) → mends.name_colours ≡ names → wants_returns (content_in h.settled) ≡ false
+        go true asks =
+            let named = put asks in
+            ap wants_returns (left_is asks) ∙ named_wants (content_in ended) named.0 times named.1
+            ∙ ended_wants_none
+        go false none =
+            let names_off : h.asked.name_colours ≡ false =
+            ap (λ (m : Mends). m.name_colours) h.asked_is ∙ none in
+            ap wants_returns (same_content
+            ∙ ap content_in (off h.asked.name_colours _ names_off h.is_edited.named).0)
+            ∙ ended_wants_none
 
     shown_wants_none : wants_returns shown ≡ false
     shown_wants_none = ap wants_returns h.content_is ∙ go mended.front
@@ -252,12 +361,12 @@ module _ (mends : Mends) (file : List ℕ) (mended : Mended) (draft : List ℕ) 
         go false = settled_wants_none
 
   -- ---- mended again
-  module _ (no_rows : mends.full_rows ≡ false) (keeps : KeepsReturns mends) (again : Mended) (draft_again : List ℕ)
-      (k : IsMended mends written again draft_again) where
+  module _ (laws : NamingLaws) (no_rows : mends.full_rows ≡ false) (keeps : KeepsReturns mends) (again : Mended)
+      (draft_again : List ℕ) (k : IsMended mends written again draft_again) where
     stays : k.settled ≡ with_end_mark written
     stays =
         settled_stays mends no_rows written h.apart h.accepts h.picture h.from_every
-        (shown_wants_none no_rows keeps) again draft_again k
+        (shown_wants_none no_rows keeps) (λ asks. names_stay asks laws) again draft_again k
 
     settled_is_written : k.settled ≡ written
     settled_is_written = stays ∙ marked_stays written h.apart h.accepts.laid h.ended
@@ -268,10 +377,15 @@ module _ (mends : Mends) (file : List ℕ) (mended : Mended) (draft : List ℕ) 
     no_front : again.front ≡ false
     no_front = go again.front k.front
       where
-        go : (front : Bool) → IsTrue front ↔ WantsMending (stated_size k.apart.record_bytes) (content_in k.settled)
+        same_names : k.asked.name_colours ≡ h.asked.name_colours
+        same_names =
+            ap (λ (m : Mends). m.name_colours) k.asked_is ∙ sym (ap (λ (m : Mends). m.name_colours) h.asked_is)
+
+        go : (front : Bool)
+            → IsTrue front ↔ WantsMending k.asked (stated_size k.apart.record_bytes) (content_in k.settled)
             → front ≡ false
         go true tells =
-            absurd (calm (subst₂ (λ (v : Size) (bytes : List ℕ). WantsMending v bytes)
+            absurd (calm k.asked same_names (subst₂ (λ (v : Size) (bytes : List ℕ). WantsMending k.asked v bytes)
             (same_size mends written again draft_again k h.apart h.accepts stays) content_stays (tells.0 refl)))
         go false tells = refl
 
@@ -281,7 +395,7 @@ module _ (mends : Mends) (file : List ℕ) (mended : Mended) (draft : List ℕ) 
         k.content_is ∙ ap₂ (λ (b : Bool) (v : List ℕ). front_bytes b ++ v) no_front content_stays in
         let opened_again : opened k.asked k.based ≡ written =
         opened_stays mends no_rows written h.apart h.accepts h.picture h.from_every
-        (shown_wants_none no_rows keeps) again draft_again k in
+        (shown_wants_none no_rows keeps) (λ asks. names_stay asks laws) again draft_again k in
         let stated : file_size (record_in written) ≡ size =
         ap file_size (laid_record written h.apart h.accepts.laid) ∙ states_size room in
         let counted : length (content_in written) ≡ length shown =
@@ -302,9 +416,42 @@ module _ (mends : Mends) (file : List ℕ) (mended : Mended) (draft : List ℕ) 
         ∙ ap₂ (λ (v w : List ℕ). front_in v ++ w) settled_is_written record_again
         ∙ take-append-drop (length written - 128) written
 
-pub mending_twice : (mends : Mends) (file draft draft_again : List ℕ) (mended again : Mended)
+pub mending_twice : NamingLaws → (mends : Mends) (file draft draft_again : List ℕ) (mended again : Mended)
     → mends.full_rows ≡ false → KeepsReturns mends → IsMended mends file mended draft
     → IsMended mends (front_bytes mended.front ++ draft) again draft_again
     → front_bytes again.front ++ draft_again ≡ front_bytes mended.front ++ draft
-mending_twice mends file draft draft_again mended again no_rows keeps h k =
-    twice_as_once mends file mended draft h no_rows keeps again draft_again k (size_fits mends file mended draft h)
+mending_twice laws mends file draft draft_again mended again no_rows keeps h k =
+    twice_as_once mends file mended draft h laws no_rows keeps again draft_again k
+    (size_fits mends file mended draft h)
+
+-- ---- own colours
+
+-- of a file that is written with its colours named, own colours show nowhere
+pub own_colours_gone : NamingLaws → NoneOwnIsLeft → (mends : Mends) (file draft : List ℕ) (mended : Mended)
+    → IsTrue mends.name_colours
+    → (h : IsMended mends file mended draft) (z : Size) (s : State)
+    → NeverOwn z s (spelled h.from_every.tokens h.from_every.reads.0)
+own_colours_gone laws none_own mends file draft mended asks h z s =
+    let was = was_named mends file mended draft h asks in
+    let is = named_is mends file mended draft h asks in
+    subst (λ (v : List ℕ). (tokens : List TokenKind) (reads : Reads v tokens)
+    → (mended.front ≡ false → begins_unnamed (spelled tokens reads.0) ≡ false)
+    → NeverOwn z s (spelled tokens reads.0)) (sym is)
+    (own_gone laws (content_in h.is_edited.ended) was.tokens was.reads none_own z s mended.front) h.from_every.tokens
+    h.from_every.reads (begins mended.front h.front h.content_is)
+  where
+    begins : (front : Bool)
+        → IsTrue front ↔ WantsMending h.asked (stated_size h.apart.record_bytes) (content_in h.settled)
+        → content h.apart.body ≡ front_bytes front ++ content_in h.settled
+        → front ≡ false → begins_unnamed (spelled h.from_every.tokens h.from_every.reads.0) ≡ false
+    begins true tells is none = absurd (true≢false none)
+    begins false tells is none = go (begins_unnamed (spelled h.from_every.tokens h.from_every.reads.0)) refl
+      where
+        go : (unnamed : Bool) → begins_unnamed (spelled h.from_every.tokens h.from_every.reads.0) ≡ unnamed
+            → unnamed ≡ false
+        go false e = refl
+        go true e =
+            let names_on : h.asked.name_colours ≡ true = ap (λ (m : Mends). m.name_colours) h.asked_is ∙ asks in
+            let unnamed : BeginsUnnamed h.asked (content h.apart.body) =
+            (names_on, h.from_every.tokens, h.from_every.reads, e) in
+            absurd (true≢false (sym (tells.1 (inr (subst (λ (v : List ℕ). BeginsUnnamed h.asked v) is unnamed)))))

@@ -183,6 +183,8 @@ one_of_tokens z flag tokens texts behind a b h g = λ i. record {
   board_codes = (h.board_codes ∙ sym g.board_codes) i;
   later_colours = (h.later_colours ∙ sym g.later_colours) i;
   blinking_glyphs = (h.blinking_glyphs ∙ sym g.blinking_glyphs) i;
+  seen_glyphs = (h.seen_glyphs ∙ sym g.seen_glyphs) i;
+  dark_glyphs = (h.dark_glyphs ∙ sym g.dark_glyphs) i;
   empty_rows = (h.empty_rows ∙ sym g.empty_rows) i;
   moves_rows = (h.moves_rows ∙ sym g.moves_rows) i;
 }

@@ -1,8 +1,8 @@
 -- From what is said of players to what they show.
-use Rattle.std.proofs.Common.{◌≡◌, inl, inr, ℕ, Bool, false, List, [], ◌∷◌, refl, sym, subst, take, ◌∙◌}
+use Rattle.std.proofs.Common.{◌≡◌, inl, inr, ℕ, Bool, false, List, [], ◌∷◌, refl, sym, ap, subst, take, ◌∙◌}
 use Rattle.std.specs.Prelude.{IsTrue}
 use Rattle.std.specs.List.{list_all}
-use Rattle.std.proofs.lemmas.Bool.{and_from, and_parts, cases_Bool, false≢true}
+use Rattle.std.proofs.lemmas.Bool.{and_from, and_parts, cases_Bool, eqb-true, false≢true}
 use Rattle.ans_model.specs.File.Layout.{content}
 use Rattle.ans_model.specs.File.Record.{stated_size}
 use Rattle.ans_model.specs.Screen.State.{Size}
@@ -14,6 +14,9 @@ use Rattle.ans_players.specs.Classes.{IsLeastSame, IsSame}
 use Rattle.ans_players.specs.Players.{Behaviour, IsPlayer, IsShown}
 use Rattle.ans_players.specs.Situations.{AreAgreed, Spelled, is_agreed, spelled, stand_of}
 use Rattle.ans_players.specs.declared.kind.Kind.{Kind}
+use Rattle.ans_players.specs.declared.kind.Kind.TheVariants.{OwnColours}
+use Rattle.ans_players.specs.Kinds.{is_kind}
+use Rattle.ans_players.proofs.NamedKinds.{same_kind}
 use Rattle.ans_players.proofs.Everywhere.{good_is_shown}
 use Rattle.ans_players.proofs.OneSpelling.{one_spelling}
 use Rattle.ans_walks.specs.SaidOfPlayers.{IsSameWhereCleared}
@@ -21,7 +24,7 @@ use Rattle.ans_mend.specs.declared.outcome.Mended.{Mended}
 use Rattle.ans_options.specs.declared.command.Mends.{Mends}
 use Rattle.ans_check.specs.Mending.{IsMended}
 use Rattle.ans_check_laws.proofs.Covering.{covers_both_ways}
-use Rattle.ans_check_laws.proofs.MendedTwice.{calm}
+use Rattle.ans_check_laws.proofs.MendedTwice.{still}
 
 abbrev pub none_agreed : Kind → Bool
 none_agreed kind = false
@@ -57,6 +60,15 @@ module _ (z : Size) (bytes : List ℕ) where
       same_is_shown none_agreed its p player (λ kind no. absurd (false≢true no)) known picture
       ((least known).1 covers) good
 
+  pub named_is_shown : (its : Kind → Bool) (p : Behaviour) → IsPlayer z its p → IsTrue (its OwnColours)
+      → (class known : Start) (picture : Picture) → IsLeastSame (is_kind OwnColours) z bytes class
+      → Covers class known → (good : GoodWith z known bytes picture)
+      → IsShown p z known (spelled good.tokens good.reads.0) picture
+  named_is_shown its p player own class known picture least covers good =
+      same_is_shown (is_kind OwnColours) its p player
+      (λ kind is. ap its (sym (same_kind OwnColours kind (eqb-true _ _ is))) ∙ own) known picture
+      ((least known).1 covers) good
+
 -- ---- of a file that is mended
 module _ (mends : Mends) (file : List ℕ) (mended : Mended) (draft : List ℕ) (h : IsMended mends file mended draft) where
   abbrev z : Size
@@ -74,13 +86,13 @@ module _ (mends : Mends) (file : List ℕ) (mended : Mended) (draft : List ℕ) 
       each : AreAgreed agreed z none_known xs
       each s k x start there = elim (cases_Bool (is_agreed agreed z (stand_of z s (take k xs)) x)) [
         | inl is ↦ is
-        | inr not_so ↦ absurd (calm mends file mended draft h (λ all.
+        | inr not_so ↦ absurd (still mends file mended draft h (λ all.
             false≢true (sym not_so ∙ read_so z shown agreed none_known h.picture (all agreed same) h.from_every s k x
             start there)))
       ]
 
-  pub needs_nothing : (class : Start) → IsLeastSame none_agreed z shown class → class ≡ none_known
-  needs_nothing class least =
+  pub needs_nothing : (agreed : Kind → Bool) (class : Start) → IsLeastSame agreed z shown class → class ≡ none_known
+  needs_nothing agreed class least =
       covers_both_ways class none_known
-      ((least none_known).0 (is_same_where_cleared none_agreed ((least all_known).1 (covers_all_known class))))
+      ((least none_known).0 (is_same_where_cleared agreed ((least all_known).1 (covers_all_known class))))
       (none_known_covers class)

@@ -33,7 +33,7 @@ some_if_any : (p : ℕ → Bool) (xs : List ℕ) → is_some (position p xs) ≡
 some_if_any p xs =
     some_if (nat_lt (position_or_len p xs) (length xs)) (position_or_len p xs) ∙ within_if_any p xs
 
-wants_by : (bytes : List ℕ) → wants_returns bytes ≡ (not (list_any is_return bytes) && list_any is_line_feed bytes)
+pub wants_by : (bytes : List ℕ) → wants_returns bytes ≡ (not (list_any is_return bytes) && list_any is_line_feed bytes)
 wants_by bytes = ap (λ (b : Bool). not (list_any is_return bytes) && b) (some_if_any is_line_feed bytes)
 
 -- bytes in front that have neither change nothing

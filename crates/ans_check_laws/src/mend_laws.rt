@@ -1,16 +1,22 @@
-//! Laws of mending: by itself, and with what is asked for.
+//! Laws of mending: by itself, and with what is asked for. Where colours are named, a body calls the laws of
+//! naming on which its own law stands.
 
-ghost use Rattle.std.specs.Prelude.{◌≡◌, ℕ, false, List, ◌++◌};
+ghost use Rattle.std.specs.Prelude.{◌≡◌, ℕ, false, IsTrue, List, ◌++◌};
 ghost use Rattle.ans_model.specs.File.Layout.{FileParts};
 ghost use Rattle.ans_model.specs.File.Record.{stated_size};
+ghost use Rattle.ans_model.specs.Screen.State.{Size, State};
 ghost use Rattle.ans_model.specs.Screen.StartClass.{all_known, none_known};
 ghost use Rattle.ans_model.specs.Verdict.Good.{Picture};
+ghost use Rattle.ans_players.specs.Situations.{spelled};
 ghost use Rattle.ans_mend.specs.declared.outcome.Mended.{Mended};
 ghost use Rattle.ans_options.specs.declared.command.Mends.{Mends};
 ghost use Rattle.ans_options.specs.declared.command.TheConstants.Mends as no_mends;
+ghost use Rattle.ans_names_laws.specs.NameLaws.{NeverOwn};
 ghost use Rattle.ans_check.specs.FileVerdict.{Passes};
 ghost use Rattle.ans_check.specs.Mending.{IsMended, front_bytes};
 ghost use Rattle.ans_check_laws.specs.KeptReturns.{KeepsReturns};
+
+use ans_names_laws::{named_content_is_read, naming_twice_is_naming_once, no_own_colours_are_left};
 
 /// Mending by itself changes no cell of a drawing. What is written of a file that passes from the
 /// cleared start is accepted, states the same size, and passes from every start with the same picture.
@@ -22,12 +28,28 @@ pub fn mending_keeps_the_picture()
 {}
 
 /// To mend once is enough: of what is written, mended again in the same way, the same bytes are written.
-/// That is so whatever is asked for, but for two things. No line ends behind full rows are taken out, of
-/// which a row may have more than one; and where returns are to be put, nothing is taken out with which
-/// the last return might go.
+/// That is so whatever is asked for, names of colours too, except two things. No line ends behind full rows
+/// are taken out, of which a row may have more than one; and where returns are to be put, nothing is taken out
+/// with which the last return might go.
 pub fn mending_once_is_enough()
     ensures { (mends : Mends) (file draft draft_again : List ℕ) (mended again : Mended)
-        → mends.full_rows ≡ false → KeepsReturns mends → IsMended mends file mended draft
+        → mends.full_rows ≡ false → KeepsReturns mends
+        → IsMended mends file mended draft
         → IsMended mends (front_bytes mended.front ++ draft) again draft_again
         → front_bytes again.front ++ draft_again ≡ front_bytes mended.front ++ draft }
-{}
+{
+    named_content_is_read();
+    naming_twice_is_naming_once();
+}
+
+/// Where colours are to be named, own colours show nowhere in what is written: from whatever is on the screen
+/// before, each cell is printed or cleared while both its colours are named.
+pub fn named_files_have_no_own_colours()
+    ensures { (mends : Mends) (file draft : List ℕ) (mended : Mended) → IsTrue mends.name_colours
+        → (h : IsMended mends file mended draft) (z : Size) (s : State)
+        → NeverOwn z s (spelled h.from_every.tokens h.from_every.reads.0) }
+{
+    named_content_is_read();
+    naming_twice_is_naming_once();
+    no_own_colours_are_left();
+}

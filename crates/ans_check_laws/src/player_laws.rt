@@ -12,7 +12,9 @@ ghost use Rattle.ans_players.specs.declared.kind.Kind.{Kind};
 ghost use Rattle.ans_walks.specs.KindsUsed.{is_used};
 ghost use Rattle.ans_walks.specs.SaidOfPlayers.{IsSameWhereCleared, IsSaidOfPlayers};
 ghost use Rattle.ans_walks.specs.declared.kinds.KindsUsed.{KindsUsed};
-ghost use Rattle.ans_walks.specs.declared.players.Players.TheVariants.{Agreeing, Any};
+ghost use Rattle.ans_walks.specs.declared.players.Players.TheVariants.{Agreeing, Any, InNamedColours};
+ghost use Rattle.ans_walks.specs.declared.times.Times.{Times};
+ghost use Rattle.ans_players.specs.declared.kind.Kind.TheVariants.{OwnColours};
 ghost use Rattle.ans_mend.specs.declared.outcome.Mended.{Mended};
 ghost use Rattle.ans_options.specs.declared.command.Mends.{Mends};
 ghost use Rattle.ans_redraw.specs.Drawable.{BytesAreAgreed};
@@ -32,6 +34,15 @@ pub fn any_player_shows_it<P: Player>()
         → IsShown P.behaviour P.size known (spelled good.tokens good.reads.0) picture }
 {}
 
+/// Where `why` names own colours alone, so it does on every player that does as the profile does in them: whose
+/// own white and black are those that 37 and 40 set.
+pub fn player_of_named_colours_shows_it<P: Player>()
+    ensures { (bytes : List ℕ) (class known : Start) (times : Times) (picture : Picture)
+        → IsSaidOfPlayers P.size bytes (InNamedColours class times) → IsTrue (P.agreed OwnColours)
+        → Covers class known → (good : GoodWith P.size known bytes picture)
+        → IsShown P.behaviour P.size known (spelled good.tokens good.reads.0) picture }
+{}
+
 /// Where `why` names kinds, the content shows its picture from the cleared start on every player that does
 /// as the profile does in those. Nothing is said of other starts.
 pub fn agreeing_players_show_it<P: Player>()
@@ -45,7 +56,7 @@ pub fn agreeing_players_show_it<P: Player>()
 /// From no start a kind arises in a mended file that does not from the cleared one: whichever kinds are
 /// agreed, if on all players that agree so its content is the same from the cleared start, it is so from
 /// every start. So where `why` says `players: any` of it, it shows its picture on every player from every
-/// start.
+/// start; and where it names own colours alone, on every player that agrees in them.
 pub fn mended_files_are_same_where_cleared()
     ensures same { (mends : Mends) (file draft : List ℕ) (mended : Mended)
         → (is : IsMended mends file mended draft)
@@ -53,6 +64,10 @@ pub fn mended_files_are_same_where_cleared()
     ensures any { (mends : Mends) (file draft : List ℕ) (mended : Mended) (class : Start)
         → (is : IsMended mends file mended draft)
         → IsSaidOfPlayers (stated_size is.apart.record_bytes) (content is.apart.body) (Any class)
+        → class ≡ none_known }
+    ensures named { (mends : Mends) (file draft : List ℕ) (mended : Mended) (class : Start) (times : Times)
+        → (is : IsMended mends file mended draft)
+        → IsSaidOfPlayers (stated_size is.apart.record_bytes) (content is.apart.body) (InNamedColours class times)
         → class ≡ none_known }
 {}
 

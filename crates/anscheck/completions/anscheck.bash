@@ -15,7 +15,7 @@ _anscheck() {
         local flags="--help"
         local parts="--known-screen --known-cursor --known-saved --known-colours --known-wrap"
         case $command in
-            mend) flags="--take-out --line-ends --full-rows --least-lines --lines --width --help" ;;
+            mend) flags="--take-out --line-ends --full-rows --name-colours --least-lines --lines --width --help" ;;
             check) flags="--cleared --any --cells $parts --help" ;;
             show) flags="--html --vga --cleared --any $parts --help" ;;
             table) flags="--json --no-header --help" ;;

@@ -15,6 +15,7 @@ complete -c anscheck -n "__fish_seen_subcommand_from help" -f -a 'F1 F2 F3 F4 F5
 complete -c anscheck -n "__fish_seen_subcommand_from mend" -l take-out -d 'Without the sequences that players differ in'
 complete -c anscheck -n "__fish_seen_subcommand_from mend" -l line-ends -d 'A return before each line feed'
 complete -c anscheck -n "__fish_seen_subcommand_from mend" -l full-rows -d 'No line ends behind full rows'
+complete -c anscheck -n "__fish_seen_subcommand_from mend" -l name-colours -d '37 and 40 after a 0 that something is printed in'
 complete -c anscheck -n "__fish_seen_subcommand_from mend" -l least-lines -d 'The least number of lines'
 complete -c anscheck -n "__fish_seen_subcommand_from mend" -l lines -x -d 'So many lines, 1 to 8192'
 complete -c anscheck -n "__fish_seen_subcommand_from mend" -l width -x -d 'A record for so many columns, 1 to 1024'

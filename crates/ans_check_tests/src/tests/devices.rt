@@ -19,13 +19,14 @@ const HI_NEEDS: &[u8] = b"size: 2 x 1\ncontent: 2 bytes\nneeds: cursor colours\n
 const HI_WHY: &[u8] = b"size: 2 x 1\n\
     verdict: pass\n\
     needs: cursor colours\n\
-    players: any\n\
+    players: own-colours\n\
+    at 0: own-colours, 2 times\n\
     taller: yes\n\
     at 0: F22 print at an unknown place\n\
     bytes: H\n\
     low start: row 1, column 1\n\
     high start: row 2, column 2\n\
-    mend: begin with ESC[?7h ESC[0m ESC[2J ESC[H ESC[s\n";
+    mend: begin with ESC[?7h ESC[0;37;40m ESC[2J ESC[H ESC[s\n";
 
 /// Gives one byte a read, and fails at one of the reads alone.
 #[derive(Clone, Copy)]
@@ -67,7 +68,7 @@ fn expect_end_at_write(
     written: &[u8],
 ) -> Result<(), AllocError> {
     let mut reader = Tried::new(file);
-    let device = FailingOnce::new(Narrow::new(256), fails_at, Failure::Error);
+    let device = FailingOnce::new(Narrow::new(512), fails_at, Failure::Error);
     let mut writer = Tried::new(device);
     let answer = run(rt.alloc(), &mut reader, &mut writer, asked);
     let calls = writer.calls();

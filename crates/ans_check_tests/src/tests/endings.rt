@@ -25,6 +25,7 @@ const CUT: Mended = Mended {
         },
         row_ends: None,
         last_ends: None,
+        named_colours: None,
     },
     non_blink: NonBlink {
         was: false,

@@ -12,17 +12,17 @@ use std::alloc::AllocError;
 use std::process::Abort;
 
 /// The bytes that stand in front of a drawing that wants them.
-const MENDING: &[u8] = b"\x1b[?7h\x1b[0m\x1b[2J\x1b[H\x1b[s";
+const MENDING: &[u8] = b"\x1b[?7h\x1b[0;37;40m\x1b[2J\x1b[H\x1b[s";
 
 /// What is said of `hi.ans`, which passes from the cleared start alone.
-const HI_SAID: &[u8] = b"put 19 bytes in front\nfile size 21, was 2\n";
+const HI_SAID: &[u8] = b"put 25 bytes in front\nfile size 27, was 2\n";
 
 /// What stands before the record of a mended file behind the bytes in front, and the fields of the plain
 /// record that are changed.
 type Behind = (&'static [u8], &'static [(usize, &'static [u8])]);
 
 /// `hi.ans` behind the bytes in front: its file size is another.
-const HI: Behind = (b"Hi\x1a", &[(90, b"\x15")]);
+const HI: Behind = (b"Hi\x1a", &[(90, b"\x1b")]);
 
 /// Words, the mended file behind the bytes in front, and what is said of it.
 static MENDED: [(&[&str], Behind, &[u8]); 6] = words! {
@@ -30,17 +30,17 @@ static MENDED: [(&[&str], Behind, &[u8]); 6] = words! {
     "mend" "--take-out" "--line-ends" "--full-rows" "--least-lines" "--lines" "9" "--width" "80" "hi.ans"
         => HI, HI_SAID;
     "mend" "--least-lines" "low.ans"
-        => (b"a\r\nb\x1a", &[(90, b"\x17"), (96, b"\x50"), (98, b"\x02")]),
-        b"lines 2, was 1\nput 19 bytes in front\nfile size 23, was 4\n";
+        => (b"a\r\nb\x1a", &[(90, b"\x1d"), (96, b"\x50"), (98, b"\x02")]),
+        b"lines 2, was 1\nput 25 bytes in front\nfile size 29, was 4\n";
     "mend" "--lines" "7" "low.ans"
-        => (b"a\r\nb\x1a", &[(90, b"\x17"), (96, b"\x50"), (98, b"\x07")]),
-        b"lines 7, was 1\nput 19 bytes in front\nfile size 23, was 4\n";
+        => (b"a\r\nb\x1a", &[(90, b"\x1d"), (96, b"\x50"), (98, b"\x07")]),
+        b"lines 7, was 1\nput 25 bytes in front\nfile size 29, was 4\n";
     "mend" "--width" "3" "abc"
-        => (b"abc\x1a", &[(82, b"00000000"), (90, b"\x16"), (96, b"\x03")]),
-        b"put an end mark and a record of 3 columns at 3\nlines 1, was 0\nput 19 bytes in front\nfile size 22, was 0\n";
+        => (b"abc\x1a", &[(82, b"00000000"), (90, b"\x1c"), (96, b"\x03")]),
+        b"put an end mark and a record of 3 columns at 3\nlines 1, was 0\nput 25 bytes in front\nfile size 28, was 0\n";
     "mend" "--width" "2" "--lines" "3" "-"
-        => (b"Hi\x1a", &[(82, b"00000000"), (90, b"\x15"), (98, b"\x03")]),
-        b"put an end mark and a record of 2 columns at 2\nlines 3, was 0\nput 19 bytes in front\nfile size 21, was 0\n";
+        => (b"Hi\x1a", &[(82, b"00000000"), (90, b"\x1b"), (98, b"\x03")]),
+        b"put an end mark and a record of 2 columns at 2\nlines 3, was 0\nput 25 bytes in front\nfile size 27, was 0\n";
 };
 
 /// What standard input gives: no record.
@@ -104,8 +104,8 @@ fn a_mended_file_that_is_cut_off_is_an_error(rt: HostRuntime) -> Result<(), Allo
     let drawings = Drawings::new(&rt)?;
     let files = drawings.files();
     let whole = mended_hi(&rt)?;
-    assert!(rt; whole.len() == 150);
-    for room in 0..150 {
+    assert!(rt; whole.len() == 156);
+    for room in 0..156 {
         let shelf = Shelf::new(&files, NO_RECORD);
         let answered = answer_in(&rt, &["anscheck", "mend", "hi.ans"], shelf, (room, 4096))?;
         expect_printed(&rt, &answered, &whole.as_slice()[..room], UNWRITTEN);
@@ -162,12 +162,12 @@ fn a_reader_that_fails_leaves_nothing_mended(rt: HostRuntime) -> Result<(), Allo
     Ok(())
 }
 
-/// The room, whether the device flushes, and what comes of a mended file of 150 bytes.
+/// The room, whether the device flushes, and what comes of a mended file of 156 bytes.
 static OUTPUTS: [(usize, bool, Came); 4] = [
-    (150, true, Ok(Ok(true))),
-    (149, true, Err(RunError::Write)),
+    (156, true, Ok(Ok(true))),
+    (155, true, Err(RunError::Write)),
     (0, true, Err(RunError::Write)),
-    (150, false, Err(RunError::Write)),
+    (156, false, Err(RunError::Write)),
 ];
 
 #[test]

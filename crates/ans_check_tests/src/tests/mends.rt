@@ -124,7 +124,7 @@ static MENDED: [Row; 22] = [
         (b"\x1b[?7h\x1b[0m\x1b[2JHi\x1a", &[(90, b"\x0f")], b""),
         ITSELF,
         true,
-        (b"\x1b[?7h\x1b[0m\x1b[2JHi\x1a", &[(90, b"\x22")], b""),
+        (b"\x1b[?7h\x1b[0m\x1b[2JHi\x1a", &[(90, b"\x28")], b""),
     ),
     (
         (
@@ -166,7 +166,7 @@ static MENDED: [Row; 22] = [
         true,
         (
             b"\x1b[?7h\x1b[0m\x1b[1C\x1b[2J\x1b[HHi\x1a",
-            &[(90, b"\x29")],
+            &[(90, b"\x2f")],
             b"",
         ),
     ),
@@ -175,20 +175,20 @@ static MENDED: [Row; 22] = [
         (b"Hi\x1a", &[(7, b"title")], b""),
         LEAST,
         true,
-        (b"Hi\x1a", &[(7, b"title"), (90, b"\x15")], b""),
+        (b"Hi\x1a", &[(7, b"title"), (90, b"\x1b")], b""),
     ),
     (
         (b"Hi\x1a", &[(90, b"\x03")], b""),
         lines!(9),
         true,
-        (b"Hi\x1a", &[(90, b"\x16")], b""),
+        (b"Hi\x1a", &[(90, b"\x1c")], b""),
     ),
     // no end mark, with a comment and without
     (
         (b"Hi", &[], b""),
         ITSELF,
         true,
-        (b"Hi\x1a", &[(90, b"\x15")], b""),
+        (b"Hi\x1a", &[(90, b"\x1b")], b""),
     ),
     (
         (
@@ -200,7 +200,7 @@ static MENDED: [Row; 22] = [
         true,
         (
             b"Hi\x1aCOMNTfour times sixteen bytes, with blanks behind it                 ",
-            &[(90, b"\x15"), (104, b"\x01")],
+            &[(90, b"\x1b"), (104, b"\x01")],
             b"",
         ),
     ),
@@ -215,7 +215,7 @@ static MENDED: [Row; 22] = [
         true,
         (
             b"Hi\x1aCOMNTCOMNT, and what else stands in a line of sixty-four bytes.      ",
-            &[(90, b"\x15"), (104, b"\x01")],
+            &[(90, b"\x1b"), (104, b"\x01")],
             b"",
         ),
     ),
@@ -224,52 +224,52 @@ static MENDED: [Row; 22] = [
         (b"Hi\x1a", &[], b"\r\n\x1a\x00"),
         ITSELF,
         true,
-        (b"Hi\x1a", &[(90, b"\x15")], b""),
+        (b"Hi\x1a", &[(90, b"\x1b")], b""),
     ),
     // too few lines
     (
         (b"Hi!\x1a", &[(90, b"\x03")], b""),
         lines!(7),
         true,
-        (b"Hi!\x1a", &[(90, b"\x16"), (98, b"\x07")], b""),
+        (b"Hi!\x1a", &[(90, b"\x1c"), (98, b"\x07")], b""),
     ),
     (
         (b"Hi!\x1a", &[(90, b"\x03")], b""),
         LEAST,
         true,
-        (b"Hi!\x1a", &[(90, b"\x16"), (98, b"\x02")], b""),
+        (b"Hi!\x1a", &[(90, b"\x1c"), (98, b"\x02")], b""),
     ),
     // none
     (
         (b"Hi!\x1a", &[(90, b"\x03"), (98, b"\x00")], b""),
         LEAST,
         true,
-        (b"Hi!\x1a", &[(90, b"\x16"), (98, b"\x02")], b""),
+        (b"Hi!\x1a", &[(90, b"\x1c"), (98, b"\x02")], b""),
     ),
     (
         (b"Hi!\x1a", &[(90, b"\x03"), (98, b"\x00")], b""),
         lines!(258),
         true,
-        (b"Hi!\x1a", &[(90, b"\x16"), (98, b"\x02\x01")], b""),
+        (b"Hi!\x1a", &[(90, b"\x1c"), (98, b"\x02\x01")], b""),
     ),
     // line feeds alone, and line feeds with returns
     (
         (b"H\ni\n\x1a", &[(90, b"\x05"), (98, b"\x03")], b""),
         LINE_ENDS,
         true,
-        (b"H\r\ni\r\n\x1a", &[(90, b"\x1a"), (98, b"\x03")], b""),
+        (b"H\r\ni\r\n\x1a", &[(90, b"\x20"), (98, b"\x03")], b""),
     ),
     (
         (b"\n\n", &[(90, b"\x02"), (98, b"\x03")], b"\n"),
         LINE_ENDS,
         true,
-        (b"\r\n\r\n\x1a", &[(90, b"\x17"), (98, b"\x03")], b""),
+        (b"\r\n\r\n\x1a", &[(90, b"\x1d"), (98, b"\x03")], b""),
     ),
     (
         (b"H\r\ni\n\x1a", &[(90, b"\x05"), (98, b"\x03")], b""),
         LINE_ENDS,
         true,
-        (b"H\r\ni\n\x1a", &[(90, b"\x18"), (98, b"\x03")], b""),
+        (b"H\r\ni\n\x1a", &[(90, b"\x1e"), (98, b"\x03")], b""),
     ),
     // torn rows are not when they have returns
     (
@@ -281,7 +281,7 @@ static MENDED: [Row; 22] = [
         true,
         (
             b"H\r\ni\r\n!\x1a",
-            &[(90, b"\x1a"), (96, b"\x09"), (98, b"\x03")],
+            &[(90, b"\x20"), (96, b"\x09"), (98, b"\x03")],
             b"",
         ),
     ),
@@ -293,7 +293,7 @@ static MENDED: [Row; 22] = [
             ..LEAST
         },
         true,
-        (b"Hi!\x1a", &[(90, b"\x16"), (98, b"\x04")], b""),
+        (b"Hi!\x1a", &[(90, b"\x1c"), (98, b"\x04")], b""),
     ),
 ];
 
@@ -307,54 +307,54 @@ static TAKEN_OUT: [Row; 17] = [
             ..lines!(1)
         },
         true,
-        (b"Hi\x1a", &[(90, b"\x15")], b""),
+        (b"Hi\x1a", &[(90, b"\x1b")], b""),
     ),
     // bright backgrounds: the last switch is the flag, and the other flags stay
     (
         (b"\x1b[?33hHi\x1a", &[], b""),
         TAKE_OUT,
         true,
-        (b"Hi\x1a", &[(90, b"\x15"), (105, b"\x01")], b""),
+        (b"Hi\x1a", &[(90, b"\x1b"), (105, b"\x01")], b""),
     ),
     (
         (b"\x1b[?33hHi\x1b[?33l\x1a", &[(105, b"\x0b")], b""),
         TAKE_OUT,
         true,
-        (b"Hi\x1a", &[(90, b"\x15"), (105, b"\x0a")], b""),
+        (b"Hi\x1a", &[(90, b"\x1b"), (105, b"\x0a")], b""),
     ),
     (
         (b"\x1b[?33lH\x1b[?33hi\x1a", &[(105, b"\x0a")], b""),
         TAKE_OUT,
         true,
-        (b"Hi\x1a", &[(90, b"\x15"), (105, b"\x0b")], b""),
+        (b"Hi\x1a", &[(90, b"\x1b"), (105, b"\x0b")], b""),
     ),
     // other switches
     (
         (b"\x1b[?25lH\x1b[?12hi\x1b[?35l\x1a", &[], b""),
         TAKE_OUT,
         true,
-        (b"Hi\x1a", &[(90, b"\x15")], b""),
+        (b"Hi\x1a", &[(90, b"\x1b")], b""),
     ),
     // modes before anything shows
     (
         (b"\x1b[=3h\x1b[0m\x1b[2;5lHi\x1a", &[], b""),
         TAKE_OUT,
         true,
-        (b"\x1b[0mHi\x1a", &[(90, b"\x19")], b""),
+        (b"\x1b[0mHi\x1a", &[(90, b"\x1f")], b""),
     ),
     // a font
     (
         (b"H\x1b[0;40 Di\x1a", &[], b""),
         TAKE_OUT,
         true,
-        (b"Hi\x1a", &[(90, b"\x15")], b""),
+        (b"Hi\x1a", &[(90, b"\x1b")], b""),
     ),
     // melodies, of 11 bytes, of none and of 250
     (
         (b"\x1b[MFT120O3L4C#\x0eH\x1b[N\x0ei\x1a", &[], b""),
         TAKE_OUT,
         true,
-        (b"Hi\x1a", &[(90, b"\x15")], b""),
+        (b"Hi\x1a", &[(90, b"\x1b")], b""),
     ),
     (
         (
@@ -370,54 +370,54 @@ static TAKEN_OUT: [Row; 17] = [
         ),
         TAKE_OUT,
         true,
-        (b"Hi\x1a", &[(90, b"\x15")], b""),
+        (b"Hi\x1a", &[(90, b"\x1b")], b""),
     ),
     // colours of 24 bits behind a colour
     (
         (b"\x1b[0;31m\x1b[1;170;0;0t\x1b[0;0;0;0tHi\x1a", &[], b""),
         TAKE_OUT,
         true,
-        (b"\x1b[0;31mHi\x1a", &[(90, b"\x1c")], b""),
+        (b"\x1b[0;31mHi\x1a", &[(90, b"\x22")], b""),
     ),
     // what is asked of the terminal
     (
         (b"\x1b[6nH\x1b[5n\x1b[ci\x1b[0c\x1a", &[], b""),
         TAKE_OUT,
         true,
-        (b"Hi\x1a", &[(90, b"\x15")], b""),
+        (b"Hi\x1a", &[(90, b"\x1b")], b""),
     ),
     // keys
     (
         (b"\x1b[65;\"Ha\"pH\x1b[0;59;13pi\x1a", &[], b""),
         TAKE_OUT,
         true,
-        (b"Hi\x1a", &[(90, b"\x15")], b""),
+        (b"Hi\x1a", &[(90, b"\x1b")], b""),
     ),
     // sequences that are not finished
     (
         (b"Hi\x1b[1;3\x1a", &[], b""),
         TAKE_OUT,
         true,
-        (b"Hi\x1a", &[(90, b"\x15")], b""),
+        (b"Hi\x1a", &[(90, b"\x1b")], b""),
     ),
     (
         (b"Hi\x1b", &[], b""),
         TAKE_OUT,
         true,
-        (b"Hi\x1a", &[(90, b"\x15")], b""),
+        (b"Hi\x1a", &[(90, b"\x1b")], b""),
     ),
     // as few line ends at the end as must go
     (
         (b"Hi\r\n\r\n\x1a", &[], b""),
         TAKE_OUT,
         true,
-        (b"Hi\x1a", &[(90, b"\x15")], b""),
+        (b"Hi\x1a", &[(90, b"\x1b")], b""),
     ),
     (
         (b"H\r\n\r\n\n\x1a", &[], b""),
         TAKE_OUT,
         true,
-        (b"H\r\n\x1a", &[(90, b"\x16")], b""),
+        (b"H\r\n\x1a", &[(90, b"\x1c")], b""),
     ),
     // and none where lines are wanted for what is left
     (
@@ -427,7 +427,7 @@ static TAKEN_OUT: [Row; 17] = [
             ..LEAST
         },
         true,
-        (b"Hi!\r\n\x1a", &[(90, b"\x18"), (98, b"\x02")], b""),
+        (b"Hi!\r\n\x1a", &[(90, b"\x1e"), (98, b"\x02")], b""),
     ),
 ];
 
@@ -437,7 +437,7 @@ static JOINED: [Row; 7] = [
         (b"Hi\r\nHo\r\n!!\x1a", &[(98, b"\x03")], b""),
         FULL_ROWS,
         true,
-        (b"HiHo!!\x1a", &[(90, b"\x19"), (98, b"\x03")], b""),
+        (b"HiHo!!\x1a", &[(90, b"\x1f"), (98, b"\x03")], b""),
     ),
     // with colours between, without a return, and behind the last row too
     (
@@ -446,7 +446,7 @@ static JOINED: [Row; 7] = [
         true,
         (
             b"Hi\x1b[1m\x1b[0mHo!!\x1a",
-            &[(90, b"\x21"), (98, b"\x03")],
+            &[(90, b"\x27"), (98, b"\x03")],
             b"",
         ),
     ),
@@ -455,20 +455,20 @@ static JOINED: [Row; 7] = [
         (b"Hi\r\nH\x1a", &[(98, b"\x03")], b""),
         FULL_ROWS,
         true,
-        (b"Hi\r\nH\x1a", &[(90, b"\x18"), (98, b"\x03")], b""),
+        (b"Hi\r\nH\x1a", &[(90, b"\x1e"), (98, b"\x03")], b""),
     ),
     (
         (b"HiHo\r\nHa\r\n!\x1a", &[(98, b"\x06")], b""),
         FULL_ROWS,
         true,
-        (b"HiHo\r\nHa\r\n!\x1a", &[(90, b"\x1e"), (98, b"\x06")], b""),
+        (b"HiHo\r\nHa\r\n!\x1a", &[(90, b"\x24"), (98, b"\x06")], b""),
     ),
     // behind sequences that go, and before line ends at the very end
     (
         (b"Hi\r\x1b[6n\nHo\r\n!\r\n\r\n\x1a", &[(98, b"\x03")], b""),
         BOTH,
         true,
-        (b"HiHo!\r\n\x1a", &[(90, b"\x1a"), (98, b"\x03")], b""),
+        (b"HiHo!\r\n\x1a", &[(90, b"\x20"), (98, b"\x03")], b""),
     ),
     // behind returns that are put
     (
@@ -478,7 +478,7 @@ static JOINED: [Row; 7] = [
             ..FULL_ROWS
         },
         true,
-        (b"HiHo!\x1a", &[(90, b"\x18"), (98, b"\x03")], b""),
+        (b"HiHo!\x1a", &[(90, b"\x1e"), (98, b"\x03")], b""),
     ),
     // the least number of lines is that of what is left
     (
@@ -488,7 +488,7 @@ static JOINED: [Row; 7] = [
             ..FULL_ROWS
         },
         true,
-        (b"HiHo!\x1a", &[(90, b"\x18"), (98, b"\x03")], b""),
+        (b"HiHo!\x1a", &[(90, b"\x1e"), (98, b"\x03")], b""),
     ),
 ];
 
@@ -497,14 +497,14 @@ static GIVEN: [(&[u8], Mends, Sample); 5] = [
     (
         b"Hi",
         WIDTH,
-        (b"Hi\x1a", &[(82, b"00000000"), (90, b"\x15")], b""),
+        (b"Hi\x1a", &[(82, b"00000000"), (90, b"\x1b")], b""),
     ),
     (
         b"Hi!\x1a\r\n\x00\x1a",
         WIDTH,
         (
             b"Hi!\x1a",
-            &[(82, b"00000000"), (90, b"\x16"), (98, b"\x02")],
+            &[(82, b"00000000"), (90, b"\x1c"), (98, b"\x02")],
             b"",
         ),
     ),
@@ -516,7 +516,7 @@ static GIVEN: [(&[u8], Mends, Sample); 5] = [
         },
         (
             b"Hi!\x1a",
-            &[(82, b"00000000"), (90, b"\x16"), (98, b"\x04")],
+            &[(82, b"00000000"), (90, b"\x1c"), (98, b"\x04")],
             b"",
         ),
     ),
@@ -531,7 +531,7 @@ static GIVEN: [(&[u8], Mends, Sample); 5] = [
             b"H\r\ni\r\n\x1a",
             &[
                 (82, b"00000000"),
-                (90, b"\x19"),
+                (90, b"\x1f"),
                 (96, b"\x02\x01"),
                 (98, b"\x02"),
             ],
@@ -546,9 +546,43 @@ static GIVEN: [(&[u8], Mends, Sample); 5] = [
         },
         (
             b"Hi\x1a",
-            &[(82, b"00000000"), (90, b"\x15"), (105, b"\x01")],
+            &[(82, b"00000000"), (90, b"\x1b"), (105, b"\x01")],
             b"",
         ),
+    ),
+];
+
+/// Colours named too.
+const NAME_COLOURS: Mends = Mends {
+    name_colours: true,
+    ..ITSELF
+};
+
+/// Files whose colours are named, whether the bytes in front are wanted, and what they become.
+static NAMED: [Row; 3] = [
+    (
+        (b"\x1b[0mHi\x1a", &[], b""),
+        NAME_COLOURS,
+        true,
+        (b"\x1b[0;37;40mHi\x1a", &[(90, b"\x25")], b""),
+    ),
+    // behind the bytes in front as they were without names
+    (
+        (b"\x1b[?7h\x1b[0m\x1b[2J\x1b[H\x1b[sHi\x1a", &[], b""),
+        NAME_COLOURS,
+        false,
+        (
+            b"\x1b[?7h\x1b[0;37;40m\x1b[2J\x1b[H\x1b[sHi\x1a",
+            &[(90, b"\x1b")],
+            b"",
+        ),
+    ),
+    // nothing is printed in colours that a 0 has set
+    (
+        (b"Hi\x1b[0m\x1a", &[], b""),
+        NAME_COLOURS,
+        true,
+        (b"Hi\x1b[0m\x1a", &[(90, b"\x1f")], b""),
     ),
 ];
 
@@ -595,6 +629,23 @@ fn sequences_are_taken_out(rt: HostRuntime) -> Result<(), AllocError> {
 #[test]
 fn full_rows_are_joined(rt: HostRuntime) -> Result<(), AllocError> {
     expect_mended(&rt, &JOINED)
+}
+
+#[test]
+fn colours_are_named(rt: HostRuntime) -> Result<(), AllocError> {
+    for (sample, mends, front, expected) in &NAMED {
+        let mut memory = bytes_of(&rt, sample)?;
+        let count = memory.len();
+        memory.extend_from_slice(b"???????")?;
+        assert!(rt; count <= memory.len() && count <= MAX_FILE);
+        let mut draft = Draft::new(memory.as_mut_slice(), count);
+        let mut screens = NewScreens::<PlaneGrid>::new(rt.alloc());
+        let answer = mend_on(&mut screens, &mut draft, mends)?;
+        let put = answer.map(|mended| mended.front);
+        let expected = bytes_of(&rt, expected)?;
+        assert_eq!(rt; (put, draft.file()), (Ok(*front), expected.as_slice()));
+    }
+    Ok(())
 }
 
 #[test]

@@ -13,7 +13,7 @@ use std::io::Read;
 use std::process::Abort;
 
 /// The bytes with which each redrawn content begins.
-const MENDING: &[u8] = b"\x1b[?7h\x1b[0m\x1b[2J\x1b[H\x1b[s";
+const MENDING: &[u8] = b"\x1b[?7h\x1b[0;37;40m\x1b[2J\x1b[H\x1b[s";
 
 /// What stands before a plain record, and its fields that are others.
 type Sample = (&'static [u8], &'static [(usize, &'static [u8])]);
@@ -24,29 +24,29 @@ static REDRAWN: [(Sample, Sample, &[u8]); 10] = [
     // as it was
     (
         (b"Hi\x1a", &[(90, b"\x02"), (96, b"\x02")]),
-        (b"Hi\x1a", &[(90, b"\x15"), (96, b"\x02")]),
-        b"content length 21, was 2\nfile size 21, was 2\n",
+        (b"Hi\x1b[0m\x1a", &[(90, b"\x1f"), (96, b"\x02")]),
+        b"content length 31, was 2\nfile size 31, was 2\n",
     ),
     // an animation without an end mark
     (
         (b"A\x1b[HB", &[(90, b"\x05"), (96, b"\x03")]),
-        (b"B\x1a", &[(90, b"\x14"), (96, b"\x03")]),
-        b"content length 20, was 5\nput an end mark at 20\nfile size 20, was 5\n",
+        (b"B\x1b[0m\x1a", &[(90, b"\x1e"), (96, b"\x03")]),
+        b"content length 30, was 5\nput an end mark at 30\nfile size 30, was 5\n",
     ),
     // a line end behind a full row
     (
         (b"AB\r\nC\x1a", &[(96, b"\x02"), (98, b"\x03")]),
         (
-            b"AB \r\nC\x1a",
-            &[(90, b"\x19"), (96, b"\x02"), (98, b"\x03")],
+            b"\n\x1b[AAB\x1b[2H\r\nC\x1b[0m\x1a",
+            &[(90, b"\x2a"), (96, b"\x02"), (98, b"\x03")],
         ),
-        b"content length 25, was 5\nfile size 25, was 2\n",
+        b"content length 42, was 5\nfile size 42, was 2\n",
     ),
     // colours that are not set back
     (
         (b"\x1b[1;44mA\x1a", &[(96, b"\x02")]),
-        (b"\x1b[1;44mA\x1b[0m\x1a", &[(90, b"\x1f"), (96, b"\x02")]),
-        b"content length 31, was 8\nfile size 31, was 2\n",
+        (b"\x1b[1;44mA\x1b[0m\x1a", &[(90, b"\x25"), (96, b"\x02")]),
+        b"content length 37, was 8\nfile size 37, was 2\n",
     ),
     // a place that is restored, a tab, and an erased line
     (
@@ -54,8 +54,8 @@ static REDRAWN: [(Sample, Sample, &[u8]); 10] = [
             b"\x1b[sxyz\x1b[u\x1b[K\tA\x1a",
             &[(90, b"\x0d"), (96, b"\x0a")],
         ),
-        (b"\x1b[8CA\x1a", &[(90, b"\x18"), (96, b"\x0a")]),
-        b"content length 24, was 14\nfile size 24, was 13\n",
+        (b"\x1b[8CA\x1b[0m\x1a", &[(90, b"\x22"), (96, b"\x0a")]),
+        b"content length 34, was 14\nfile size 34, was 13\n",
     ),
     // a comment, and no end mark
     (
@@ -64,16 +64,16 @@ static REDRAWN: [(Sample, Sample, &[u8]); 10] = [
             &[(90, b"\x02"), (96, b"\x02"), (104, b"\x01")],
         ),
         (
-            b"Hi\x1aCOMNT0123456789012345678901234567890123456789012345678901234567890123",
-            &[(90, b"\x15"), (96, b"\x02"), (104, b"\x01")],
+            b"Hi\x1b[0m\x1aCOMNT0123456789012345678901234567890123456789012345678901234567890123",
+            &[(90, b"\x1f"), (96, b"\x02"), (104, b"\x01")],
         ),
-        b"content length 21, was 2\nput an end mark at 21\nfile size 21, was 2\n",
+        b"content length 31, was 2\nput an end mark at 31\nfile size 31, was 2\n",
     ),
     // two end marks, of which the file size counts one
     (
         (b"Hi\x1a\x1a", &[(90, b"\x03"), (96, b"\x02")]),
-        (b"Hi\x1a\x1a", &[(90, b"\x15"), (96, b"\x02")]),
-        b"content length 21, was 2\nfile size 21, was 3\n",
+        (b"Hi\x1b[0m\x1a\x1a", &[(90, b"\x1f"), (96, b"\x02")]),
+        b"content length 31, was 2\nfile size 31, was 3\n",
     ),
     // nothing but blanks, and a date that is none
     (
@@ -81,23 +81,26 @@ static REDRAWN: [(Sample, Sample, &[u8]); 10] = [
             b"  \x1a",
             &[(82, b"yesterda"), (90, b"\x02"), (96, b"\x02")],
         ),
-        (b"\x1a", &[(82, b"yesterda"), (90, b"\x13"), (96, b"\x02")]),
-        b"content length 19, was 2\nfile size 19, was 2\n",
+        (
+            b"\x1b[0m\x1a",
+            &[(82, b"yesterda"), (90, b"\x1d"), (96, b"\x02")],
+        ),
+        b"content length 29, was 2\nfile size 29, was 2\n",
     ),
     // a file size above any content
     (
         (b"Hi\x1a", &[(90, b"\xff\xff\xff\xff"), (96, b"\x02")]),
-        (b"Hi\x1a", &[(90, b"\x15"), (96, b"\x02")]),
-        b"content length 21, was 2\nfile size 21, was 4294967295\n",
+        (b"Hi\x1b[0m\x1a", &[(90, b"\x1f"), (96, b"\x02")]),
+        b"content length 31, was 2\nfile size 31, was 4294967295\n",
     ),
     // redrawn already
     (
         (
-            b"\x1b[?7h\x1b[0m\x1b[2J\x1b[H\x1b[sHi\x1a",
-            &[(90, b"\x15"), (96, b"\x02")],
+            b"\x1b[?7h\x1b[0;37;40m\x1b[2J\x1b[H\x1b[sHi\x1b[0m\x1a",
+            &[(90, b"\x1f"), (96, b"\x02")],
         ),
-        (b"Hi\x1a", &[(90, b"\x15"), (96, b"\x02")]),
-        b"content length 21, was 21\n",
+        (b"Hi\x1b[0m\x1a", &[(90, b"\x1f"), (96, b"\x02")]),
+        b"content length 31, was 31\n",
     ),
 ];
 
@@ -124,7 +127,7 @@ fn words_redraw_files(rt: HostRuntime) -> Result<(), AllocError> {
 const NO_RECORD: Stored<'_> = Stored::Bytes(b"Hi");
 
 /// What is said of `hi.ans`.
-const HI_SAID: &[u8] = b"content length 21, was 2\nfile size 21, was 2\n";
+const HI_SAID: &[u8] = b"content length 31, was 2\nfile size 31, was 2\n";
 
 /// Words of which no file comes, the status, and what is said.
 static NOT_REDRAWN: [(&[&str], u8, &[u8]); 7] = words! {
@@ -166,8 +169,8 @@ fn a_redrawn_file_that_is_cut_off_is_an_error(rt: HostRuntime) -> Result<(), All
     let drawings = Drawings::new(&rt)?;
     let files = drawings.files();
     let whole = redrawn_hi(&rt)?;
-    assert!(rt; whole.len() == 150);
-    for room in 0..150 {
+    assert!(rt; whole.len() == 160);
+    for room in 0..160 {
         let shelf = Shelf::new(&files, NO_RECORD);
         let answered = answer_in(&rt, &["anscheck", "redraw", "hi.ans"], shelf, (room, 4096))?;
         expect_printed(&rt, &answered, &whole.as_slice()[..room], UNWRITTEN);
@@ -224,12 +227,12 @@ fn a_reader_that_fails_leaves_nothing_redrawn(rt: HostRuntime) -> Result<(), All
     Ok(())
 }
 
-/// The room, whether the device flushes, and what comes of a redrawn file of 150 bytes.
+/// The room, whether the device flushes, and what comes of a redrawn file of 160 bytes.
 static OUTPUTS: [(usize, bool, Came); 4] = [
-    (150, true, Ok(Ok(150))),
-    (149, true, Err(RunError::Write)),
+    (160, true, Ok(Ok(160))),
+    (159, true, Err(RunError::Write)),
     (0, true, Err(RunError::Write)),
-    (150, false, Err(RunError::Write)),
+    (160, false, Err(RunError::Write)),
 ];
 
 #[test]
@@ -279,6 +282,6 @@ fn a_file_may_be_too_long_when_it_is_redrawn(rt: HostRuntime) -> Result<(), Allo
     let marks = [0x1A; 1024];
     let content = b"Hi".as_slice().chain(&marks[..894]);
     let rest = Stored::repeated(&marks, 16_383).chain(record.as_slice());
-    let reason = Unredrawn::TooLong(16_777_235);
+    let reason = Unredrawn::TooLong(16_777_245);
     expect_unwritten(&rt, content.chain(rest), Ok(Err(reason)))
 }

@@ -63,7 +63,7 @@ macro_rules! error_row {
 }
 
 pub(super) const HI_ROW: &str =
-    "pass\tcursor colours\tany\tcursor colours\tyes\t\t\t\t\t2\t1\t2\t\tno\t\t\t\t19960101\t\t\t\thi.ans\n";
+    "pass\tcursor colours\town-colours\tcursor colours\tyes\t\t\t\t\t2\t1\t2\t\tno\t\t\t\t19960101\t\t\t\thi.ans\n";
 
 pub(super) const LOW_ROW: &str =
     "refused\t\t\t\t\tF20\t3\t2\t1\t80\t1\t4\t\tno\t\t\t\t19960101\t\t\t\tlow.ans\n";
@@ -76,7 +76,7 @@ pub(super) const HI_OBJECT: &str =
     "{\"author\":\"\",\"comments\":[],\"content\":2,\"date\":\"19960101\",\
     \"file\":\"hi.ans\",\"font\":\"\",\"group\":\"\",\"ice\":false,\"lines\":1,\
     \"needs\":[\"cursor\",\"colours\"],\"notes\":[],\"on_every_player\":[\"cursor\",\"colours\"],\
-    \"players\":[],\"taller\":true,\"title\":\"\",\"verdict\":\"pass\",\"width\":2}\n";
+    \"players\":[\"own-colours\"],\"taller\":true,\"title\":\"\",\"verdict\":\"pass\",\"width\":2}\n";
 
 pub(super) const LOW_OBJECT: &str =
     "{\"at\":3,\"author\":\"\",\"column\":1,\"comments\":[],\"content\":4,\
@@ -221,33 +221,33 @@ static RECORDS: [Shown; 13] = [
         ROWS,
         b"Hi\x1a",
         &[(105, b"\x0b"), (106, b"IBM VGA"), (7, b"a\\b \x01")],
-        "pass\tcursor colours\tany\tcursor colours\tyes\t\t\t\t\t2\t1\t2\t\tyes\t8\tstretch\t\
+        "pass\tcursor colours\town-colours\tcursor colours\tyes\t\t\t\t\t2\t1\t2\t\tyes\t8\tstretch\t\
         IBM VGA\t19960101\ta\\\\b \u{263a}\t\t\tf\n",
     ),
     (
         ROWS,
         b"Hi\x1a",
         &[(105, b"\xf4"), (82, b"1996x")],
-        "pass\tcursor colours\tany\tcursor colours\tyes\t\t\t\t\t2\t1\t2\tN4 N5\tno\t9\tsquare\t\t1996x101\t\t\t\tf\n",
+        "pass\tcursor colours\town-colours\tcursor colours\tyes\t\t\t\t\t2\t1\t2\tN4 N5\tno\t9\tsquare\t\t1996x101\t\t\t\tf\n",
     ),
     (
         ROWS,
         b"Hi\x1a",
         &[(105, b"\x06"), (96, b"\0"), (42, b"me"), (62, b"us")],
-        "pass\tscreen cursor colours\tany\tscreen cursor colours\tyes\t\t\t\t\t80\t1\t2\tN1 N6\tno\t\t\t\t\
+        "pass\tscreen cursor colours\town-colours\tscreen cursor colours\tyes\t\t\t\t\t80\t1\t2\tN1 N6\tno\t\t\t\t\
         19960101\t\tme\tus\tf\n",
     ),
     (
         ROWS,
         b"\x1b[0m\x1b[2JA\x1a",
         &[(90, b"\x09")],
-        "pass\tnothing\tany\tcursor\tyes\t\t\t\t\t2\t1\t9\t\tno\t\t\t\t19960101\t\t\t\tf\n",
+        "pass\tnothing\town-colours\tcursor\tyes\t\t\t\t\t2\t1\t9\t\tno\t\t\t\t19960101\t\t\t\tf\n",
     ),
     (
         ROWS,
         b"A\x07\x1b[4m\x1a",
         &[(90, b"\x06")],
-        "pass\tscreen cursor colours\tdos-colours page-controls\t\tyes\t\t\t\t\t2\t1\t6\t\tno\t\t\t\t\
+        "pass\tscreen cursor colours\tdos-colours page-controls own-colours\t\tyes\t\t\t\t\t2\t1\t6\t\tno\t\t\t\t\
         19960101\t\t\t\tf\n",
     ),
     (
@@ -269,7 +269,7 @@ static RECORDS: [Shown; 13] = [
         "{\"aspect\":\"stretch\",\"author\":\"\",\"comments\":[],\"content\":2,\
         \"date\":\"19960101\",\"file\":\"f\",\"font\":\"IBM VGA\",\"group\":\"\",\
         \"ice\":true,\"lines\":1,\"needs\":[\"cursor\",\"colours\"],\"notes\":[],\
-        \"on_every_player\":[\"cursor\",\"colours\"],\"players\":[],\
+        \"on_every_player\":[\"cursor\",\"colours\"],\"players\":[\"own-colours\"],\
         \"spacing\":8,\"taller\":true,\"title\":\"a\\\\b \u{263a}\",\
         \"verdict\":\"pass\",\"width\":2}\n",
     ),
@@ -280,7 +280,7 @@ static RECORDS: [Shown; 13] = [
         "{\"aspect\":\"square\",\"author\":\"\",\"comments\":[\"one \\\"\\\\\u{263b}\\\"\"],\
         \"content\":2,\"date\":\"1996x101\",\"file\":\"f\",\"font\":\"\",\"group\":\"\",\
         \"ice\":false,\"lines\":1,\"needs\":[\"cursor\",\"colours\"],\"notes\":[\"N4\",\"N5\"],\
-        \"on_every_player\":[\"cursor\",\"colours\"],\"players\":[],\
+        \"on_every_player\":[\"cursor\",\"colours\"],\"players\":[\"own-colours\"],\
         \"spacing\":9,\"taller\":true,\"title\":\"\",\"verdict\":\"pass\",\"width\":2}\n",
     ),
     (
@@ -289,7 +289,7 @@ static RECORDS: [Shown; 13] = [
         &[(90, b"\x0d")],
         "{\"author\":\"\",\"comments\":[],\"content\":13,\"date\":\"19960101\",\"file\":\"f\",\
         \"font\":\"\",\"group\":\"\",\"ice\":false,\"lines\":1,\"needs\":[],\"notes\":[],\
-        \"on_every_player\":[],\"players\":[],\
+        \"on_every_player\":[],\"players\":[\"own-colours\"],\
         \"taller\":true,\"title\":\"\",\"verdict\":\"pass\",\"width\":2}\n",
     ),
     (
@@ -298,7 +298,7 @@ static RECORDS: [Shown; 13] = [
         &[(90, b"\x09")],
         "{\"author\":\"\",\"comments\":[],\"content\":9,\"date\":\"19960101\",\"file\":\"f\",\
         \"font\":\"\",\"group\":\"\",\"ice\":false,\"lines\":1,\"needs\":[],\"notes\":[],\
-        \"on_every_player\":[\"cursor\"],\"players\":[],\
+        \"on_every_player\":[\"cursor\"],\"players\":[\"own-colours\"],\
         \"taller\":true,\"title\":\"\",\"verdict\":\"pass\",\"width\":2}\n",
     ),
     (
@@ -308,7 +308,7 @@ static RECORDS: [Shown; 13] = [
         "{\"author\":\"\",\"comments\":[],\"content\":6,\"date\":\"19960101\",\"file\":\"f\",\
         \"font\":\"\",\"group\":\"\",\"ice\":false,\"lines\":1,\
         \"needs\":[\"screen\",\"cursor\",\"colours\"],\"notes\":[],\
-        \"players\":[\"dos-colours\",\"page-controls\"],\
+        \"players\":[\"dos-colours\",\"page-controls\",\"own-colours\"],\
         \"taller\":true,\"title\":\"\",\"verdict\":\"pass\",\"width\":2}\n",
     ),
     (

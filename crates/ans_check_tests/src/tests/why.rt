@@ -99,106 +99,134 @@ static REFUSED: [Row; 23] = files! {
 };
 
 /// What passes from the cleared start.
-static PASSED: [Row; 13] = files! {
+static PASSED: [Row; 16] = files! {
     file(2 x 1, b"Hi")
         => "needs: cursor colours\n\
-        players: any\n\
+        players: own-colours\n\
+        at 0: own-colours, 2 times\n\
         taller: yes\n\
         at 0: F22 print at an unknown place\n\
         bytes: H\n\
         low start: row 1, column 1\n\
         high start: row 2, column 2\n\
-        mend: begin with ESC[?7h ESC[0m ESC[2J ESC[H ESC[s\n";
+        mend: begin with ESC[?7h ESC[0;37;40m ESC[2J ESC[H ESC[s\n";
     file(4 x 3, b"\x1b[0m\x1b[2J\t")
         => "needs: wrap\n\
-        players: tab-prints\n\
+        players: tab-prints own-colours\n\
         at 8: tab-prints\n\
+        at 4: own-colours, 2 times\n\
         taller: yes\n\
         at 8: F22 print at an unknown place\n\
         bytes: <TAB>\n\
         low start: row 1, column 4\n\
         high start: row 2, column 1\n\
-        mend: begin with ESC[?7h ESC[0m ESC[2J ESC[H ESC[s\n\
+        mend: begin with ESC[?7h ESC[0;37;40m ESC[2J ESC[H ESC[s\n\
         hint: nothing is printed in the last line\n";
     file(2 x 1, b"\x1b[K")
         => "needs: cursor colours\n\
-        players: line-erased\n\
+        players: line-erased own-colours\n\
         at 0: line-erased\n\
+        at 0: own-colours\n\
         taller: yes\n\
         at 0: F23 erase at an unknown place\n\
         bytes: <ESC>[K\n\
         low start: row 1, column 1\n\
         high start: row 2, column 2\n\
-        mend: begin with ESC[?7h ESC[0m ESC[2J ESC[H ESC[s\n\
+        mend: begin with ESC[?7h ESC[0;37;40m ESC[2J ESC[H ESC[s\n\
         hint: nothing is printed in the last line\n";
     file(1 x 2, b"\n\x1b[0m\x1b[2J")
         => "needs: cursor\n\
-        players: any\n\
+        players: own-colours\n\
+        at 5: own-colours\n\
         taller: yes\n\
         at 0: F24 may scroll\n\
         bytes: <LF>\n\
         low start: row 1, column 1\n\
         high start: row 3, column 1\n\
-        mend: begin with ESC[?7h ESC[0m ESC[2J ESC[H ESC[s\n\
+        mend: begin with ESC[?7h ESC[0;37;40m ESC[2J ESC[H ESC[s\n\
         hint: nothing is printed in the last 2 lines\n";
     file(2 x 1, b"\x1b[2JHi")
         => "needs: colours\n\
-        players: any\n\
+        players: own-colours\n\
+        at 0: own-colours, 3 times\n\
         on every player: cursor colours\n\
         taller: yes\n\
         at 6: F25 cell stays unknown (row 1, column 1)\n\
         low start: byte 48, attribute 00\n\
         high start: byte 48, attribute ff\n\
-        mend: begin with ESC[?7h ESC[0m ESC[2J ESC[H ESC[s\n";
+        mend: begin with ESC[?7h ESC[0;37;40m ESC[2J ESC[H ESC[s\n";
     file(2 x 1, b"\x1b[0m\x1b[1;1HH")
         => "needs: screen\n\
-        players: any\n\
+        players: own-colours\n\
+        at 10: own-colours\n\
         taller: yes\n\
         at 11: F25 cell stays unknown (row 1, column 2)\n\
         low start: byte 00, attribute 00\n\
         high start: byte ff, attribute ff\n\
-        mend: begin with ESC[?7h ESC[0m ESC[2J ESC[H ESC[s\n";
+        mend: begin with ESC[?7h ESC[0;37;40m ESC[2J ESC[H ESC[s\n";
     file(2 x 1, b"\x1b[?7h\x1b[0m\x1b[2JHi")
         => "needs: nothing\n\
-        players: any\n\
+        players: own-colours\n\
+        at 9: own-colours, 3 times\n\
         on every player: cursor\n\
         taller: yes\n";
     file(2 x 1, b"\x1b[?7h\x1b[0m\x1b[255A\x1b[255DHi")
         => "needs: nothing\n\
-        players: any\n\
+        players: own-colours\n\
+        at 21: own-colours, 2 times\n\
         taller: no\n";
     file(2 x 1, b"\x1b[?7h\x1b[0m\x1b[2J\x1b[255B\x1b[1;1HHi")
         => "needs: nothing\n\
-        players: stops-at-edge\n\
+        players: stops-at-edge own-colours\n\
         at 13: stops-at-edge\n\
+        at 9: own-colours, 3 times\n\
         taller: no\n";
     file(2 x 1, b"\x1b[?7h\x1b[0m\x1b[2J\x1b[1B\x1b[1AHi")
         => "needs: nothing\n\
-        players: any\n\
+        players: own-colours\n\
+        at 9: own-colours, 3 times\n\
         on every player: cursor\n\
         taller: yes\n";
     file(2 x 3, b"\x1b[?7h\x1b[0m\x1b[2J\x1b[5mHi")
         => "needs: nothing\n\
-        players: any\n\
+        players: own-colours\n\
+        at 9: own-colours, 3 times\n\
         on every player: cursor\n\
         taller: yes\n\
         hint: a character blinks, 2 times, first at 17: for bright backgrounds set the non-blink flag\n\
         hint: nothing is printed in the last 2 lines\n";
     file(9 x 1, b"\x1b[?7h\x1b[0m\x1b[2J\x1b[?7l\x1b[9CH!Caf\xc3\xa9")
         => "needs: nothing\n\
-        players: wrap-off stops-at-edge\n\
+        players: wrap-off stops-at-edge own-colours\n\
         at 13: wrap-off\n\
         at 18: stops-at-edge\n\
+        at 9: own-colours, 8 times\n\
         taller: yes\n\
         hint: with wrap off a character is printed over another in the last column, 6 times, first at 23\n\
         hint: a letter is in UTF-8, once, at 27: convert the text to code page 437\n";
     file(12 x 1, b"\x1b[?7h\x1b[0m\x1b[2Jd\xe9j@X1F|07H")
         => "needs: nothing\n\
-        players: any\n\
+        players: own-colours\n\
+        at 9: own-colours, 12 times\n\
         on every player: cursor\n\
         taller: yes\n\
         hint: a letter is in Latin-1, once, at 14: convert the text to code page 437\n\
         hint: a colour code of a bulletin board (|07, @X1F) is printed as text, 2 times, first at 16\n";
+    file(2 x 1, b"\x1b[?7h\x1b[0;37;40m\x1b[2JHi")
+        => "needs: nothing\n\
+        players: any\n\
+        on every player: cursor\n\
+        taller: yes\n";
+    file(2 x 1, b"\x1b[?7h\x1b[0;37;40m\x1b[2J\x1b[HH\x1b[0;1;31mi\x1b[0m")
+        => "needs: nothing\n\
+        players: own-colours\n\
+        at 32: own-colours\n\
+        taller: yes\n";
+    file(2 x 1, b"\x1b[?7h\x1b[0;37;40m\x1b[2J\x1b[H\x1b[1;30mHi")
+        => "needs: nothing\n\
+        players: any\n\
+        taller: yes\n\
+        hint: a character is dark grey on black, 2 times, first at 29: some terminals show it as black\n";
 };
 
 /// Asserts the whole text of each row: the size, the verdict, and what is said.
@@ -391,7 +419,8 @@ static FONTS: [(&[u8], u8, &[u8], &[u8]); 2] = [
         b"size: 1 x 1\n\
         verdict: pass\n\
         needs: nothing\n\
-        players: any\n\
+        players: own-colours\n\
+        at 9: own-colours, 2 times\n\
         on every player: cursor\n\
         taller: yes\n\
         hint: the font IBM VGA 866 is not one of code page 437, so other characters may show\n",
@@ -403,13 +432,14 @@ static FONTS: [(&[u8], u8, &[u8], &[u8]); 2] = [
         b"size: 1 x 1\n\
         verdict: pass\n\
         needs: colours\n\
-        players: clear-in-colour\n\
+        players: clear-in-colour own-colours\n\
         at 9: clear-in-colour\n\
+        at 9: own-colours, 2 times\n\
         taller: yes\n\
         at 14: F25 cell stays unknown (row 1, column 1)\n\
         low start: byte 48, attribute 80\n\
         high start: byte 48, attribute ff\n\
-        mend: begin with ESC[?7h ESC[0m ESC[2J ESC[H ESC[s\n",
+        mend: begin with ESC[?7h ESC[0;37;40m ESC[2J ESC[H ESC[s\n",
     ),
 ];
 

@@ -20,7 +20,7 @@ wants_mending-requires-clause-length g c =
 
 pub returns-clause-passes : goal.returns-clause-passes
 returns-clause-passes g c =
-    judged c.args.file.now c.in-Ok.parts
+    judged c.args.mends.now c.args.file.now c.in-Ok.parts
     _
     c.in-Ok.ensures.ok
     (rw c.in_default.is at c.in_ok-cleared.ensures.fault) c.wants_mending.ensures.every c.wants_mending.ensures.wants

@@ -35,7 +35,7 @@ pub returns-clause-mended : goal.returns-clause-mended
 returns-clause-mended g c =
     let prep : IsPrepared c.args.mends.now c.args.draft.now.file c.in-Ok-Ok.prepared c.prepare.new.draft.file =
     rw c.in-Ok-Ok.field-0-is at c.in-Ok-Ok.ensures.prepared in
-    let judged : IsJudgement c.prepare.new.draft.file c.in-Ok.judgement =
+    let judged : IsJudgement c.args.mends.now c.prepare.new.draft.file c.in-Ok.judgement =
     rw c.file.ensures at (rw c.in-Ok.is at c.in_ok-judgement.ensures.passes) in
     finished c.args.mends.now c.args.draft.now.file c.in-Ok-Ok.prepared c.prepare.new.draft.file c.in-Ok.judgement
     prep judged c.finish.new.draft.file c.finish.result c.finish.ensures.mended
@@ -44,7 +44,7 @@ pub returns-clause-reason : goal.returns-clause-reason
 returns-clause-reason g c =
     let prep : IsPrepared c.args.mends.now c.args.draft.now.file c.in-Ok-Ok.prepared c.prepare.new.draft.file =
     rw c.in-Ok-Ok.field-0-is at c.in-Ok-Ok.ensures.prepared in
-    let judged : IsJudgement c.prepare.new.draft.file c.in-Ok.judgement =
+    let judged : IsJudgement c.args.mends.now c.prepare.new.draft.file c.in-Ok.judgement =
     rw c.file.ensures at (rw c.in-Ok.is at c.in_ok-judgement.ensures.passes) in
     unfinished c.args.mends.now c.args.draft.now.file c.in-Ok-Ok.prepared c.prepare.new.draft.file c.in-Ok.judgement
     prep judged c.finish.new.draft.file c.finish.result c.finish.ensures.long

@@ -5,9 +5,9 @@ use Rattle.ans_sauce.specs.Judged.{IsRecordFault}
 use Rattle.ans_mend.specs.EndMark.{with_end_mark}
 use Rattle.ans_check.specs.Mending.{AreLinesFor, IsEdited, IsEditedAsStated, IsReasonOfEdited, IsSettled, lacks_lines}
 use Rattle.ans_check.specs.Mending.{lined, opened}
-use Rattle.ans_check.specs.MendingSteps.{IsSurvey}
+use Rattle.ans_check.specs.MendingSteps.{IsEditedTooLong, IsSurvey}
 use Rattle.ans_check.proofs.DraftRoomLemmas.{lacks_mark, lacks_returns, not_longer, of_error}
-use Rattle.ans_check.proofs.MendedLemmas.{lacking_asks, opened_length, opened_stated}
+use Rattle.ans_check.proofs.MendedLemmas.{lacking_asks, opened_length, opened_stated, too_long_edited}
 use Rattle.ans_check.proofs.mend_steps.settle.Goals as goal
 
 pub survey_of-requires : goal.survey_of-requires
@@ -41,6 +41,17 @@ returns-in-Err-lines_for-clause-reason c =
     let reason : IsReasonOfEdited mends (lacks_lines mends cut) c.edit.new.draft.file c.in-Err-lines_for.reason =
     rw (c.open_lines-lacks.ensures.lacks, c.file-2.ensures) at c.in-Err-lines_for.ensures.reason in
     inr (inr (inl (c.edit.new.draft.file, c.in-Ok-2.edits, is_edited, reason)))
+
+-- the file is too long with its returns, or with its content changed
+pub returns-in-Err-2-clause-reason : goal.returns-in-Err-2-clause-reason
+returns-in-Err-2-clause-reason c =
+    let mends = c.args.asked.now in
+    let cut : List ℕ = c.args.draft.now.file in
+    let survey : IsSurvey (lacks_lines mends cut) (opened mends cut) c.in-Ok.survey =
+    rw (c.open_lines-lacks.ensures.lacks, c.file.ensures, c.open_lines-lacks.ensures.draft) at c.in-Ok.ensures.survey in
+    too_long_edited mends cut c.in-Err-2.reason
+    (subst (λ (z : Size). IsEditedTooLong mends z (opened mends cut) c.in-Err-2.reason) survey.screen
+    (rw c.open_lines-lacks.ensures.draft at (rw c.in-Err-2.is at c.in_ok-edits.ensures.reason)))
 
 pub take_lines-requires : goal.take_lines-requires
 take_lines-requires c = rw c.file-2.ensures at c.in-Ok-lines_for.ensures.record

@@ -1,0 +1,7 @@
+use Rattle.ans_check_laws.proofs.PlayersShown.{named_is_shown}
+use Rattle.ans_check_laws.proofs.player_laws.player_of_named_colours_shows_it.Goals as goal
+
+pub returns : goal.returns
+returns g c bytes class known times picture said own covers good =
+    named_is_shown g.P.Player.size bytes g.P.Player.agreed g.P.Player.behaviour g.P.Player.is_player own class known
+    picture said.0 covers good
