@@ -61,6 +61,7 @@ mends_of classes width lines = record {
   take_out = has_bit classes 1;
   full_rows = has_bit classes 4;
   least_lines = has_bit classes 8;
+  name_colours = has_bit classes 16;
   lines = number_or_none lines;
 }
 

@@ -10,7 +10,7 @@ use Rattle.ans_model.specs.Text.FaultText.{note_number}
 use Rattle.ans_model.specs.declared.note.Note.{Note}
 use Rattle.ans_players.specs.declared.kind.Kind.TheVariants.{WrapAtOnce, LineEnds, HomeOnClear, ClearInColour}
 use Rattle.ans_players.specs.declared.kind.Kind.TheVariants.{SavePlaceOnly, DosColours, TabPrints, LineErased, WrapOff}
-use Rattle.ans_players.specs.declared.kind.Kind.TheVariants.{StopsAtEdge, PageControls, TerminalControls}
+use Rattle.ans_players.specs.declared.kind.Kind.TheVariants.{StopsAtEdge, PageControls, TerminalControls, OwnColours}
 use Rattle.ans_sauce.specs.declared.judged.Judged.TheVariants.{NoContent, Refused, Passes}
 use Rattle.ans_sauce.specs.declared.parts.Parts.{Parts}
 use Rattle.ans_sauce.specs.Judged.{is_pass, parts_in}
@@ -18,7 +18,7 @@ use Rattle.ans_sauce.specs.Parts.{comments_of, content_of, notes_of}
 use Rattle.ans_walks.specs.KindsUsed.{is_used}
 use Rattle.ans_walks.specs.declared.kinds.KindsUsed.{KindsUsed}
 use Rattle.ans_walks.specs.declared.players.Players.{Players}
-use Rattle.ans_walks.specs.declared.players.Players.TheVariants.{Any, Agreeing}
+use Rattle.ans_walks.specs.declared.players.Players.TheVariants.{Any, InNamedColours, Agreeing}
 use Rattle.ans_why.specs.Explained.{IsTrueOf, Why}
 use Rattle.ans_why.specs.WhyText.{known_found}
 use Rattle.ans_why.specs.declared.known_bytes.Known.{Known}
@@ -50,6 +50,7 @@ kinds_sum used =
     + number_if (is_used used TabPrints) 64 + number_if (is_used used LineErased) 128
     + number_if (is_used used WrapOff) 256 + number_if (is_used used StopsAtEdge) 512
     + number_if (is_used used PageControls) 1024 + number_if (is_used used TerminalControls) 2048
+    + number_if (is_used used OwnColours) 4096
 
 -- the note Nn is one of these
 abbrev pub has_note : List Note → ℕ → Bool
@@ -75,10 +76,11 @@ known_number (Some known.UncountedComments) = 8
 known_number (Some known.OlderRecord) = 9
 known_number (Some known.Arrow) = 10
 
--- the kinds in which players part, and no parts of the start; or no kind, and the parts that have to be known for every
--- player to show the same
+-- the kinds in which players part, and no parts of the start; or none but own colours, and the parts that have to be
+-- known for every player to show the same
 abbrev pub TellsPlayers : Players → ℕ → ℕ → Type 0
 TellsPlayers (Any class) kinds parts = (kinds ≡ 0) × NamesClass class parts
+TellsPlayers (InNamedColours class times) kinds parts = (kinds ≡ 4096) × NamesClass class parts
 TellsPlayers (Agreeing used) kinds parts = (kinds ≡ kinds_sum used) × (parts ≡ 0)
 
 -- what is told of a content that passes

@@ -95,11 +95,13 @@ fn put_answer<W: Write>(out: &mut Outbox<'_, W>, asked: &Mends, answer: &Result<
 
 /// Mends a file as `anscheck mend` does, and hands over the text of what that says. `classes` names what
 /// may be changed besides what is mended by itself: 1 sequences taken out, 2 line ends, 4 full rows, 8 the
-/// least number of lines, added up. `width` is the columns of the record for a file that has none, at most
-/// 1024, and `lines` the number of lines where others are wanted, at most 8192; 0 asks for neither.
+/// least number of lines, 16 that colours are named, added up. `width` is the columns of the record for a
+/// file that has none, at most 1024, and `lines` the number of lines where others are wanted, at most 8192; 0
+/// asks for neither.
 ///
-/// `draft` and `mended` want as many bytes as the file has and 149 more, and with line ends one more for
-/// each line feed; `rows` and `bytes` as many as a check of the mended file wants.
+/// `draft` and `mended` want as many bytes as the file has and 155 more, with line ends one more for each
+/// line feed, and with named colours 16,777,216 in the place of the file's own; `rows` and `bytes` as many as
+/// a check of the mended file wants.
 ///
 /// `PASS`: the mended file stands at the front of `mended`, `size` is how many bytes it has, and the text
 /// says what was changed. It passes from every start. `REFUSED`: the file cannot be mended so, `size` is 0,

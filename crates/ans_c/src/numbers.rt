@@ -99,7 +99,8 @@ fn number_or_none(number: u16) -> Option<u16>
 }
 
 /// What these bits and numbers ask for of a file that is mended: 1 that sequences are taken out, 2 line ends,
-/// 4 full rows, 8 the least lines; the columns of a record, and a number of lines, where they are not 0.
+/// 4 full rows, 8 the least lines, 16 named colours; the columns of a record, and a number of lines, where they are not
+/// 0.
 /// Other bits count for nothing.
 pub(crate) fn mends_of(classes: u32, width: u32, lines: u32) -> Mends
     requires width { width ≤ most_columns }
@@ -112,6 +113,7 @@ pub(crate) fn mends_of(classes: u32, width: u32, lines: u32) -> Mends
         take_out: classes & 1 != 0,
         full_rows: classes & 4 != 0,
         least_lines: classes & 8 != 0,
+        name_colours: classes & 16 != 0,
         lines: number_or_none(lines as u16),
     }
 }

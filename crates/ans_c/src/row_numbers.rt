@@ -196,6 +196,7 @@ fn kinds_sum(used: &KindsUsed) -> u32
         + number_if(used.of(Kind::StopsAtEdge).is_some(), 512)
         + number_if(used.of(Kind::PageControls).is_some(), 1024)
         + number_if(used.of(Kind::TerminalControls).is_some(), 2048)
+        + number_if(used.of(Kind::OwnColours).is_some(), 4096)
 }
 
 /// The number of what bytes are known as; 0 for nothing.
@@ -217,12 +218,14 @@ fn known_number(known: Option<Known>) -> u32
     }
 }
 
-/// The kinds in which players part, and the parts of the start that have to be known where there is none.
+/// The kinds in which players part, and the parts of the start that have to be known if there is none but
+/// own colours.
 fn players_told(players: &Players) -> (u32, u32)
     ensures { TellsPlayers players.now result.0 result.1 }
 {
     match players {
         Players::Any(class) => (0, bits_of(*class)),
+        Players::InNamedColours(class, _) => (4096, bits_of(*class)),
         Players::Agreeing(used) => (kinds_sum(used), 0),
     }
 }

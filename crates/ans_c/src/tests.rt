@@ -128,7 +128,7 @@ fn rows_are_told(rt: HostRuntime) {
         passing.on_every_player,
         passing.taller,
     );
-    assert_eq!(rt; (answer, needs), (PASS, (2 + 8, 0, 2 + 8, 1)));
+    assert_eq!(rt; (answer, needs), (PASS, (2 + 8, 4096, 2 + 8, 1)));
     let blame = row.blame;
     let places = (
         blame.low.row,
@@ -281,7 +281,13 @@ fn texts_are_handed_over(rt: HostRuntime) -> Result<(), Fail> {
     let mut text = [0u8; 400];
     let mut short_text = [0u8; 9];
     let mut length = 0;
-    let why = b"size: 2 x 1\nverdict: pass\nneeds: cursor colours\nplayers: any\ntaller: yes\n";
+    let why = b"\
+        size: 2 x 1\n\
+        verdict: pass\n\
+        needs: cursor colours\n\
+        players: own-colours\n\
+        at 0: own-colours, 2 times\n\
+        taller: yes\n";
     let passed = ans_why_on(&file, &mut rows, &mut bytes, &mut text, &mut length);
     let told = text.get(..length).ok_or("why")?;
     assert!(rt; passed == PASS && told.starts_with(why));
@@ -317,11 +323,21 @@ fn names_are_handed_over(rt: HostRuntime) {
 }
 
 /// The drawing with the safe beginning in front, which its file size counts.
-fn mended_drawing() -> [u8; 150] {
-    let mut file = [0u8; 150];
-    file[..19].copy_from_slice(b"\x1b[?7h\x1b[0m\x1b[2J\x1b[H\x1b[s");
-    file[19..].copy_from_slice(&drawing());
-    file[112] = 21;
+fn mended_drawing() -> [u8; 156] {
+    let mut file = [0u8; 156];
+    file[..25].copy_from_slice(b"\x1b[?7h\x1b[0;37;40m\x1b[2J\x1b[H\x1b[s");
+    file[25..].copy_from_slice(&drawing());
+    file[118] = 27;
+    file
+}
+
+/// The same with `ESC[0m` at the end of the content.
+fn redrawn_drawing() -> [u8; 160] {
+    let drawing = drawing();
+    let mut file = [0u8; 160];
+    file[..31].copy_from_slice(b"\x1b[?7h\x1b[0;37;40m\x1b[2J\x1b[H\x1b[sHi\x1b[0m");
+    file[31..].copy_from_slice(&drawing[2..]);
+    file[122] = 31;
     file
 }
 
@@ -331,7 +347,7 @@ struct LentForMending {
     rows: [LentRow; 2],
     bytes: [u8; 16],
     draft: [u8; 131],
-    mended: [u8; 150],
+    mended: [u8; 156],
     size: usize,
     text: [u8; 128],
     told: usize,
@@ -343,7 +359,7 @@ impl LentForMending {
             rows: [LentRow::new(); 2],
             bytes: [0x55; 16],
             draft: [0x55; 131],
-            mended: [0x55; 150],
+            mended: [0x55; 156],
             size: 7,
             text: [0x55; 128],
             told: 7,
@@ -374,11 +390,11 @@ fn files_are_mended(rt: HostRuntime) {
     let answer = lent.mend(&drawing(), 0, 0, 0);
     let mended = lent.mended.get(..lent.size);
     expect(&rt, answer, mended, (PASS, &mended_drawing()));
-    let told = b"put 19 bytes in front\nfile size 21, was 2\n";
+    let told = b"put 25 bytes in front\nfile size 27, was 2\n";
     expect(&rt, answer, lent.text.get(..lent.told), (PASS, told));
     let answer = lent.mend(b"Hi", 0, 2, 1);
     let told =
-        b"put an end mark and a record of 2 columns at 2\nlines 1, was 0\nput 19 bytes in front\nfile size 21, was 0\n";
+        b"put an end mark and a record of 2 columns at 2\nlines 1, was 0\nput 25 bytes in front\nfile size 27, was 0\n";
     expect(&rt, answer, lent.text.get(..lent.told), (PASS, told));
     let answer = lent.mend(b"Hi", 15, 0, 0);
     let told = b"at 2: F1 no SAUCE record\n\
@@ -405,7 +421,7 @@ fn mended_within(room: Room) -> (u32, usize, usize) {
         &mut lent.rows[..rows.min(2)],
         &mut lent.bytes[..bytes.min(16)],
         &mut lent.draft[..draft.min(131)],
-        &mut lent.mended[..mended.min(150)],
+        &mut lent.mended[..mended.min(156)],
         &mut lent.size,
         &mut lent.text[..text.min(96)],
         &mut lent.told,
@@ -415,13 +431,13 @@ fn mended_within(room: Room) -> (u32, usize, usize) {
 
 #[test]
 fn mending_wants_room(rt: HostRuntime) {
-    assert_eq!(rt; mended_within((2, 16, 131, 150, 42)), (PASS, 150, 42));
-    assert_eq!(rt; mended_within((2, 16, 131, 150, 41)), (NO_ROOM, 150, 42));
+    assert_eq!(rt; mended_within((2, 16, 131, 156, 42)), (PASS, 156, 42));
+    assert_eq!(rt; mended_within((2, 16, 131, 156, 41)), (NO_ROOM, 156, 42));
     let few = [
-        (1, 16, 131, 150, 42),
-        (2, 15, 131, 150, 42),
-        (2, 16, 130, 150, 42),
-        (2, 16, 131, 149, 42),
+        (1, 16, 131, 156, 42),
+        (2, 15, 131, 156, 42),
+        (2, 16, 130, 156, 42),
+        (2, 16, 131, 155, 42),
     ];
     for room in few {
         assert_eq!(rt; mended_within(room), (NO_ROOM, 0, 0));
@@ -433,7 +449,7 @@ fn mending_wants_room(rt: HostRuntime) {
 struct LentForRedrawing {
     rows: [LentRow; 2],
     bytes: [u8; 16],
-    redrawn: [u8; 150],
+    redrawn: [u8; 160],
     size: usize,
     text: [u8; 128],
     told: usize,
@@ -444,7 +460,7 @@ impl LentForRedrawing {
         LentForRedrawing {
             rows: [LentRow::new(); 2],
             bytes: [0x55; 16],
-            redrawn: [0x55; 150],
+            redrawn: [0x55; 160],
             size: 7,
             text: [0x55; 128],
             told: 7,
@@ -470,8 +486,8 @@ fn files_are_redrawn(rt: HostRuntime) {
     let mut lent = LentForRedrawing::new();
     let answer = lent.redraw(&drawing());
     let redrawn = lent.redrawn.get(..lent.size);
-    expect(&rt, answer, redrawn, (PASS, &mended_drawing()));
-    let told = b"content length 21, was 2\nfile size 21, was 2\n";
+    expect(&rt, answer, redrawn, (PASS, &redrawn_drawing()));
+    let told = b"content length 31, was 2\nfile size 31, was 2\n";
     expect(&rt, answer, lent.text.get(..lent.told), (PASS, told));
     let answer = lent.redraw(b"Hi");
     let told = b"at 2: F1 no SAUCE record\n\
@@ -491,7 +507,7 @@ fn redrawn_within(room: RedrawingRoom) -> (u32, usize, usize) {
         &drawing(),
         &mut lent.rows[..rows.min(2)],
         &mut lent.bytes[..bytes.min(16)],
-        &mut lent.redrawn[..redrawn.min(150)],
+        &mut lent.redrawn[..redrawn.min(160)],
         &mut lent.size,
         &mut lent.text[..text.min(128)],
         &mut lent.told,
@@ -501,10 +517,10 @@ fn redrawn_within(room: RedrawingRoom) -> (u32, usize, usize) {
 
 #[test]
 fn redrawing_wants_room(rt: HostRuntime) {
-    assert_eq!(rt; redrawn_within((2, 16, 150, 45)), (PASS, 150, 45));
-    assert_eq!(rt; redrawn_within((2, 16, 150, 44)), (NO_ROOM, 150, 45));
-    assert_eq!(rt; redrawn_within((2, 16, 149, 45)), (NO_ROOM, 150, 0));
-    assert_eq!(rt; redrawn_within((2, 16, 0, 0)), (NO_ROOM, 150, 0));
-    assert_eq!(rt; redrawn_within((1, 16, 150, 45)), (NO_ROOM, 0, 0));
-    assert_eq!(rt; redrawn_within((2, 15, 150, 45)), (NO_ROOM, 0, 0));
+    assert_eq!(rt; redrawn_within((2, 16, 160, 45)), (PASS, 160, 45));
+    assert_eq!(rt; redrawn_within((2, 16, 160, 44)), (NO_ROOM, 160, 45));
+    assert_eq!(rt; redrawn_within((2, 16, 159, 45)), (NO_ROOM, 160, 0));
+    assert_eq!(rt; redrawn_within((2, 16, 0, 0)), (NO_ROOM, 160, 0));
+    assert_eq!(rt; redrawn_within((1, 16, 160, 45)), (NO_ROOM, 0, 0));
+    assert_eq!(rt; redrawn_within((2, 15, 160, 45)), (NO_ROOM, 0, 0));
 }
