@@ -44,8 +44,8 @@ extern "C" {
 /* Scratch for any call and any file: for 8192 lines of 1024 columns. */
 #define ANS_MOST_SCRATCH 33755160
 
-/* How many bytes more than the file has ans_mend may want, but for the returns of ANS_LINE_ENDS. */
-#define ANS_MENDING_ROOM 149
+/* How many bytes more than the file has ans_mend may want, besides what ANS_LINE_ENDS and ANS_NAME_COLOURS add. */
+#define ANS_MENDING_ROOM 155
 
 /* What a call answers. */
 enum ans_answer {
@@ -77,7 +77,8 @@ enum {
     ANS_TAKE_OUT = 1,   /* sequences that are refused are taken out, and as few line ends at the very end as must go */
     ANS_LINE_ENDS = 2,  /* a return is put before each line feed, where there is no return */
     ANS_FULL_ROWS = 4,  /* the line ends behind full rows are taken out, where each full row has one */
-    ANS_LEAST_LINES = 8 /* the least number of lines is stated, where those that are stated are too few, or none are */
+    ANS_LEAST_LINES = 8, /* the least number of lines is stated, where those that are stated are too few, or none are */
+    ANS_NAME_COLOURS = 16 /* after each 0 of a sequence of colours the colours are named in which something is printed */
 };
 
 /* Why a file is refused: n for the fault Fn, and its offset. For F25 the row and the column of the cell, counted
@@ -107,7 +108,8 @@ struct ans_place {
 struct ans_passing {
     uint32_t needs;           /* the parts of the start that it relies on, as ans_needs tells them */
     uint32_t players;         /* the kinds in which players part that it makes use of, ANS_PLAYERS_.., added up */
-    uint32_t on_every_player; /* where players is 0, the parts that it relies on for every player to show the same */
+    uint32_t on_every_player; /* if players is 0, or ANS_PLAYERS_OWN_COLOURS alone, the parts that it relies on for
+                               * every player to show the same; with own colours, every one of named colours */
     uint32_t taller;          /* 1: it shows its picture on every taller screen too; 0 does not say that it differs */
 };
 
@@ -287,7 +289,8 @@ static inline enum ans_answer ans_why(const uint8_t *file, size_t file_len, void
  * `classes` is a sum of ANS_TAKE_OUT and those below it; other bits count for nothing. `width` is the columns of the
  * record that a file without one is given, 1 to 1024, or 0 for no record; `lines` the number of lines that is stated
  * where others are wanted, 1 to 8192, or 0 for none. `draft` and `mended` want file_len + ANS_MENDING_ROOM bytes,
- * and with ANS_LINE_ENDS one more for each line feed of the file.
+ * with ANS_LINE_ENDS one more for each line feed of the file; and with ANS_NAME_COLOURS ANS_LONGEST_FILE in the place
+ * of file_len.
  * `scratch` is for the screen of the mended file, which may have other lines. ANS_MOST_SCRATCH is always enough.
  * Where ans_size answers ANS_PASS for the file, 8193 * (24 + 4 * columns) is enough; and without `lines` and
  * ANS_LEAST_LINES what it tells. For any other file 4120 bytes for each line of the mended one, and for one line
@@ -345,7 +348,8 @@ enum {
     ANS_PLAYERS_WRAP_OFF = 256,
     ANS_PLAYERS_STOPS_AT_EDGE = 512,
     ANS_PLAYERS_PAGE_CONTROLS = 1024,
-    ANS_PLAYERS_TERMINAL_CONTROLS = 2048
+    ANS_PLAYERS_TERMINAL_CONTROLS = 2048,
+    ANS_PLAYERS_OWN_COLOURS = 4096
 };
 
 /* What blamed bytes are known as; 0 is nothing. */
@@ -456,7 +460,8 @@ static inline const char *ans_player_word(uint32_t bit) {
         "wrap-off",
         "stops-at-edge",
         "page-controls",
-        "terminal-controls"
+        "terminal-controls",
+        "own-colours"
     };
     for (uint32_t i = 0; i < sizeof texts / sizeof *texts; i++)
         if (bit == (uint32_t)1 << i)

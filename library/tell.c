@@ -143,7 +143,7 @@ int main(int argc, char **argv) {
     tell_row(file_len);
     tell_texts(file_len);
     tell_mend(file_len, 0, 0);
-    tell_mend(file_len, ANS_TAKE_OUT | ANS_LINE_ENDS | ANS_FULL_ROWS | ANS_LEAST_LINES, 80);
+    tell_mend(file_len, ANS_TAKE_OUT | ANS_LINE_ENDS | ANS_FULL_ROWS | ANS_LEAST_LINES | ANS_NAME_COLOURS, 80);
     tell_redraw(file_len);
     return 0;
 }

@@ -9,7 +9,8 @@ from ctypes import POINTER, byref, c_size_t, c_uint8, c_uint32, c_uint64
 
 PASS, REFUSED, NO_ROOM = 0, 1, 4
 LONGEST_TEXT = 65536
-MENDING_ROOM, MOST_ROWS, MOST_BYTES = 149, 8193, 33558528
+LONGEST_FILE = 16777216
+MENDING_ROOM, MOST_ROWS, MOST_BYTES = 155, 8193, 33558528
 
 
 class Fault(ctypes.Structure):
@@ -124,7 +125,7 @@ class Checker:
         return self.library.ans_row_on(*self.file, *self.screen, byref(row)), row
 
     def mend(self, classes, width):
-        count = self.file[1] + self.file[0].count(b"\n") + MENDING_ROOM
+        count = (LONGEST_FILE if classes & 16 else self.file[1]) + self.file[0].count(b"\n") + MENDING_ROOM
         screen = ((ScreenRow * MOST_ROWS)(), MOST_ROWS, *room(MOST_BYTES))
         mended, size = room(count), c_size_t()
         answer, text, length = text_of(
@@ -205,7 +206,7 @@ def tell(checker):
     yield from row_lines(checker.file[0], *checker.row())
     yield from text_lines("why", *text_of(checker.library.ans_why_on, *checker.file, *checker.screen))
     yield from text_lines("record", *text_of(checker.library.ans_record, *checker.file))
-    for classes, width in ((0, 0), (15, 80)):
+    for classes, width in ((0, 0), (31, 80)):
         yield from file_lines(f"mend {classes} {width}", "mended", *checker.mend(classes, width))
     yield from file_lines("redraw", "redrawn", *checker.redraw())
 

@@ -6,7 +6,8 @@ const PASS: u32 = 0;
 const REFUSED: u32 = 1;
 const NO_ROOM: u32 = 4;
 const LONGEST_TEXT: usize = 65_536;
-const MENDING_ROOM: usize = 149;
+const MENDING_ROOM: usize = 155;
+const LONGEST_FILE: usize = 16_777_216;
 const MOST_ROWS: usize = 8193;
 const MOST_BYTES: usize = 33_558_528;
 
@@ -202,7 +203,9 @@ impl Checker {
 
     /// What `ans_mend_on` answers, and the mended file.
     fn mend(&self, classes: u32, width: u32, text: &mut [u8], length: &mut usize) -> (u32, Vec<u8>) {
-        let room = self.file.len() + self.file.iter().filter(|&&byte| byte == b'\n').count() + MENDING_ROOM;
+        let line_feeds = self.file.iter().filter(|&&byte| byte == b'\n').count();
+        let most = if classes & 16 == 0 { self.file.len() } else { LONGEST_FILE };
+        let room = most + line_feeds + MENDING_ROOM;
         let (mut rows, mut bytes) = (vec![ScreenRow::default(); MOST_ROWS], vec![0u8; MOST_BYTES]);
         let (mut draft, mut mended, mut size) = (vec![0u8; room], vec![0u8; room], 0);
         let answer = unsafe {
@@ -344,6 +347,6 @@ fn main() -> io::Result<()> {
         ans_record(file.as_ptr(), file.len(), text.as_mut_ptr(), text.len(), length)
     })?;
     checker.put_mend(out, 0, 0)?;
-    checker.put_mend(out, 15, 80)?;
+    checker.put_mend(out, 31, 80)?;
     checker.put_redraw(out)
 }

@@ -25,7 +25,7 @@ const CLASSES = [[0, []], [3, ["--known-screen", "--known-cursor"]], [31, ["--cl
 /** What may be changed to mend, by the sums and numbers of the module and by the flags of the program. */
 const MENDS = [
   [[0, 0, 0], []],
-  [[15, 80, 0], ["--take-out", "--line-ends", "--full-rows", "--least-lines", "--width", "80"]],
+  [[31, 80, 0], ["--take-out", "--line-ends", "--full-rows", "--least-lines", "--name-colours", "--width", "80"]],
   [[3, 0, 30], ["--take-out", "--line-ends", "--lines", "30"]],
 ];
 

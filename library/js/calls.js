@@ -1,7 +1,7 @@
 // The checker's module, as ans.h describes its exports. They take and tell pointers and lengths of 64 bits, as BigInt,
 // whether the module's memory has 32-bit addresses or 64-bit ones. The browser page has this file too.
 
-import { CLASSES } from "./numbers.js";
+import { CLASSES, LONGEST_FILE } from "./numbers.js";
 import { ROW_BYTES, rowFrom } from "./row.js";
 
 const ANSWERS = { 0: "pass", 1: "refused", 3: "too long", 4: "no room", 5: "wrong number" };
@@ -14,7 +14,7 @@ const BYTES_OF_A_COLUMN = 4;
 const ALIGNMENT = 16;
 const MEMORY_PAGE = 65536;
 const FIRST_TEXT_ROOM = 65536;
-const MENDING_ROOM = 149;
+const MENDING_ROOM = 155;
 const MOST_ROWS = 8193;
 const MOST_BYTES = 33558528;
 const LINE_FEED = 0x0a;
@@ -112,11 +112,15 @@ class Checker {
     });
   }
 
-  /** How many bytes the mended file may have: with line ends one more for each line feed. */
+  /**
+   * How many bytes the draft wants: with line ends one more for each line feed; where colours are named the longest
+   * file has to have room.
+   */
   mendingRoom(classes) {
     const file = this.bytesOf(this.file);
+    const most = classes & CLASSES.nameColours ? LONGEST_FILE : file.length;
     const more = classes & CLASSES.lineEnds ? file.reduce((count, byte) => count + (byte === LINE_FEED), 0) : 0;
-    return file.length + MENDING_ROOM + more;
+    return most + MENDING_ROOM + more;
   }
 
   /** The file redrawn, and what was changed of it; or why it is not. First it is asked how many bytes it wants. */

@@ -56,7 +56,8 @@ export interface Needs {
 /** A kind in which players part. docs/PLAYERS.md explains each. */
 export type Kind =
   | "wrap-at-once" | "line-ends" | "home-on-clear" | "clear-in-colour" | "save-place-only" | "dos-colours"
-  | "tab-prints" | "line-erased" | "wrap-off" | "stops-at-edge" | "page-controls" | "terminal-controls";
+  | "tab-prints" | "line-erased" | "wrap-off" | "stops-at-edge" | "page-controls" | "terminal-controls"
+  | "own-colours";
 
 /** A place on the screen, counted from 1. */
 export interface Place {
@@ -98,9 +99,12 @@ export interface Row {
   verdict: "pass" | "refused";
   /** Of a pass the parts of the start that it relies on. */
   needs: Part[] | null;
-  /** Of a pass the kinds in which players part that it makes use of; none of them: `players: any`. */
+  /** Of a pass the kinds in which players part that it makes use of; none: `players: any`. */
   players: Kind[] | null;
-  /** Where there are none, the parts that have to be known for every player to show the same. */
+  /**
+   * If there are none but own colours, the parts that have to be known for every player to show the same; with own
+   * colours, for every one whose own white and black are those that 37 and 40 set.
+   */
   onEveryPlayer: Part[] | null;
   /** Of a pass whether it shows the same picture on every taller screen too. */
   taller: boolean | null;
@@ -162,6 +166,8 @@ export interface MendOptions {
   fullRows?: boolean;
   /** The least number of lines that is enough is stated, where those stated are too few or none are. */
   leastLines?: boolean;
+  /** After each 0 of a sequence of colours the colours are named in which something is printed. */
+  nameColours?: boolean;
   /** The columns of the record that a file without one is given, 1 to 1024. */
   width?: number;
   /** The number of lines that is stated where others are wanted, 1 to 8192. */

@@ -115,8 +115,8 @@ class Checker {
    * A file mended as `anscheck mend` does it, so that it passes from every start.
    *
    * @param {Uint8Array | ArrayBuffer} file
-   * @param {object} [options] what may be changed besides what is mended by itself: `takeOut`, `lineEnds`, `fullRows`
-   *   and `leastLines` are true or false; `width` is the columns of the record that a file without one is given, 1 to
+   * @param {object} [options] what may be changed besides what is mended by itself: `takeOut`, `lineEnds`, `fullRows`,
+   *   `leastLines` and `nameColours` are true or false; `width` is the columns of the record that a file without one is given, 1 to
    *   1024; `lines` the number of lines that is stated where others are wanted, 1 to 8192.
    * @returns {object} `{ verdict: "pass", file, text }`: the mended file as a `Uint8Array`, and what was changed, a
    *   line for each kind of change; it is empty where nothing was. Or `{ verdict: "refused", text }`: why the file is

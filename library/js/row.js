@@ -5,7 +5,7 @@ import { PARTS } from "./numbers.js";
 
 /** The kinds in which players part, in the order of their bits. */
 const KINDS = ["wrap-at-once", "line-ends", "home-on-clear", "clear-in-colour", "save-place-only", "dos-colours",
-  "tab-prints", "line-erased", "wrap-off", "stops-at-edge", "page-controls", "terminal-controls"];
+  "tab-prints", "line-erased", "wrap-off", "stops-at-edge", "page-controls", "terminal-controls", "own-colours"];
 
 /** What bytes are known as, by number. */
 const KNOWN = [null, "ANSI music", "a font selection", "a 24-bit colour", "the switch for bright backgrounds",
@@ -69,7 +69,8 @@ function passingIn(structure, isPass) {
   const onEveryPlayer = partsIn(structure.word());
   const taller = structure.word() === 1;
   if (!isPass) return { needs: null, players: null, onEveryPlayer: null, taller: null };
-  return { needs, players, onEveryPlayer: players.length === 0 ? onEveryPlayer : null, taller };
+  const isSaid = players.every((kind) => kind === "own-colours");
+  return { needs, players, onEveryPlayer: isSaid ? onEveryPlayer : null, taller };
 }
 
 function faultIn(structure, faultText) {

@@ -4,7 +4,7 @@ What is to be said of them comes from the program; ../try.py compares. Beside th
 tools/runs/made_drawings.py, with mistakes that artists make."""
 import struct
 
-CLEARED = b"\x1b[?7h\x1b[0m\x1b[2J\x1b[H\x1b[s"
+CLEARED = b"\x1b[?7h\x1b[0;37;40m\x1b[2J\x1b[H\x1b[s"
 END = b"\x1a"
 COMMENT = b"a comment, in 64 bytes".ljust(64)
 

@@ -84,7 +84,7 @@ static void compare(const char *what, const struct said *wanted, struct said *sa
 
 /* What ans_mend answers on so much scratch, and its file and its text in one. */
 static enum ans_answer mend_on(size_t scratch_len, uint32_t classes, uint8_t *mended, size_t *size) {
-    size_t room = 2 * file_len + ANS_MENDING_ROOM, length = 0;
+    size_t room = ANS_LONGEST_FILE + file_len + ANS_MENDING_ROOM, length = 0;
     uint8_t *scratch = (uint8_t *)malloc(scratch_len), *draft = (uint8_t *)malloc(room);
     if (!scratch || !draft)
         exit(2);
@@ -99,7 +99,7 @@ static enum ans_answer mend_on(size_t scratch_len, uint32_t classes, uint8_t *me
 }
 
 static void try_mending(const char *what, size_t scratch_len, uint32_t classes) {
-    size_t room = 2 * file_len + ANS_MENDING_ROOM + ANS_LONGEST_TEXT, size, most_size;
+    size_t room = ANS_LONGEST_FILE + file_len + ANS_MENDING_ROOM + ANS_LONGEST_TEXT, size, most_size;
     uint8_t *mended = (uint8_t *)malloc(room), *with_most = (uint8_t *)malloc(room);
     if (!mended || !with_most)
         exit(2);
@@ -141,10 +141,10 @@ static void try_file(void) {
     if (answer == ANS_PASS) {
         try_too_little(&size);
         try_mending("ans_mend wants more than ans_size tells", size.scratch,
-                    ANS_TAKE_OUT | ANS_LINE_ENDS | ANS_FULL_ROWS);
-        try_mending("ans_mend wants more than all lines", 8193 * (24 + 4 * (size_t)size.columns), 15);
+                    ANS_TAKE_OUT | ANS_LINE_ENDS | ANS_FULL_ROWS | ANS_NAME_COLOURS);
+        try_mending("ans_mend wants more than all lines", 8193 * (24 + 4 * (size_t)size.columns), 31);
     } else {
-        try_mending("a refused record, and ans_mend differs", ANS_MOST_SCRATCH, 15);
+        try_mending("a refused record, and ans_mend differs", ANS_MOST_SCRATCH, 31);
     }
     free(wanted);
 }

@@ -39,6 +39,7 @@ const PLAYERS = {
   "stops-at-edge": "that have more lines or go on past the right edge",
   "page-controls": "that draw or obey control bytes in another way",
   "terminal-controls": "that draw no control bytes as terminals do not",
+  "own-colours": "that have a white and a black of their own",
 };
 
 const FAILURES = {
@@ -64,10 +65,13 @@ function sentenceOf({ answer, row }) {
 /** What is to be said of players, for people who draw: nothing of a drawing that is refused. */
 function playersSentenceOf({ answer, row }) {
   if (answer !== "pass") return "";
+  const others = row.players.filter((kind) => kind !== "own-colours");
   const kinds = row.players.map((kind) => PLAYERS[kind]);
-  if (kinds.length > 0) return `It may look different in players ${kinds.join("; or in those ")}.`;
+  if (others.length > 0) return `It may look different in players ${kinds.join("; or in those ")}.`;
   const start = row.onEveryPlayer.length === 0 ? "from every start" : `if they find ${found(row.onEveryPlayer)}`;
-  return `Players that part only in the known ways all show it alike, ${start}.`;
+  if (kinds.length === 0) return `Players that part only in the known ways all show it alike, ${start}.`;
+  return `Players that part only in the known ways all show it alike in named colours, ${start}; `
+    + "a light theme shows its own black and white.";
 }
 
 const sizeOf = ({ width, lines }) => `${width} x ${lines}`;

@@ -4,7 +4,7 @@
 //
 // Node prints a line for each .ans file of FOLDER, in the order of their names: its digest, a blank and its name.
 
-const CHANGES = [{}, { takeOut: true, lineEnds: true, fullRows: true, leastLines: true, width: 80 }, { lines: 30 }];
+const CHANGES = [{}, { takeOut: true, lineEnds: true, fullRows: true, leastLines: true, nameColours: true, width: 80 }, { lines: 30 }];
 const STARTS = ["any", "cleared", ["screen", "cursor"]];
 
 /** All that a checker says of a file. */

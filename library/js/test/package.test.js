@@ -75,7 +75,8 @@ test("the row of each drawing agrees with the other answers", () => {
     if (row.needs?.length > 0) assert.deepEqual(row.fault, checker.check(file).fault, name);
     assert.equal(row.fault === null, row.needs?.length === 0, name);
     assert.equal(row.needs === null, verdict === "refused", name);
-    assert.equal(row.onEveryPlayer === null, row.players?.length !== 0, name);
+    const isSaid = row.players?.every((kind) => kind === "own-colours") ?? false;
+    assert.equal(row.onEveryPlayer !== null, isSaid, name);
     assert.equal(checker.record(file).verdict === "pass" && row.content === null, false, name);
   }
 });
@@ -108,7 +109,8 @@ test("answers are plain objects", () => {
   const text = "verdict: refused\nat 0: F1 no SAUCE record\n";
   assert.deepEqual(checker.record(new Uint8Array(0)), { verdict: "refused", text });
   assert.deepEqual(checker.row(hi), {
-    verdict: "pass", needs: ["cursor", "colours"], players: [], onEveryPlayer: ["cursor", "colours"], taller: true,
+    verdict: "pass", needs: ["cursor", "colours"], players: ["own-colours"], onEveryPlayer: ["cursor", "colours"],
+    taller: true,
     fault: { number: 22, offset: 0, row: null, column: null, text: "F22 print at an unknown place" },
     bytes: { start: 0, length: 1 }, low: { row: 1, column: 1 }, high: { row: 2, column: 2 },
     known: null, lines: null, mends: true, content: 2, comments: [], notes: [], record: checker.row(hi).record,
@@ -231,8 +233,8 @@ const PROGRAM = process.env.ANSCHECK;
 const without = { skip: PROGRAM ? false : "ANSCHECK names no program" };
 
 test("texts and files are the program's, to the byte", without, () => {
-  const mends = { takeOut: true, lineEnds: true, fullRows: true, leastLines: true, width: 80 };
-  const flags = ["--take-out", "--line-ends", "--full-rows", "--least-lines", "--width", "80"];
+  const mends = { takeOut: true, lineEnds: true, fullRows: true, leastLines: true, nameColours: true, width: 80 };
+  const flags = ["--take-out", "--line-ends", "--full-rows", "--least-lines", "--name-colours", "--width", "80"];
   const said = ({ verdict, text }) => [verdict === "pass" ? 0 : 1, text];
   const made = ({ verdict, text, file }) => [verdict === "pass" ? 0 : 1, text, Buffer.from(file ?? "").toString("hex")];
   for (const { name } of drawings()) {

@@ -25,7 +25,7 @@ function whyLines({ verdict, needs, taller, fault, low, high, known, lines, mend
     ...(needs ? [`needs: ${needs.join(" ") || "nothing"}`, `taller: ${taller ? "yes" : "no"}`] : []),
     ...(fault ? [`at ${fault.offset}: ${fault.text}${cell}`] : []), ...(known ? [`is: ${known}`] : []),
     ...(low ? places.map((start, at) => place(start, [low, high][at])) : []),
-    ...(mends ? ["mend: begin with ESC[?7h ESC[0m ESC[2J ESC[H ESC[s"] : []), ...(lines ? [`lines: ${lines}`] : []),
+    ...(mends ? ["mend: begin with ESC[?7h ESC[0;37;40m ESC[2J ESC[H ESC[s"] : []), ...(lines ? [`lines: ${lines}`] : []),
   ];
 }
 
