@@ -19,9 +19,10 @@ from second_why import (
 )
 
 TOP = os.path.join(os.path.dirname(os.path.abspath(__file__)), "..", "..")
-Asked = collections.namedtuple("Asked", "width line_ends take_out full_rows least_lines lines")
-SAFE = MENDING[:13]
-NONE_ASKED = Asked(None, False, False, False, False, None)
+Asked = collections.namedtuple("Asked", "width line_ends take_out full_rows least_lines lines name_colours")
+# The beginning up to its clear, and up to its place.
+SAFE, SAFE_AND_PLACED = MENDING[:19], MENDING[:22]
+NONE_ASKED = Asked(None, False, False, False, False, None, False)
 
 
 # Contents.
@@ -30,8 +31,9 @@ NONE_ASKED = Asked(None, False, False, False, False, None)
 def a_beginning(chance):
     """What a drawing begins with: mostly something that makes its start known, and clears."""
     some = [
-        b"", b"", b"\x1b[2J", b"\x1b[0m\x1b[2J", b"\x1b[2J\x1b[0m", MENDING, SAFE, MENDING[:16], b"\x1b[u",
+        b"", b"", b"\x1b[2J", b"\x1b[0m\x1b[2J", b"\x1b[2J\x1b[0m", MENDING, SAFE, SAFE_AND_PLACED, b"\x1b[u",
         SAFE + b"\x1b[1;1H", SAFE + b"\x07\x1b[1;33m\x1b[f", SAFE + b"A", SAFE + b"\n\x1b[H", SAFE + b"\n\x1b[2J",
+        b"\x1b[?7h\x1b[0m\x1b[2J", b"\x1b[?7h\x1b[0m\x1b[2J\x1b[H\x1b[s", b"\x1b[0;37;40m",
         b"\x1b[?7h\x1b[0m\x1b[H\x1b[2J", b"\x1b[?7h\x1b[0m\x1b[255D\x1b[255A\x1b[2J", b"\x1b[?7l\x1b[0m\x1b[2J",
         b"\x1b[?7l\x1b[0m\x1b[2J\x1b[H",
     ]
@@ -103,6 +105,25 @@ def put_in(chance, content, piece):
     offsets = [offset for offset, _ in tokens_of(content)[0]] + [len(content)]
     at = offsets[0] if chance.random() < 0.3 else chance.choice(offsets)
     return content[:at] + piece + content[at:]
+
+
+def some_zeros(chance):
+    """A sequence of colours, mostly with a 0 or an omitted number, now and then about as long as ansilove takes one."""
+    zeros = [b"0", b"0", b"0", b"", b"00"]
+    others = [b"37", b"40", b"37", b"40", b"1", b"5", b"31", b"44", b"30", b"47", b"4", b"7", b"8", b"2", b"039", b"29"]
+    count = chance.choice([0, 0, 1, 1, 2, 3, 4, 5, 7, 15])
+    numbers = chance.choices(others if chance.random() < 0.7 else [b"0", b"1", b"5"], k=count)
+    for _ in range(chance.choice([0, 1, 1, 1, 1, 2])):
+        numbers.insert(chance.randrange(len(numbers) + 1), chance.choice(zeros if chance.random() < 0.4 else [b"0"]))
+    return b"\x1b[" + b";".join(numbers[:16]) + b"m"
+
+
+def with_zeros(chance, content):
+    """The content with some sequences of colours put in, and sometimes what is printed or not in them."""
+    for _ in range(chance.choice([1, 2, 3, 6])):
+        behind = chance.choice([b"", b"", b"\x1b[0m", b"\x1b[37m", b"\x1b[40m", b"\x1b[31m", b"\x1b[1;5m", b"\x1b[H"])
+        content = put_in(chance, content, some_zeros(chance) + behind)
+    return content
 
 
 def an_unfinished_end(chance):
@@ -177,6 +198,7 @@ def stated_lines(chance, content, width):
 def a_made_file(chance):
     width = chance.randrange(*chance.choices([(1, 5), (5, 21), (21, 81)], [45, 45, 10])[0])
     content = a_drawing(chance, width)
+    content = with_zeros(chance, content) if chance.random() < 0.5 else content
     lines = stated_lines(chance, content, width)
     file = around(chance, with_mistakes(chance, content), width, lines)
     return file + a_tail(chance) if chance.random() < 0.15 else file
@@ -248,7 +270,7 @@ def some_asked(chance, file):
     """Nothing, each flag alone, and some of them together."""
     flags = [
         {"width": a_width(chance, file)}, {"line_ends": True}, {"take_out": True}, {"full_rows": True},
-        {"least_lines": True}, {"lines": some_lines(chance)},
+        {"least_lines": True}, {"lines": some_lines(chance)}, {"name_colours": True},
     ]
     asked = [NONE_ASKED] + [NONE_ASKED._replace(**flag) for flag in flags]
     for likely in [0.3, 0.5, 0.5, 0.8]:

@@ -8,19 +8,22 @@ does there bounds what it does elsewhere.
 Random drawings have 80 columns, or fewer, and at most 24 lines. They are made of text of all bytes from 20h on but
 7Fh, the colours 0, 1, 5, 30 to 37 and 40 to 47, line ends, moves, places, clears, saves, and full rows; and of what
 `second_players.py` has of each kind. A piece is put in where the drawing still passes with it, and no other kinds arise
-than those that are asked for.
+than those that are asked for. Where `own-colours` is none of them, mostly both colours are named behind each 0.
 """
 import collections
 import glob
 import os
+import re
 import struct
 import sys
 
 sys.dont_write_bytecode = True
 
+from named_colours import paints_before_a_zero, with_named_colours, with_names
 from pens import least_lines
 from second_players import (
-    KINDS, a_colour, a_good_content, a_plain_piece, a_size, an_odd_piece, parts_needed, spelled, walk,
+    BOTH, COLOURS, KINDS, OF_TOKENS, a_colour, a_good_content, a_plain_piece, a_size, an_odd_piece, parts_needed,
+    spelled, walk,
 )
 from second_why import MENDING, cleared
 
@@ -98,11 +101,22 @@ def a_piece(chance, columns, lines, kinds):
     return make(chance, columns, lines)
 
 
+def named(chance, piece):
+    """The piece with both colours named behind each 0, but for a few."""
+    def with_both(found):
+        has_zero = not all(number.strip(b"0") for number in found[1].split(b";"))
+        return with_names(found[0], BOTH) if has_zero and chance.random() < 0.95 else found[0]
+    return COLOURS.sub(with_both, piece)
+
+
 def grown(chance, columns, lines, kinds):
     """A drawing in which no kinds but these arise, though they need not; or None."""
     drawing = None
-    pieces = chance.sample(BEGINNINGS, chance.choice([0, 0, 1, 1, 2, 3]))
+    pieces = [MENDING] if chance.random() < 0.3 else chance.sample(BEGINNINGS, chance.choice([0, 0, 1, 1, 2, 3]))
     pieces += [a_piece(chance, columns, lines, kinds) for _ in range(chance.choice([2, 5, 10, 20, 40]))]
+    if OF_TOKENS not in kinds:
+        names = chance.choice([b"\x1b[37;40m", b"\x1b[40m\x1b[37m", b"\x1b[0;37;40m", b"\x1b[1;31;44m"])
+        pieces = [names] + [named(chance, piece) for piece in pieces]
     for piece in pieces:
         longer = a_drawing_of("random", columns, lines, (drawing.content if drawing else b"") + piece)
         if longer and longer.kinds <= kinds:
@@ -137,6 +151,20 @@ def small_drawings(chance, number):
     return drawings
 
 
+def without_blink(content):
+    """The content without the number of blink, and with wrap turned on as all terminals know it."""
+    def steady(found):
+        numbers = [number for number in found[1].split(b";") if number.lstrip(b"0") != b"5"]
+        return b"\x1b[" + b";".join(numbers) + b"m" if numbers else b""
+    return COLOURS.sub(steady, re.sub(rb"\x1b\[=(0*7h)", b"\x1b[?\\1", content))
+
+
+def steady(drawing):
+    """The drawing without blink, if it passes so in the same kinds, or None."""
+    other = a_drawing_of(drawing.name, drawing.columns, drawing.lines, without_blink(drawing.content))
+    return other if other and other.kinds == drawing.kinds else None
+
+
 def other_text(chance, columns, lines):
     """Text that may scroll; then colours, a saved place and a cursor, as a start of a screen of this size has them."""
     rows = chance.choice([1, 10, 40])
@@ -151,6 +179,13 @@ def other_text(chance, columns, lines):
 # Drawings that are there.
 
 
+def with_its_colours_named(drawing):
+    """The drawing with names after each 0, and with the safe beginning where something is printed before the first."""
+    beginning = MENDING if paints_before_a_zero(drawing.content) else b""
+    content = beginning + with_named_colours(drawing.content)[0]
+    return a_drawing_of(drawing.name + " named", drawing.columns, drawing.lines, content)
+
+
 def taken_apart(file):
     """The columns, the lines where they are told, and the content of a drawing's file."""
     record = file[-128:]
@@ -159,14 +194,14 @@ def taken_apart(file):
     return columns or COLUMNS, lines, body.partition(b"\x1a")[0]
 
 
-def found_drawings():
+def found_drawings(most_lines=LINES):
     """Those of the repository and of ansilove that pass, and have at most 80 columns and 24 lines, and not nothing."""
     root = os.path.join(HERE, "..", "..")
     for path in sorted(path for folder in FOLDERS for path in glob.glob(os.path.join(root, folder))):
         with open(path, "rb") as file:
             columns, lines, content = taken_apart(file.read())
         lines = lines or columns <= COLUMNS and least_lines(content, columns)
-        if columns <= COLUMNS and lines and lines <= LINES:
+        if columns <= COLUMNS and lines and lines <= most_lines:
             drawing = a_drawing_of(os.path.basename(path), columns, lines, content)
             if drawing and content:
                 yield drawing

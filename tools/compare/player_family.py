@@ -3,11 +3,12 @@
 
 Each does as the profile does but for its traits. They are as simple as can be, and no copies of real players.
 """
-from second_machine import Machine
+from second_machine import Machine, recoloured
 
+WAITS = "waits at the right edge"
 # Each trait with the kind in which it parts.
 TRAITS = {
-    "waits at the right edge": "wrap-at-once",
+    WAITS: "wrap-at-once",
     "a line feed returns": "line-ends",
     "a line feed returns, and a return does nothing": "line-ends",
     "stays on a clear": "home-on-clear",
@@ -26,10 +27,26 @@ TRAITS = {
     "draws 07h and 08h": "page-controls",
     "does not draw 00h, 0Bh and 0Ch": "page-controls",
     "does not draw terminal controls": "terminal-controls",
+    "has a white and a black of its own": "own-colours",
 }
 PAGE_CONTROLS = {0x00, 0x0B, 0x0C}
 TERMINAL_CONTROLS = {*range(0x01, 0x07), *range(0x0E, 0x1A), *range(0x1C, 0x20), 0x7F}
 FEW_COLOURS = {0, 1, 5, *range(30, 38), *range(40, 48)}
+# Bits beside those of an attribute: the foreground, and the background, is the player's own.
+OWN_FOREGROUND, OWN_BACKGROUND = 0x100, 0x200
+OWN = OWN_FOREGROUND | OWN_BACKGROUND
+
+
+def recoloured_or_own(attribute, parameter):
+    """The attribute behind a parameter on a player that has a white and a black of its own."""
+    own = attribute & OWN
+    if parameter == 0:
+        own = OWN
+    elif 30 <= parameter <= 37:
+        own &= ~OWN_FOREGROUND
+    elif 40 <= parameter <= 47:
+        own &= ~OWN_BACKGROUND
+    return own | recoloured(attribute & 0xFF, parameter)
 
 
 class Player(Machine):
@@ -43,7 +60,8 @@ class Player(Machine):
             self.lines += 1
             self.rows.append([(0x20, 0x07)] * self.width)
         self.row, self.column, self.saved = start.row, start.column, start.saved
-        self.attribute, self.wrap = start.attribute, start.wrap
+        self.has_own = "has a white and a black of its own" in traits
+        self.attribute, self.wrap = start.attribute | (OWN if self.has_own else 0), start.wrap
         self.saved_attribute, self.waits = 0x07, False
 
     def go_on(self):
@@ -54,7 +72,7 @@ class Player(Machine):
 
     def put(self, byte):
         self.go_on()
-        if "waits at the right edge" in self.traits and self.wrap and self.column == self.width - 1:
+        if WAITS in self.traits and self.wrap and self.column == self.width - 1:
             self.rows[self.row][self.column] = (byte, self.attribute)
             self.waits = True
         else:
@@ -89,7 +107,9 @@ class Player(Machine):
         if "an omitted colour does nothing" in self.traits:
             parameters = [int(number) for number in numbers if number and int(number) in parameters]
         if "colours do nothing where one is omitted" not in self.traits or b"" not in numbers:
-            self.step("colours", parameters)
+            change = recoloured_or_own if self.has_own else recoloured
+            for parameter in parameters:
+                self.attribute = change(self.attribute, parameter)
 
     def move(self, name, *given):
         """Plays what neither prints nor colours."""
@@ -123,6 +143,29 @@ class Player(Machine):
             self.attribute = self.saved_attribute if "saves colours with the place" in traits else attribute
         elif name != "wrap" or given[0] or "always wraps" not in traits:
             self.step(name, *given)
+
+
+class Rolling(Player):
+    """A player whose screen scrolls, and keeps what has scrolled off since the last clear.
+
+    What comes in below is white on black, or in the current colours."""
+
+    def __init__(self, start, is_grey_below, *traits):
+        super().__init__(start, *traits)
+        self.roll, self.is_grey_below = [], is_grey_below
+
+    def feed_line(self):
+        if self.row < self.lines:
+            self.row += 1
+        else:
+            self.roll.append(self.rows[0])
+            below = (0x20, 0x07 if self.is_grey_below else self.attribute)
+            self.rows = self.rows[1:] + [[below] * self.width]
+
+    def step(self, name, *given):
+        super().step(name, *given)
+        self.roll = [] if name == "clear" else self.roll
+        self.row, self.column = min(self.row, self.lines), min(self.column, self.width - 1)
 
 
 def shown_by(player, tokens, lines):

@@ -12,6 +12,7 @@ COLOURS = re.compile(rb"\x1b\[([0-9;]*)m")
 PLACE = re.compile(rb"\x1b\[([0-9;]*)([Hf])")
 WRAP_ON = re.compile(rb"\x1b\[[?=]0*7h")
 WRAP_ON_BY_EQUALS = re.compile(rb"\x1b\[=0*7h")
+ZERO_MOVE = re.compile(rb"\x1b\[0+([AB])")
 ELEVEN_NUMBERS = re.compile(rb"\x1b\[(?:[0-9]*;){10}")
 # More bytes than these behind `ESC[` ansilove does not take for a sequence.
 LONGEST_OF_ANSILOVE = 14
@@ -27,19 +28,6 @@ def without_wrap_on(content):
 
 def with_wrap_on_by_question(content):
     return WRAP_ON_BY_EQUALS.sub(b"\x1b[?7h", content)
-
-
-def with_named_colours(content):
-    """White and black named behind each 0, and before all."""
-    def named(found):
-        parts = [[]]
-        for number in found[1].split(b";"):
-            if number.strip(b"0"):
-                parts[-1].append(number)
-            else:
-                parts += [[b"0", b"37", b"40"], []]
-        return b"".join(sequence(numbers) for numbers in parts if numbers)
-    return sequence([b"37", b"40"]) + COLOURS.sub(named, content)
 
 
 def bright_once(content):
@@ -83,10 +71,14 @@ def in_short_sequences(content):
     return SEQUENCE.sub(no_zeros, COLOURS.sub(short, content))
 
 
+def without_zero_moves(content):
+    """No 0 where a move up or down is by 1."""
+    return ZERO_MOVE.sub(b"\x1b[\\1", content)
+
+
 WAYS = {
     "DOSBox": {
         "prints 7h of ESC[?7h and ESC[=7h": without_wrap_on,
-        "prints in the colours of the screen behind a 0": with_named_colours,
     },
     "ansilove": {
         "takes a 1 back by another": bright_once,
@@ -98,10 +90,8 @@ WAYS = {
         "ignores ESC[=7h": with_wrap_on_by_question,
     },
     "libvterm": {"ignores ESC[=7h": with_wrap_on_by_question},
-    "xterm": {
-        "ignores ESC[=7h": with_wrap_on_by_question,
-        "forgets to end bold and blink in its print": with_named_colours,
-    },
+    "xterm": {"ignores ESC[=7h": with_wrap_on_by_question},
+    "urxvt by pixels": {"moves by 0 at ESC[0A and ESC[0B": without_zero_moves},
 }
 
 

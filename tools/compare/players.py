@@ -1,10 +1,11 @@
 #!/usr/bin/env python3
 """Plays drawings on real players, and compares what they show with the picture that the profile has.
 
-The players are DOSBox, ansilove, tmux, libvterm and xterm, as Debian has them. The drawings are those of
-`player_drawings.py`: random ones, and those of the repository and of ansilove, with at most 80 columns and 24 lines.
-Where players may part, and what the picture is, is said by the machines of `second_players.py` and
-`second_machine.py`, and by no program of this repository.
+The players are DOSBox, ansilove, tmux, libvterm, xterm, and xterm and urxvt by their pixels, as Debian has them. The
+drawings are those of `player_drawings.py`: random ones, and those of the repository and of ansilove, with at most 80
+columns and 24 lines, also with their colours named, as `named_colours.py` does it. Where players may part, and what
+the picture is, is said by the machines of `second_players.py` and `second_machine.py`, and by no program of this
+repository.
 
 First come drawings in which no kind arises, `players: any`. Each is played on a screen of its columns and 25 rows; and
 small ones, of at most nine columns and three lines, on a screen of one row more than their lines:
@@ -15,10 +16,17 @@ small ones, of at most nine columns and three lines, on a screen of one row more
 
 Other text may scroll, turns wrap off now and then, and leaves the cursor and the saved place on the drawing's lines or
 one row below, as a start of a screen of its size has them. DOSBox plays the drawings of 80 columns alone, on 25 rows.
+So do xterm and urxvt by their pixels, a quarter of the random ones and without blink, and `ESC[?7h` for `ESC[=7h`.
 
 Each cell is compared, by its byte and its attribute: of ansilove as the pixels show it, without blink, and of tmux and
-xterm up to the last cell of a row that was written. A drawing that differs is told with the reason, where that is a
-way of one program that `player_quirks.py` knows, and with its bytes where it is not.
+xterm up to the last cell of a row that was written. tmux, libvterm and xterm tell their own colours from the named
+ones, which alone the picture has. Screens are cleared in named colours before, since cells that nothing is written in
+have what is there. By pixels a cell is compared as `player_pixels.py` says it: with the terminal's named colours, which
+are measured first. A drawing that differs is played once more, and counts where it differs again. It is told with the
+reason, where that is a way of one program that `player_quirks.py` knows, and with its bytes where it is not.
+
+What is not seen: by pixels, blink, and which character it is but by its extent; of tmux and xterm the colours in which
+they cleared what was not written since.
 
 Then come random drawings in which one kind arises and no other, each kind in turn, a tenth as many, on a cleared screen
 alone. A table tells how many of them look different on which player, beside its known ways.
@@ -26,9 +34,10 @@ alone. A table tells how many of them look different on which player, beside its
     python3 tools/compare/players.py [--program PROGRAM] [NUMBER] [SEED] [PLAYER ..]
 
 It makes NUMBER drawings of 80 columns, 1000 where nothing is said, a quarter as many of fewer, and as many small ones
-as of 80 columns. Where players are named it plays these. Where a built `anscheck` is given, that mends the drawings.
-It needs Debian's `dosbox`, `nasm`, `ansilove`, `tmux`, `xterm`, `xvfb`, `libvterm-dev` and `gcc`, and says which player
-cannot be played here. Its status is 1 where a drawing without kinds differs for a reason that is not known.
+as of 80 columns. Where players are named it plays these, as `tmux` or `urxvt-by-pixels`. Where a built `anscheck` is
+given, that mends the drawings. It needs Debian's `dosbox`, `nasm`, `ansilove`, `tmux`, `xterm`, `rxvt-unicode`, `xvfb`,
+`libvterm-dev` and `gcc`, and says which player cannot be played here. Its status is 1 where a drawing without kinds
+differs for a reason that is not known.
 """
 import collections
 import os
@@ -40,10 +49,14 @@ sys.path.insert(1, os.path.join(os.path.dirname(os.path.abspath(__file__)), "dos
 
 from ansilove import ans_file
 from dosbox import said
-from player_drawings import SMALL, found_drawings, is_free, other_text, random_drawings, small_drawings
+from player_drawings import (
+    COLUMNS, SMALL, found_drawings, is_free, other_text, random_drawings, small_drawings, steady,
+    with_its_colours_named,
+)
+from player_pixels import PIXEL_PLAYERS
 from player_quirks import breaks, choices, respelled
 from player_screens import PLAYERS, ROWS
-from second_players import KINDS
+from second_players import KINDS, OF_TOKENS
 from second_why import MENDING
 
 BLANK = 0x20
@@ -74,9 +87,17 @@ def plays_of(chance, program, drawing):
 
 
 def may_play(player, play):
-    """Its screen can have this size, and it does not break at the content."""
+    """Its screen can have this size, and it does not break at the content; blink is not seen by pixels."""
     fits = player.columns is None or (player.columns, ROWS) == (play.drawing.columns, play.rows)
     return fits and not breaks(player.name, play.content)
+
+
+def steady_plays_of(chance, program, drawings):
+    """Those for terminals whose pixels are compared: of 80 columns, and without blink."""
+    for drawing in drawings:
+        found = steady(drawing) if drawing.columns == COLUMNS and drawing.name != SMALL else None
+        if found and found.content:
+            yield from plays_of(chance, program, found)
 
 
 def by_screen(plays):
@@ -95,8 +116,8 @@ def first_difference(player, drawing, rows):
     for row, column in ((row, column) for row in range(drawing.lines) for column in range(drawing.columns)):
         byte, attribute = drawing.picture[row][column]
         if row < len(rows) and column < len(rows[row]):
-            shown = rows[row][column]
-            differs = shown != player.seen(byte, attribute)
+            shown, differs = rows[row][column], not player.shows(rows[row][column], drawing.picture, row, column)
+            shown = player.told(shown) if differs else shown
         else:
             shown, differs = "nothing", byte != BLANK or attribute & 0x70
         if differs:
@@ -138,30 +159,36 @@ def told_difference(player, one, reason):
     where = f"{player.name}, {one.play.how}, {drawing.name} of {drawing.columns} x {drawing.lines}"
     if reason:
         return f"{where}: {reason}"
-    shown = "other pixels" if isinstance(one.shown, list) else one.shown
-    return f"{where}: NOT KNOWN: {one.place}: {shown}, not {one.expected}: {one.play.content!r}"
+    return f"{where}: NOT KNOWN: {one.place}: {one.shown}, not {one.expected}: {one.play.content!r}"
 
 
 def play_without_kinds(player, plays):
     """Plays the drawings without kinds, and tells each that differs: how many do for an unknown reason, and of all."""
     able = [play for play in plays if may_play(player, play)]
-    found = list(differences(player, able))
+    first = list(differences(player, able))
+    found = list(differences(player, [one.play for one in first]))
     known = reasons(player, found)
     for one, reason in zip(found, known):
         print(told_difference(player, one, reason), flush=True)
-    drawings = len({id(play.drawing) for play in able})
+    drawings = len({play.drawing.content for play in able})
     counts = collections.Counter(play.how for play in able)
     print(f"{player.name}: {drawings} drawings: " + ", ".join(f"{count} {how}" for how, count in counts.items()))
+    if player.is_seen_by_pixels:
+        print("  its named colours: {}; as backgrounds: {}".format(*player.colours_told()))
+    if len(first) > len(found):
+        print(f"  {len(first) - len(found)} differ once, and not when they are played again")
     for reason, count in collections.Counter(filter(None, known)).most_common():
         print(f"  {count} differ: it {reason}")
     print(f"  {known.count(None)} differ for a reason that is not known", flush=True)
-    return len({id(one.play.drawing) for one, reason in zip(found, known) if not reason}), drawings
+    return len({one.play.drawing.content for one, reason in zip(found, known) if not reason}), drawings
 
 
 def play_kind(player, drawings):
     """Plays drawings of a kind: how many look different, but for known ways, and of how many; or nothing is told."""
     if not player.tells_cleared and "clear-in-colour" in drawings[0].kinds:
         return None
+    if player.is_seen_by_pixels:
+        drawings = [found for found in map(steady, drawings) if found and found.columns == COLUMNS]
     plays = [Play(drawing, ROWS, "on a cleared screen", drawing.content) for drawing in drawings]
     able = [play for play in plays if may_play(player, play)]
     return reasons(player, list(differences(player, able))).count(None), len(able)
@@ -169,8 +196,8 @@ def play_kind(player, drawings):
 
 def present_players(names):
     """The players of these names, or all, that can be played here."""
-    for player in PLAYERS:
-        if not names or player.name.lower() in names:
+    for player in PLAYERS + PIXEL_PLAYERS:
+        if not names or player.name.lower().replace(" ", "-") in names:
             missing = player.missing()
             print(f"{player.name}: not played, without {', '.join(missing)}" if missing
                   else f"{player.name}: {player.version()}", flush=True)
@@ -194,9 +221,12 @@ def main(*words):
     chance, number = random.Random(int(seed)), int(number)
     players = list(present_players([name.lower() for name in names]))
     drawings = random_drawings(chance, number) + small_drawings(chance, number)
-    drawings += [drawing for drawing in found_drawings() if not drawing.kinds]
-    plays = [play for drawing in drawings for play in plays_of(chance, program, drawing)]
-    without = [play_without_kinds(player, plays) for player in players]
+    found = list(found_drawings())
+    found += [with_its_colours_named(drawing) for drawing in found if OF_TOKENS in drawing.kinds]
+    found = [drawing for drawing in found if not drawing.kinds]
+    plays = [play for drawing in drawings + found for play in plays_of(chance, program, drawing)]
+    steady_plays = list(steady_plays_of(chance, program, drawings[:max(1, number // 4)] + found))
+    without = [play_without_kinds(player, steady_plays if player.is_seen_by_pixels else plays) for player in players]
     print_row("The one kind", [player.name for player in players])
     print("|---|" + "---|" * len(players))
     print_counts("none", without)

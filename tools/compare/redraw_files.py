@@ -167,7 +167,10 @@ def a_plain_content(chance, columns, lines):
     """The form of a picture, mostly with a piece put in that may change nothing."""
     cells = some_cells(chance, columns, columns * lines, GLYPHS)
     content = PlainForm([cells[at:at + columns] for at in range(0, len(cells), columns)]).content()
-    some = [b"\x1b[0m", b"\x1b[m", b"\x1b[1m", b"\x1b[C", b"\x1b[0C", b"\x1b[s", b"\x1b[K", b" ", b"\r", b"\r\n"]
+    some = [
+        b"\x1b[0m", b"\x1b[m", b"\x1b[1m", b"\x1b[37m", b"\x1b[0;37;40m", b"\x1b[C", b"\x1b[0C", b"\x1b[s", b"\x1b[K",
+        b" ", b"\r", b"\r\n", b"\n\x1b[A",
+    ]
     return content if chance.random() < 0.3 else put_in(chance, content, chance.choice(some))
 
 

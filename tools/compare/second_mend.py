@@ -6,15 +6,20 @@ It mends by itself, step by step, from the words of the rules:
 - the record is taken apart and refused as `second_why.py` does it, and its bytes are written over in place;
 - what is taken out is found by patterns over the bytes, where the content's own reader is refused;
 - full rows and their line ends are those that the hint of `why` counts;
+- which names a sequence of colours gets is found in one pass over the tokens, from the last to the first;
 - whether a content passes, and on how many lines, is found by playing it without its cells;
 - whether the beginning is wanted is found by playing it from eight starts of any kind, and by the kinds in which
-  players part that arise from those and not from the cleared one, as `second_players.py` finds them.
+  players part that arise from those and not from the cleared one, as `second_players.py` finds them; where colours are
+  named, by what is printed before the first 0 too.
 
 The files are those of `mend_files.py`. Each is mended by itself, with each flag alone, and with some at random.
-Standard output, the status, and standard error are compared; of standard error the first line where nothing is
-written. Of each file that is written it plays the content from eight starts of any kind: there is no fault, and the
-picture is the one that the changed content has from the cleared start. A file that was changed is mended once more
-with the same flags but `--full-rows`, and `--line-ends` where the last return was taken out of it: nothing is changed.
+Standard output, the status, and standard error are compared; of standard error the first line where nothing is written.
+Of each file that is written it plays the content from eight starts of any kind: there is no fault, and the picture is
+the one that the changed content has from the cleared start, before its colours were named. From none of them arise
+other kinds than those that the changed content has from there, and from there the same, but that `own-colours` may be
+gone; where colours are named it is gone, and they are named nowhere if it did not arise. `dos-colours` may be gone
+there, too: an omitted number may be alone then. A file that was changed is mended once more with the same flags but
+`--full-rows`, and `--line-ends` where the last return was taken out of it: nothing is changed.
 
 It follows the rules as this project states them, so it cannot tell a rule that both misread. Run it in
 `crates/anscheck`, on the built program, with a number that seeds the files and how many there shall be:
@@ -37,9 +42,10 @@ import sys
 sys.dont_write_bytecode = True
 
 from mend_files import a_mend_file, long_files, some_asked
+from named_colours import paints_before_a_zero, with_named_colours
 from pens import MOST_LINES, Pen, first_fault, least_lines, passes, tokens_of
 from second_machine import CONTROLS, REFUSED, Machine, Refused, answer, play, read_sequence
-from second_players import spelled, walk
+from second_players import OF_TOKENS, spelled, walk
 from second_why import (
     MENDING, Hints, Rows, body_of, cleared, fault_line, many, quoted, record_fault, record_of, rows_printed,
 )
@@ -262,6 +268,12 @@ def take_last_line_ends_out(draft, lines):
     draft.content = rest
 
 
+def name_colours(draft):
+    """Names for the colours behind each 0, where something is printed or blanked in them."""
+    draft.content, offsets = with_named_colours(draft.content)
+    draft.say_of_each("named colours", "named the colours of a sequence", offsets)
+
+
 def settle_lines(draft, least_is_asked, lines):
     """States other lines where those are too few, or where none are stated."""
     stated, width = draft.field(LINES), draft.width()
@@ -308,11 +320,14 @@ def parts_by_start(content, chance, width, lines):
     return any(kinds - arisen[0] for kinds in arisen)
 
 
-def put_beginning(draft, chance):
-    """The beginning, where the picture is not the same from every start, or players part in more from some."""
+def put_beginning(draft, are_named, chance):
+    """The beginning, where the picture is not the same from every start, or players part in more from some.
+
+    Where the colours are named, also where it is what names them."""
     content, width, lines = draft.content, draft.width(), draft.field(LINES)
     from_any = answer(content, eight_starts(chance, width, lines))
-    if isinstance(from_any, str) or parts_by_start(content, chance, width, lines):
+    is_wanted = isinstance(from_any, str) or parts_by_start(content, chance, width, lines)
+    if is_wanted or are_named and paints_before_a_zero(content):
         draft.content = MENDING + content
         draft.say("beginning", f"put {len(MENDING)} bytes in front")
 
@@ -329,7 +344,7 @@ def set_file_size(draft, old_content):
 
 
 def mended(file, asked, chance):
-    """The mended file; the content as it was changed, without the beginning; and what is said, with what it is."""
+    """The mended file; the content as it was changed, without names and beginning; what is said, with what it is."""
     said = []
     file = without_tail(file, said)
     given = with_record(file, asked.width, said) if asked.width else None
@@ -346,14 +361,17 @@ def mended(file, asked, chance):
         take_ends_of_full_rows_out(draft)
     if asked.take_out:
         take_last_line_ends_out(draft, draft.field(LINES) or asked.lines or MOST_LINES)
+    changed = draft.content
+    if asked.name_colours:
+        name_colours(draft)
+        draft.file()
     settle_lines(draft, least_is_asked, asked.lines)
     put_end_mark(draft)
     draft.file()
     fault = first_fault(draft.content, draft.width(), draft.field(LINES))
     if fault:
         raise NotMended(fault_line(*fault))
-    changed = draft.content
-    put_beginning(draft, chance)
+    put_beginning(draft, asked.name_colours, chance)
     set_file_size(draft, old_content)
     return draft.file(), changed, said
 
@@ -388,9 +406,27 @@ def broken_promise(file, asked, chance, found):
     picture = answer(changed, [cleared(width, record.lines)])
     if isinstance(picture, str) or answer(content, eight_starts(chance, width, record.lines)) != picture:
         return "it does not show the picture from every start"
+    wrong = broken_kinds(content, changed, asked, chance, width, record.lines)
+    if wrong:
+        return wrong
     if after != file:
         again = finding(after, asked_again(asked, after), chance)
         return None if again[0] == after else f"by the rules, once more gives {again}"
+    return None
+
+
+def broken_kinds(content, changed, asked, chance, width, lines):
+    """What is wrong with the kinds that arise in the mended content, or None."""
+    starts = [cleared(width, lines)] + eight_starts(chance, width, lines)
+    before = {kind for _, kind in walk(spelled(changed), cleared(width, lines)).arisen}
+    arisen = [{kind for _, kind in walk(spelled(content), start).arisen} for start in starts]
+    may_go = {OF_TOKENS, "dos-colours"} if asked.name_colours else {OF_TOKENS}
+    if not before - may_go <= arisen[0] or any(kinds - before for kinds in arisen):
+        return f"it has the kinds {arisen}, and had {sorted(before)}"
+    if asked.name_colours and OF_TOKENS in arisen[0]:
+        return "a colour is not named"
+    if asked.name_colours and OF_TOKENS not in before and not content.endswith(changed):
+        return "a colour is named though all are"
     return None
 
 
@@ -405,7 +441,8 @@ def asked_again(asked, file):
 
 def words_of(asked):
     """The flags, as words."""
-    flags = [field for field in ("line_ends", "take_out", "full_rows", "least_lines") if getattr(asked, field)]
+    named = ("line_ends", "take_out", "full_rows", "least_lines", "name_colours")
+    flags = [field for field in named if getattr(asked, field)]
     words = ["--" + field.replace("_", "-") for field in flags]
     words += ["--width", str(asked.width)] if asked.width else []
     return words + (["--lines", str(asked.lines)] if asked.lines else [])

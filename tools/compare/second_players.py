@@ -4,18 +4,20 @@
 It finds by itself, from the words of the definitions:
 
 - `players`: it plays the content from the cleared start, and keeps beside the machine how firmly players stand where
-  it stands. So it tells of each token in which kinds players may part there; from these the kinds, how often each
-  arises, and the offset of the first token of each;
+  it stands, and which of the two colours the content has named. So it tells of each token in which kinds players may
+  part there; from these the kinds, how often each arises, and the offset of the first token of each;
 - `on every player`: it plays the content from all starts of five classes, each of which knows all parts but one: each
   cursor, each saved place, the attributes 00h, 07h and FFh, wrap on and off, and cells that are unlike any other. A
   part is needed where from these something goes wrong: a fault, what is printed or erased at several places, a cell
-  that is not the same, or a kind. So it finds the parts of `needs` too, where kinds are no matter.
+  that is not the same, or a kind but `own-colours`, which arises from each start alike. So it finds the parts of
+  `needs` too, where kinds are no matter.
 
 The lines that are compared are these, where the content passes from the cleared start, and none of them elsewhere:
 
     players: KIND KIND ..           or players: any
     at OFFSET: KIND, N times        for each kind, without the number where it is 1
-    on every player: PART PART ..   where players are any, and these parts are others than those of needs
+    on every player: PART PART ..   where players are any, or part in `own-colours` alone, and these parts are others
+                                    than those of needs
 
 Run it in `crates/anscheck`, on the built program, with a number that seeds the contents and how many there shall be:
 
@@ -30,9 +32,10 @@ at most three lines, and on contents that pass from the cleared start alone:
 - each player of `player_family.py`, and some that have several of their traits, shows the picture of the machine where
   no kind of its own arises. It counts how often one of its kinds arises, and how often it then shows another picture;
   each player has to do so at least once;
-- where players are any, the classes of all 32 for which nothing goes wrong are exactly those that know the parts that
-  were found one by one; all cursors, a few saved places, the three attributes and wrap on and off are met together.
-  From each of these starts of the least class each player shows the picture; and the same of `needs` without kinds.
+- where players are any, or part in `own-colours` alone, the classes of all 32 for which nothing goes wrong are exactly
+  those that know the parts that were found one by one; all cursors, a few saved places, the three attributes and wrap
+  on and off are met together. From each of these starts of the least class each player shows the picture, but one with
+  a white and a black of its own where `own-colours` arises; and the same of `needs` without kinds.
 
 It follows the rules as this project states them, so it cannot tell a rule that both misread.
 """
@@ -51,15 +54,20 @@ from second_why import cleared
 
 KINDS = [
     "wrap-at-once", "line-ends", "home-on-clear", "clear-in-colour", "save-place-only", "dos-colours", "tab-prints",
-    "line-erased", "wrap-off", "stops-at-edge", "page-controls", "terminal-controls",
+    "line-erased", "wrap-off", "stops-at-edge", "page-controls", "terminal-controls", "own-colours",
 ]
+# The kind that arises from each start alike, since it is one of the tokens alone.
+OF_TOKENS = "own-colours"
 SAID = re.compile(r"players: .*|on every player: .*|at \d+: (" + "|".join(KINDS) + r")(, \d+ times)?")
 # How firmly players stand where the machine stands: behind what they may not, and the kind in which they part there.
 FIRM, WRAPPED = ("nothing", None), ("a wrap", "wrap-at-once")
 BEHIND_FEED, BEHIND_RETURN = ("a line feed", "line-ends"), ("a return", "line-ends")
 BEHIND_CLEAR, BEHIND_SAVE = ("a clear", "home-on-clear"), ("a save", "save-place-only")
+COLOURS = re.compile(rb"\x1b\[([0-9;]*)m")
 HELD_AT_ANY = {"place", "colours", "bell"}
 HELD = {(WRAPPED, "glyph"), (BEHIND_FEED, "return"), (BEHIND_RETURN, "linefeed"), (BEHIND_RETURN, "return")}
+PAINTS = {"glyph", "tab", "clear", "erase"}
+NEITHER, BOTH = frozenset(), frozenset(["foreground", "background"])
 UNKNOWN = "whatever was there"
 Walked = collections.namedtuple("Walked", "places arisen picture")
 
@@ -103,9 +111,21 @@ def own_kinds(token, text, machine):
     return set()
 
 
-def kinds_at(grip, token, text, machine):
+def named_behind(named, token):
+    """The colours that are named behind the token: the numbers count in their order, and an omitted one is 0."""
+    for number in token[1] if token[0] == "colours" else []:
+        if number == 0:
+            named = NEITHER
+        elif number in range(30, 38):
+            named = named | {"foreground"}
+        elif number in range(40, 48):
+            named = named | {"background"}
+    return named
+
+
+def kinds_at(grip, named, token, text, machine):
     """All kinds in which players may part at the token, where they stand so firmly for this machine."""
-    own = own_kinds(token, text, machine)
+    own = own_kinds(token, text, machine) | ({OF_TOKENS} if token[0] in PAINTS and named != BOTH else set())
     is_held = grip == FIRM or token[0] in HELD_AT_ANY or (grip, token[0]) in HELD
     return own if is_held else own | {grip[1]}
 
@@ -127,17 +147,22 @@ def grip_behind(grip, name, place, machine):
 
 def walk(tokens, machine):
     """Where is printed and erased, the kinds of each token with its offset, and the picture; or None at a fault."""
-    grip, places, arisen = FIRM, [], []
+    grip, named, places, arisen = FIRM, NEITHER, [], []
     for offset, token, text in tokens:
         name, place = token[0], (machine.row, machine.column)
-        arisen += [(offset, kind) for kind in kinds_at(grip, token, text, machine)]
+        arisen += [(offset, kind) for kind in kinds_at(grip, named, token, text, machine)]
         for _ in range(8 - machine.column % 8 if name == "tab" else 1):
             if name in ("glyph", "tab", "erase"):
                 places.append((machine.row, machine.column))
             if play(("glyph", 0x20) if name == "tab" else token, [machine]):
                 return None
-        grip = grip_behind(grip, name, place, machine)
+        grip, named = grip_behind(grip, name, place, machine), named_behind(named, token)
     return Walked(tuple(places), arisen, tuple(map(tuple, machine.rows[:-1])))
+
+
+def of_start(arisen):
+    """What has arisen of the kinds that may depend on the start."""
+    return [(offset, kind) for offset, kind in arisen if kind != OF_TOKENS]
 
 
 def offsets_of(arisen):
@@ -178,7 +203,7 @@ def is_same(walks, are_kinds_asked):
     first = walks[0]
     return all(
         walked and (walked.places, walked.picture) == (first.places, first.picture)
-        and not (are_kinds_asked and walked.arisen) and not any(UNKNOWN in row for row in walked.picture)
+        and not (are_kinds_asked and of_start(walked.arisen)) and not any(UNKNOWN in row for row in walked.picture)
         for walked in walks
     )
 
@@ -202,7 +227,7 @@ def lines_of(content, width, lines):
     said = ["players: " + (" ".join(offsets) or "any")]
     for kind, places in offsets.items():
         said.append(f"at {places[0]}: {kind}" + (f", {len(places)} times" if len(places) > 1 else ""))
-    if not offsets:
+    if not of_start(walked.arisen):
         same, needs = [parts_needed(tokens, width, lines, are_kinds_asked) for are_kinds_asked in (True, False)]
         said += ["on every player: " + " ".join(same)] if same != needs else []
     return said
@@ -272,22 +297,39 @@ def an_odd_piece(chance, kind, width):
         ],
         "page-controls": [b"\x07", b"\b", b"\x00", b"\x0b", b"\x0c", b"A\b", b"A\x07B"],
         "terminal-controls": [bytes([byte]) for byte in TERMINAL_CONTROLS],
+        "own-colours": [
+            b"\x1b[0m", b"\x1b[0m", b"\x1b[0mA", b"\x1b[37m", b"\x1b[40m", b"\x1b[37;40m", b"\x1b[0;37mA",
+            b"\x1b[0;40mA", b"\x1b[37;0;40mA", b"\x1b[40;00;37m ", b"\x1b[0;1;5;37;40mA", b"\x1b[37;40;0m\x1b[31;41mA",
+            b"\x1b[0m\x1b[37m\x1b[2J\x1b[H", b"\x1b[0m\x1b[2J\x1b[H\x1b[37;40m", b"\x1b[0;33m\x1b[44mA",
+        ],
     }
     is_loose = kind not in some or kind == "save-place-only" and chance.random() < 0.5
     return a_loose_piece(chance, kind, width) if is_loose else chance.choice(some[kind])
 
 
+def with_names(chance, piece):
+    """The piece with names behind each sequence that takes some away: mostly with both."""
+    def named(found):
+        if all(number.strip(b"0") for number in found[1].split(b";")):
+            return found[0]
+        names = chance.choice([b"37;40"] * 9 + [b"30;47", b"1;37;5;40", b"37", b"40", b"36", b"47", b"29;38;39;48"])
+        return b"\x1b[" + found[1] + b";" + names + b"m"
+    return COLOURS.sub(named, piece)
+
+
 def a_good_content(chance, width, lines):
-    """One that passes from the cleared start: with pieces of no kind, of some, or of all."""
+    """One that passes from the cleared start: with pieces of no kind, of some, or of all; often with named colours."""
     beginning = [b"\x1b[0m", b"\x1b[2J", b"\x1b[H", b"\x1b[?7h", b"\x1b[m", b"\x1b[2J\x1b[H", b"\x1b[s"]
+    is_named = chance.random() < 0.6
     pieces = chance.sample(beginning, chance.choice([0, 0, 1, 2, 3, 4, 5]))
-    odd = chance.sample(KINDS + ["line-ends", "tab-prints"], chance.choice([0, 0, 0, 1, 1, 1, 2, 3, 12]))
+    pieces = [b"\x1b[37;40m"] * is_named + pieces
+    odd = chance.sample(KINDS + ["line-ends", "tab-prints"], chance.choice([0, 0, 0, 1, 1, 1, 2, 3, 13]))
     for _ in range(chance.randrange(1, 10)):
         is_odd = odd and chance.random() < 0.5
         piece = an_odd_piece(chance, chance.choice(odd), width) if is_odd else a_plain_piece(chance, width, lines)
         pieces.append(piece)
     content = b""
-    for piece in pieces:
+    for piece in [with_names(chance, piece) for piece in pieces] if is_named else pieces:
         if walk(spelled(content + piece), cleared(width, lines)):
             content += piece
     return content
@@ -344,7 +386,7 @@ def same_classes(walks, are_kinds_asked):
     for known in classes():
         among = set().union(*(some for parts, some in walks.items() if parts.issuperset(set(known) - {"screen"})))
         if None not in among:
-            among = {walked._replace(arisen=bool(walked.arisen) and are_kinds_asked) for walked in among}
+            among = {walked._replace(arisen=walked.arisen if are_kinds_asked else ()) for walked in among}
             among = set(map(with_blanks, among)) if "screen" in known else among
         if is_same(list(among), are_kinds_asked):
             yield known
@@ -355,7 +397,7 @@ def try_classes(chance, tokens, width, lines, walked, seen):
     walks, met = collections.defaultdict(set), some_starts(chance, width, lines)
     for start in met:
         found = walk(tokens, a_start(width, lines, *start, UNKNOWN))
-        walks[known_of(*start)].add(found and found._replace(arisen=bool(found.arisen)))
+        walks[known_of(*start)].add(found and found._replace(arisen=tuple(of_start(found.arisen)[:1])))
     needs, parts = [parts_needed(tokens, width, lines, are_kinds_asked) for are_kinds_asked in (False, True)]
     for are_kinds_asked, found in ((False, needs), (True, parts)):
         same = list(same_classes(walks, are_kinds_asked))
@@ -364,9 +406,11 @@ def try_classes(chance, tokens, width, lines, walked, seen):
     seen["on every player: " + (" ".join(parts) or "nothing")] += 1
     seen["on every player: other parts than needed"] += parts != needs
     of_class = [start for start in met if known_of(*start).issuperset(set(parts) - {"screen"})]
-    cell = None if "screen" in parts else UNKNOWN
+    cell, arisen = None if "screen" in parts else UNKNOWN, {kind for _, kind in walked.arisen}
     for start in chance.sample(of_class, min(6, len(of_class))):
         for traits in some_players(chance):
+            if any(TRAITS[trait] == OF_TOKENS and OF_TOKENS in arisen for trait in traits):
+                continue
             picture = shown_by(Player(a_start(width, lines, *start, cell), *traits), tokens, lines)
             if picture != walked.picture:
                 yield f"{', '.join(traits)} from {start}: shows {picture}, not {walked.picture}"
@@ -377,7 +421,7 @@ def try_content(chance, content, width, lines, seen):
     tokens = spelled(content)
     walked = walk(tokens, cleared(width, lines))
     wrong = list(try_players(chance, tokens, width, lines, walked, seen))
-    if not walked.arisen:
+    if not of_start(walked.arisen):
         wrong += try_classes(chance, tokens, width, lines, walked, seen)
     return wrong
 

@@ -9,8 +9,15 @@ and standard error are compared; of standard error the first line where nothing 
 Of each file that is written it plays the content from the cleared start, the low, the high, and six between of any
 kind. There is no fault, all are at one place where something is printed, the cells are those that the content before
 has from the cleared start, and the attribute is then 07h. The kinds in which players part that arise, as
-`second_players.py` finds them, are those of the picture's own control bytes, once for each of them. What is redrawn
-once more stays as it is.
+`second_players.py` finds them, are those of the picture's own control bytes, once for each of them. `ESC[0m` is its
+end, and stands nowhere else; no sequence of colours has more than four numbers, or more than ten bytes behind `ESC[`.
+What is redrawn once more stays as it is.
+
+It also plays the content on a few screens of other sizes, of two rows or more and of the stated columns or more, behind
+other text: on players that wrap at once and on those that wait, and whose rows come in white on black or in the current
+colours. What has scrolled off since the last clear, and what is on the screen, show the picture together: each cell is
+the same, or a blank of the same background and blink; right of the picture and below it are blanks alone. A player of
+this model scrolls as simply as can be, and is no copy of a real one.
 
 The files are those of `redraw_files.py`. It follows the rules as this project states them, so it cannot tell a rule
 that both misread. Run it in `crates/anscheck`, on the built program, with a number that seeds the files and how many
@@ -25,12 +32,13 @@ import collections
 import functools
 import multiprocessing
 import random
+import re
 import sys
 
 sys.dont_write_bytecode = True
 
-from plain_form import GREY, PlainForm
-from player_family import PAGE_CONTROLS, TERMINAL_CONTROLS
+from plain_form import BLANK, GREY, PlainForm
+from player_family import PAGE_CONTROLS, TERMINAL_CONTROLS, WAITS, Rolling
 from redraw_files import a_redraw_file
 from second_machine import answer, fault_in
 from second_mend import (
@@ -39,6 +47,8 @@ from second_mend import (
 from second_players import spelled, walk
 from second_why import body_of, cells_of, cleared, fault_line, record_fault, record_of
 
+MOST_CELLS, MOST_NUMBERS, MOST_IN_SEQUENCE = 20000, 4, 10
+COLOURS = re.compile(rb"\x1b\[([0-9;]*m)")
 Redrawn = collections.namedtuple("Redrawn", "file machine met said")
 
 
@@ -103,6 +113,50 @@ def broken_from(start, tokens, rows, places):
     return None if kinds == kinds_of(rows) else f"the kinds {dict(kinds)}"
 
 
+def broken_spelling(content):
+    """What is wrong with the sequences of the content, or None."""
+    if content.find(b"\x1b[0m") != len(content) - len(b"\x1b[0m"):
+        return "ESC[0m is not its end alone"
+    sequences = [found[1] for found in COLOURS.finditer(content)]
+    if any(text.count(b";") >= MOST_NUMBERS or len(text) > MOST_IN_SEQUENCE for text in sequences):
+        return "a sequence of colours is long"
+    return None
+
+
+def look_alike(one, other):
+    """Equal, or blanks of one background."""
+    return one == other or one[0] == other[0] == BLANK[0] and one[1] >> 4 == other[1] >> 4
+
+
+def broken_on(screen, tokens, rows):
+    """What is wrong with what has scrolled off and the screen, or None."""
+    for _, token, text in tokens:
+        screen.meet(token, text)
+    shown = [list(row) for row in screen.roll + screen.rows]
+    shown += [[BLANK] * screen.width] * (len(rows) - len(shown))
+    for row, cells in enumerate(shown):
+        meant = rows[row] if row < len(rows) else ()
+        outside = {byte for byte, _ in cells[len(meant):]}
+        if not all(map(look_alike, cells, meant)) or outside - {BLANK[0]}:
+            size = f"{screen.lines + 1} rows of {screen.width}, {screen.traits}, grey below: {screen.is_grey_below}"
+            return f"row {row + 1} is another on {size}"
+    return None
+
+
+def broken_elsewhere(tokens, width, rows, chance):
+    """What is wrong with the content on screens of other sizes, or None. Large pictures are played on none."""
+    if width * len(rows) > MOST_CELLS:
+        return None
+    for _ in range(4):
+        columns = width + chance.choice([0, 0, 1, 2, 3, 52])
+        count = chance.choice([2, 2, 3, 4, 5, 24, len(rows), len(rows) + 1, len(rows) + 3])
+        start, traits = eight_starts(chance, columns, max(2, count) - 1)[-1], chance.choice([(), (WAITS,)])
+        wrong = broken_on(Rolling(start, chance.random() < 0.5, *traits), tokens, rows)
+        if wrong:
+            return wrong
+    return None
+
+
 def broken_promise(found, chance):
     """What is wrong with the file that is written, or None."""
     fault = record_fault(found.file)
@@ -119,6 +173,9 @@ def broken_promise(found, chance):
         place, wrong = (start.row, start.column), broken_from(start, tokens, rows, places)
         if wrong:
             return f"{wrong}, from {place}"
+    wrong = broken_spelling(content) or broken_elsewhere(tokens, width, rows, chance)
+    if wrong:
+        return wrong
     again = finding(found.file)
     is_kept = not isinstance(again, str) and again.file == found.file and again.said == kept(found)
     return None if is_kept else f"by the rules, once more gives {again}"

@@ -44,7 +44,7 @@ from second_machine import (
 
 MOST_LINES, MOST_COLUMNS, TRIED_ONE_BY_ONE = 8192, 1024, 24
 OF_PLAYERS = re.compile(r"players: |on every player: |at \d+: [a-z]")
-MENDING = b"\x1b[?7h\x1b[0m\x1b[2J\x1b[H\x1b[s"
+MENDING = b"\x1b[?7h\x1b[0;37;40m\x1b[2J\x1b[H\x1b[s"
 NAMES = {7: "<BEL>", 8: "<BS>", 9: "<TAB>", 10: "<LF>", 13: "<CR>", 27: "<ESC>", 32: "<SP>"}
 LOW_GLYPHS = " ☺☻♥♦♣♠•◘○◙♂♀♪♫☼►◄↕‼¶§▬↨↑↓→←∟↔▲▼"
 FONTS_OF_437 = [
@@ -64,7 +64,10 @@ COUNTED_HINTS = [
     ("board code", "a colour code of a bulletin board (|07, @X1F) is printed as text", ""),
     ("later colour", "a sequence has a colour of later terminals (38, 48, 90 to 97 or 100 to 107)", ""),
     ("blinking", "a character blinks", ": for bright backgrounds set the non-blink flag"),
+    ("dark grey", "a character is dark grey on black", ": some terminals show it as black"),
 ]
+# Bytes that look as a blank does.
+UNSEEN, DARK_GREY = {0x00, 0x20, 0xFF}, 0x08
 LATIN_LETTERS = "äèéêñòóôöü".encode("latin-1")
 LETTER_IN_UTF8 = re.compile(rb"[A-Za-z]\xc3(?:[\x80-\x96\x98-\xaf]|[\xb0-\xb6\xb8-\xbf](?=[A-Za-z]))")
 LETTER_IN_LATIN1 = re.compile(rb"[a-z][" + LATIN_LETTERS + rb"][a-z]")
@@ -202,7 +205,7 @@ def cells_of(machine, lines):
 def mend_text(chance, content, width, lines, picture):
     """What the program says of the mending; and what speaks against it."""
     mended = answer(MENDING + content, starts(chance, width, lines, []))
-    what = "begin with ESC[?7h ESC[0m ESC[2J ESC[H ESC[s"
+    what = "begin with ESC[?7h ESC[0;37;40m ESC[2J ESC[H ESC[s"
     return what if mended == picture else f"{what}, but then {mended}"
 
 
@@ -295,6 +298,8 @@ def hints_of_token(token, machine, content, offset, end):
         "letter in Latin-1": (LETTER_IN_LATIN1.match(content, offset), end),
         "board code": (BOARD_CODE.match(content, offset), offset),
         "blinking": (machine.attribute & 0x80, offset),
+        "seen": (token[1] not in UNSEEN, offset),
+        "dark grey": (token[1] not in UNSEEN and machine.attribute == DARK_GREY, offset),
     }
     return {what: place for what, (is_there, place) in found.items() if is_there}
 
@@ -326,6 +331,8 @@ class Hints:
             printed.update(rows_printed(token, machine))
             rows.leave(token, machine)
         self.offsets.update(rows.offsets())
+        if 10 * len(self.offsets["dark grey"]) <= len(self.offsets["seen"]):
+            self.offsets["dark grey"] = []
         self.widest, self.empty = rows.widest(), lines - 1 - max(printed)
         straight_down = self.offsets["loose line feed"] and not rows.returns
         self.torn = bool(straight_down or rows.all_end() or self.widest or self.offsets["UTF-8"])
@@ -606,6 +613,10 @@ def a_why_piece(chance, width, lines):
     if kind < 0.57:
         return b"".join(a_foreign_code(chance) for _ in range(chance.choice([1, 2, 3])))
     if kind < 0.66:
+        if chance.random() < 0.4:
+            dark = chance.choice([b"0;1;30;40", b"0;1;30;40", b"1;30", b"0;30", b"0;1;30;44", b"0;5;1;30"])
+            text = bytes(chance.choices(b"A  \xff\x00", k=chance.choice([1, 1, 2, 5])))
+            return b"\x1b[" + dark + b"m" + text + chance.choice([b"", b"\x1b[0m", b"\x1b[0mAAAAAAAAA"])
         numbers = [b"5", b"5", b"38;5;208", b"48", b"37", b"39", b"89", b"90", b"97", b"98", b"100", b"107", b"108"]
         return b"\x1b[" + chance.choice(numbers) + b"m"
     if kind < 0.71:

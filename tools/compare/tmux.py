@@ -3,13 +3,14 @@
 
 The drawings have 80 columns and 24 lines, and are made of what every terminal knows: the bytes 20h to 7Eh, the colours
 0, 1, 5, 30 to 37 and 40 to 47, places, and CR LF. No byte is printed in the last column, where terminals wait with the
-wrap. They pass from the cleared start. `mend` writes each, and its content, without the record, is played by `cat`
-in one pane of 80 columns and 25 rows, behind text in other colours that scrolls, and so behind the drawings before
-it. The cells of the first 24 rows have to be those that `check --cleared --cells` prints of the drawing as it was.
-White and black are the pane's own colours there.
+wrap. They pass from the cleared start. `mend --name-colours` writes each, and its content, without the record, is
+played by `cat` in one pane of 80 columns and 25 rows, behind text in other colours that scrolls, and so behind the
+drawings before it. The cells of the first 24 rows have to be those that `check --cleared --cells` prints of the drawing
+as it was, in named colours: the pane's own white and black are told apart from these.
 
 `tmux capture-pane` tells a row's cells up to the last one that was written; what stands behind them was cleared,
 and has to be a blank on black. So an attribute that would not show there, as that of bright blanks, is not compared.
+Of a blank that was cleared it tells the pane's own foreground, which is not seen and not compared.
 
 It needs Debian's `tmux`. Run it in `crates/anscheck`, after `rt run -- check --cleared data/hi.ans` has built the
 program, with a number that seeds the drawings and how many there shall be:
@@ -36,8 +37,9 @@ WIDTH, LINES = 80, 24
 COLOURS = [0, 1, 5] + list(range(30, 38)) + list(range(40, 48))
 # The colours of DOS by the numbers of a terminal.
 DOS = [0, 4, 2, 6, 1, 5, 3, 7]
-# A bit of the attributes that DOS does not have.
-OTHER = 0x100
+# Bits beside those of an attribute: DOS has no such one; the foreground, or the background, is the pane's own.
+OTHER, OWN_FOREGROUND, OWN_BACKGROUND = 0x100, 0x200, 0x400
+OWN = 0x07 | OWN_FOREGROUND | OWN_BACKGROUND
 TOLD = re.compile(r"\x1b\[([0-9;]*)m|(.)", re.DOTALL)
 
 
@@ -126,6 +128,10 @@ class Pane:
         """So many rows as tmux tells them."""
         return self.tmux("capture-pane", "-e", "-N", "-p").split("\n")[:count]
 
+    def all_rows(self):
+        """Those that have scrolled off, too."""
+        return self.tmux("capture-pane", "-e", "-N", "-p", "-S", "-").split("\n")[:-1]
+
     def close(self):
         self.tmux("kill-server")
         self.pipe.close()
@@ -135,15 +141,17 @@ def changed_attribute(attribute, numbers):
     """The attribute behind a sequence of colours, as tmux writes it, and xterm in a print."""
     for number in [int(number or 0) for number in numbers.split(";")]:
         if number == 0:
-            attribute = 0x07
+            attribute = OWN
         elif number in (1, 5):
             attribute |= 0x08 if number == 1 else 0x80
         elif 30 <= number <= 37 or number == 39:
-            attribute = attribute & 0xF8 | DOS[number - 30 if number < 38 else 7]
+            fore = DOS[number - 30] if number < 38 else 0x07 | OWN_FOREGROUND
+            attribute = attribute & ~(0x07 | OWN_FOREGROUND) | fore
         elif 40 <= number <= 47 or number == 49:
-            attribute = attribute & 0x8F | DOS[number - 40 if number < 48 else 0] << 4
+            back = DOS[number - 40] << 4 if number < 48 else OWN_BACKGROUND
+            attribute = attribute & ~(0x70 | OWN_BACKGROUND) | back
         elif 90 <= number <= 97:
-            attribute = attribute & 0xF0 | DOS[number - 90] | 0x08
+            attribute = attribute & ~(0x07 | OWN_FOREGROUND) | DOS[number - 90] | 0x08
         else:
             attribute |= OTHER
     return attribute
@@ -151,7 +159,7 @@ def changed_attribute(attribute, numbers):
 
 def told_cells(rows):
     """The cells that tmux tells of each row. A row begins in the colours of the one before."""
-    cells, attribute = [], 0x07
+    cells, attribute = [], OWN
     for row in rows:
         cells.append([])
         for numbers, character in TOLD.findall(row):
@@ -165,6 +173,11 @@ def told_cells(rows):
 # The comparison.
 
 
+def seen(character, attribute):
+    """The cell, of a blank without a foreground of the pane's own."""
+    return character, attribute & ~OWN_FOREGROUND if character == 0x20 else attribute
+
+
 def difference(told, cells):
     """The first cell that differs, and how many cells were told."""
     for row in range(LINES):
@@ -172,8 +185,8 @@ def difference(told, cells):
             at = 2 * (row * WIDTH + column)
             byte, attribute = cells[at:at + 2]
             is_told = column < len(told[row])
-            if told[row][column] != (byte, attribute) if is_told else byte != 0x20 or attribute & 0x70:
-                shown = told[row][column] if is_told else "a blank"
+            shown = seen(*told[row][column]) if is_told else "a blank"
+            if shown != (byte, attribute) if is_told else byte != 0x20 or attribute & 0x70:
                 return f"row {row + 1}, column {column + 1}: {shown}, not {(byte, attribute)}"
     return None
 
@@ -185,7 +198,8 @@ def passing_drawings(program, random_, count):
         content = Maker(random_).drawing()
         cells = cells_of(program, LINES, content)
         if cells is not None:
-            passing.append((content, cells, said(program, ["mend"], ans_file(LINES, content)).partition(b"\x1a")[0]))
+            mended = said(program, ["mend", "--name-colours"], ans_file(LINES, content)).partition(b"\x1a")[0]
+            passing.append((content, cells, mended))
     return passing
 
 

@@ -92,7 +92,7 @@ COMMANDS = [
     ["check"], ["check", "--cleared"], ["check", "--cleared", "--cells"],
     ["check", "--known-cursor", "--known-colours"], ["show"], ["show", "--html", "--any"], ["why"], ["needs"],
     ["sauce"], ["tokens"], ["table"], ["table", "--json"], ["mend"], ["redraw"],
-    ["mend", "--take-out", "--line-ends", "--full-rows", "--least-lines", "--width", "80"],
+    ["mend", "--take-out", "--line-ends", "--full-rows", "--name-colours", "--least-lines", "--width", "80"],
 ]
 OTHER_WORDS = [["--help"], ["check", "--help"], ["check", "--bogus"], []]
 

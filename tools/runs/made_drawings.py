@@ -23,7 +23,7 @@ import sys
 
 EXAMPLES = "/usr/share/doc/ansilove/examples/*/*.ans"
 COMPARED = ("at", "found", "is", "note", "hint", "lines")
-# The mending without ESC[H and ESC[s, 13 bytes. So what follows stands at offset 13.
+# Wrap, colours and screen are set, by 13 bytes. So what follows stands at offset 13.
 SAFE = b"\x1b[?7h\x1b[0m\x1b[2J"
 CRLF = b"\r\n"
 
@@ -136,6 +136,10 @@ def blinks(count, first):
     return times("a character blinks", count, first, ": for bright backgrounds set the non-blink flag")
 
 
+def dark(count, first):
+    return times("a character is dark grey on black", count, first, ": some terminals show it as black")
+
+
 def below(offset):
     return f"at {offset}: F20 print below the stated lines"
 
@@ -218,6 +222,8 @@ MISTAKES = [
     Drawing("a bright colour of later terminals", SAFE + b"\x1b[91m" + rows(60), (later(1, 13),)),
     Drawing("one of 256 colours, whose 5 makes text blink", SAFE + b"\x1b[38;5;208m" + rows(60),
             (later(1, 13), blinks(1200, 24))),
+    Drawing("shadows in dark grey on black", SAFE + b"\x1b[1;30m" + rows(60, count=3) + b"\x1b[0m" + rows(60, count=17),
+            (dark(180, 20),)),
 ]
 
 # Nothing is said of these: no hint, no note, and they pass.
@@ -245,6 +251,9 @@ MEANT = [
     Drawing("a calendar", SAFE + texts("| 1 | 02 |03|04|05 | Mo|Tu|07|")),
     Drawing("addresses", SAFE + texts("sysop@example.org, @home, @ X1F, me@Xanadu, me@Xactly")),
     Drawing("wrap off, rows up to the edge with CR LF", SAFE + b"\x1b[?7l" + rows(80)),
+    Drawing("a tenth in dark grey on black",
+            SAFE + b"\x1b[1;30m" + rows(60, count=2) + b"\x1b[0m" + rows(60, count=18)),
+    Drawing("dark grey on blue", SAFE + b"\x1b[1;30;44m" + rows(60)),
     Drawing("sixteen colours", SAFE + rows(60, b"\x1b[0;1;31;44m\r\n")),
     Drawing("bright backgrounds with their flag", SAFE + b"\x1b[5;44m" + rows(60), flags=1),
     Drawing("an arrow by its other byte", SHORT[:663] + b"\x10" + SHORT[664:]),

@@ -43,7 +43,12 @@ def in_front(content, width=2, lines=1):
     return file_of(MENDING + content, width, lines)
 
 
-MENDING = b"\x1b[?7h\x1b[0m\x1b[2J\x1b[H\x1b[s"
+def redrawn(content, width=2, lines=1):
+    """The file of a picture that is drawn so."""
+    return in_front(content + b"\x1b[0m", width, lines)
+
+
+MENDING = b"\x1b[?7h\x1b[0;37;40m\x1b[2J\x1b[H\x1b[s"
 HI = "data/hi.ans"
 BOX = "data/box.ans"
 HARBOUR = "data/harbour.ans"
@@ -61,10 +66,10 @@ HI_RECORD = (
 HI_TOKENS = b"0 1 glyph 48\n1 1 glyph 69\n"
 HI_SHOWN = b"\x1b[0;37;40mHi\x1b[0m\n"
 HI_WHY = (
-    b"size: 2 x 1\nverdict: pass\nneeds: cursor colours\nplayers: any\ntaller: yes\n"
+    b"size: 2 x 1\nverdict: pass\nneeds: cursor colours\nplayers: own-colours\nat 0: own-colours, 2 times\ntaller: yes\n"
     b"at 0: F22 print at an unknown place\nbytes: H\n"
     b"low start: row 1, column 1\nhigh start: row 2, column 2\n"
-    b"mend: begin with ESC[?7h ESC[0m ESC[2J ESC[H ESC[s\n"
+    b"mend: begin with ESC[?7h ESC[0;37;40m ESC[2J ESC[H ESC[s\n"
 )
 HI_NEEDS = b"size: 2 x 1\ncontent: 2 bytes\nneeds: cursor colours\n"
 TABLE_HEADER = (
@@ -74,10 +79,10 @@ TABLE_HEADER = (
 HI_OBJECT = (
     b'{"author":"","comments":[],"content":2,"date":"19960101","file":"data/hi.ans","font":"","group":"",'
     b'"ice":false,"lines":1,"needs":["cursor","colours"],"notes":[],"on_every_player":["cursor","colours"],'
-    b'"players":[],"taller":true,"title":"","verdict":"pass","width":2}\n'
+    b'"players":["own-colours"],"taller":true,"title":"","verdict":"pass","width":2}\n'
 )
 HI_ROW = (
-    b"pass\tcursor colours\tany\tcursor colours\tyes\t\t\t\t\t2\t1\t2\t\tno\t\t\t\t19960101\t\t\t\tdata/hi.ans\n"
+    b"pass\tcursor colours\town-colours\tcursor colours\tyes\t\t\t\t\t2\t1\t2\t\tno\t\t\t\t19960101\t\t\t\tdata/hi.ans\n"
 )
 
 
@@ -154,18 +159,22 @@ Arguments:
   [FILE]  The file to read; - or none is standard input
 
 Options:
-      --take-out     Take out the sequences that players differ in
-      --line-ends    Put a return before each line feed, where there is none
-      --full-rows    Take out the line ends behind full rows, if each has one
-      --least-lines  State the least number of lines that is enough
-      --lines <N>    State N lines, where too few or none are stated: 1 to 8192
-      --width <N>    Give a drawing with no record one for N columns: 1 to 1024
-  -h, --help         Print help
+      --take-out      Take out the sequences that players differ in
+      --line-ends     Put a return before each line feed, where there is none
+      --full-rows     Take out the line ends behind full rows, if each has one
+      --name-colours  Put 37 and 40 after a 0 that something is printed in
+      --least-lines   State the least number of lines that is enough
+      --lines <N>     State N lines, if too few or none are stated: 1 to 8192
+      --width <N>     Give a drawing with no record one of N columns: 1 to 1024
+  -h, --help          Print help
 
 The mended file goes to standard output: give it another name, as in
   anscheck mend drawing.ans > mended.ans
 since the shell empties a file before it is read. Each change is told on
 standard error; without a flag only what is safe is changed.
+
+--name-colours is for terminals whose own white and black, those of a 0, are
+not those of 37 and 40: the drawing then shows in the latter everywhere.
 
 Exit status:
   0  A file was written, or help was asked for
@@ -186,8 +195,10 @@ The redrawn file goes to standard output: give it another name, as in
   anscheck redraw drawing.ans > redrawn.ans
 since the shell empties a file before it is read. The picture is the one that
 the drawing shows in the end on a cleared screen, so an animation becomes
-still; it then shows from every start. Comments and record stay, but for the
-file size; an end mark is put behind the drawing where there is none.
+still; it then shows from every start. Record and comments stay, except the
+file size, and an end mark is put after the drawing where there is none. Both
+colours are named after each 0, and ESC[0m ends it. It shows on screens of two
+rows and more, of the stated columns or more; that is tried, not proved.
 
 Exit status:
   0  A file was written, or help was asked for
@@ -218,19 +229,22 @@ Without --any or a --known flag all five are assumed: a screen just cleared.
 """ + STATUSES
 
 
-def file_help(about, command, success):
-    """The help of a command that takes no flags, by when its exit status is 0."""
+def file_help(about, command, success, more=""):
+    """The help of a command that takes no flags, by when its exit status is 0, and what else is said."""
     return (
         f"{about}\n\nUsage: anscheck {command} [FILE]\n\nArguments:\n"
         "  [FILE]  The file to read; - or none is standard input\n\n"
-        "Options:\n  -h, --help  Print help\n"
+        "Options:\n  -h, --help  Print help\n" + more
     ).encode() + statuses(success)
 
 
 SAUCE_HELP = file_help("Print what a file's SAUCE record says", "sauce",
                        "The record is accepted, or help was asked for")
 WHY_HELP = file_help("Say why a drawing is refused, what it relies on, and how to mend it", "why",
-                     "The file passes from the cleared screen, or help was asked for")
+                     "The file passes from the cleared screen, or help was asked for", """
+If players: names own-colours alone, the drawing is the same on every player in
+named colours; a light theme shows its own black and white.
+""")
 NEEDS_HELP = file_help("Print what a drawing relies on: screen, cursor, saved, colours, wrap", "needs",
                        "The file passes from the cleared screen, or help was asked for")
 TOKENS_HELP = file_help("Print the bytes and the escape sequences of a file, one a line", "tokens",
@@ -322,7 +336,7 @@ RUNS = [
         + b"refused\t\t\t\t\tF21\t249\t6\t1\t80\t5\t414\t\tno\t\t\tIBM VGA\t20260101\tRows\t\t\tdata/rows.ans\n",
         b"anscheck: 2 files: 1 pass, 1 refused, 0 not read\n"),
     Run("table of a drawing that needs more on every player", ["table", "--no-header", BOX], 0,
-        b"pass\tnothing\tany\tcursor\tyes\t\t\t\t\t14\t2\t52\tN3 N4\tno\t\t\t\t1996\t\t\t\tdata/box.ans\n",
+        b"pass\tnothing\town-colours\tcursor\tyes\t\t\t\t\t14\t2\t52\tN3 N4\tno\t\t\t\t1996\t\t\t\tdata/box.ans\n",
         b"anscheck: 1 file: 1 pass, 0 refused, 0 not read\n"),
     Run("table of files that are not read", ["table", "--no-header", "data/none.ans", "data", HI], 2,
         error_row(b"cannot open the file", b"data/none.ans")
@@ -342,34 +356,41 @@ RUNS = [
         stderr=b"anscheck: cannot write the report\n", output="/dev/full"),
     # Files that are mended, and what is said of them.
     Run("mended, from standard input", ["mend"], 0, in_front(b"Hi"),
-        b"put 19 bytes in front\nfile size 21, was 2\n", stdin=HI),
+        b"put 25 bytes in front\nfile size 27, was 2\n", stdin=HI),
     Run("mended, a named file", ["mend", HI], 0, in_front(b"Hi"),
-        b"put 19 bytes in front\nfile size 21, was 2\n"),
+        b"put 25 bytes in front\nfile size 27, was 2\n"),
     Run("mended, a file that passes already", ["mend"], 0, in_front(b"Hi"), stdin=in_front(b"Hi")),
     Run("mended with each flag, where none is wanted",
         ["mend", "--take-out", "--line-ends", "--full-rows", "--least-lines", "--lines", "9", "--width=80", HI], 0,
-        in_front(b"Hi"), b"put 19 bytes in front\nfile size 21, was 2\n"),
+        in_front(b"Hi"), b"put 25 bytes in front\nfile size 27, was 2\n"),
     Run("mended, with bytes behind the record", ["mend"], 0, in_front(b"Hi"),
-        b"cut 2 bytes at 131, behind the record\nput 19 bytes in front\nfile size 21, was 2\n",
+        b"cut 2 bytes at 131, behind the record\nput 25 bytes in front\nfile size 27, was 2\n",
         stdin=file_of(b"Hi") + b"\r\n"),
     Run("mended, without an end mark", ["mend"], 0, in_front(b"Hi"),
-        b"put an end mark at 2\nput 19 bytes in front\nfile size 21, was 2\n",
+        b"put an end mark at 2\nput 25 bytes in front\nfile size 27, was 2\n",
         stdin=b"Hi" + plain_record(2, 1, 2)),
     Run("mended, a sequence taken out", ["mend", "--take-out"], 0, in_front(b"Hi"),
-        b"took out <ESC>[?25l at 0\nput 19 bytes in front\nfile size 21, was 8\n", stdin=file_of(b"\x1b[?25lHi")),
+        b"took out <ESC>[?25l at 0\nput 25 bytes in front\nfile size 27, was 8\n", stdin=file_of(b"\x1b[?25lHi")),
     Run("mended, returns put", ["mend", "--line-ends"], 0, in_front(b"a\r\nb", 2, 2),
-        b"put a return before a line feed at 1\nput 19 bytes in front\nfile size 23, was 3\n",
+        b"put a return before a line feed at 1\nput 25 bytes in front\nfile size 29, was 3\n",
         stdin=file_of(b"a\nb", 2, 2)),
     Run("mended, full rows joined", ["mend", "--full-rows"], 0, in_front(b"HiHoHu", 2, 3),
-        b"took out a line end behind a full row, 2 times, first at 2\nput 19 bytes in front\n"
-        b"file size 25, was 10\n", stdin=file_of(b"Hi\r\nHo\r\nHu", 2, 3)),
+        b"took out a line end behind a full row, 2 times, first at 2\nput 25 bytes in front\n"
+        b"file size 31, was 10\n", stdin=file_of(b"Hi\r\nHo\r\nHu", 2, 3)),
+    Run("mended, colours named", ["mend", "--name-colours"], 0, in_front(b"\x1b[0;37;40mHi\x1b[0m"),
+        b"named the colours of a sequence at 0\nput 25 bytes in front\nfile size 41, was 10\n",
+        stdin=file_of(b"\x1b[0mHi\x1b[0m")),
+    Run("mended, colours named apart", ["mend", "--name-colours"], 0,
+        in_front(b"\x1b[m\x1b[37;40mH\x1b[m\x1b[37;40m\x1b[1mi"),
+        b"named the colours of a sequence, 2 times, first at 0\nput 25 bytes in front\nfile size 53, was 10\n",
+        stdin=file_of(b"\x1b[mH\x1b[;1mi")),
     Run("mended, the least lines", ["mend", "--least-lines"], 0, in_front(b"Hi!", 2, 2),
-        b"lines 2, was 1\nput 19 bytes in front\nfile size 22, was 3\n", stdin=file_of(b"Hi!")),
+        b"lines 2, was 1\nput 25 bytes in front\nfile size 28, was 3\n", stdin=file_of(b"Hi!")),
     Run("mended, so many lines", ["mend", "--lines", "8192"], 0, in_front(b"Hi!", 2, 8192),
-        b"lines 8192, was 1\nput 19 bytes in front\nfile size 22, was 3\n", stdin=file_of(b"Hi!")),
+        b"lines 8192, was 1\nput 25 bytes in front\nfile size 28, was 3\n", stdin=file_of(b"Hi!")),
     Run("mended, with a record", ["mend", "--width", "2"], 0,
         in_front(b"Hi").replace(b"19960101", b"00000000"),
-        b"put an end mark and a record of 2 columns at 2\nlines 1, was 0\nput 19 bytes in front\nfile size 21, was 0\n", stdin=b"Hi"),
+        b"put an end mark and a record of 2 columns at 2\nlines 1, was 0\nput 25 bytes in front\nfile size 27, was 0\n", stdin=b"Hi"),
     Run("mended no more than in front, a refused drawing", ["mend"], 1,
         stderr=b"at 2: F20 print below the stated lines\n"
         b"help: may be added (see anscheck why): --line-ends --full-rows --take-out --least-lines\n", stdin=file_of(b"Hi!")),
@@ -387,25 +408,25 @@ RUNS = [
     Run("no file for a full device", ["mend"], 1, stderr=b"at 0: F1 no SAUCE record\n"
         b"help: --width N gives a drawing without a record one for N columns\n", output="/dev/full"),
     # Files that are redrawn, and what is said of them.
-    Run("redrawn, from standard input", ["redraw"], 0, in_front(b"Hi"),
-        b"content length 21, was 2\nfile size 21, was 2\n", stdin=HI),
-    Run("redrawn, a named file", ["redraw", HI], 0, in_front(b"Hi"),
-        b"content length 21, was 2\nfile size 21, was 2\n"),
-    Run("redrawn once more", ["redraw", "-"], 0, in_front(b"Hi"), b"content length 21, was 21\n", stdin=in_front(b"Hi")),
-    Run("redrawn, an animation", ["redraw"], 0, in_front(b"B", 3),
-        b"content length 20, was 5\nfile size 20, was 5\n", stdin=file_of(b"A\x1b[HB", 3)),
-    Run("redrawn, a line end behind a full row", ["redraw"], 0, in_front(b"AB \r\nC", 2, 3),
-        b"content length 25, was 5\nfile size 25, was 5\n", stdin=file_of(b"AB\r\nC", 2, 3)),
-    Run("redrawn, colours that are not set back", ["redraw"], 0, in_front(b"\x1b[1;44mA\x1b[0m", 2),
-        b"content length 31, was 8\nfile size 31, was 8\n", stdin=file_of(b"\x1b[1;44mA", 2)),
-    Run("redrawn, without an end mark", ["redraw"], 0, in_front(b"Hi"),
-        b"content length 21, was 2\nput an end mark at 21\nfile size 21, was 2\n", stdin=b"Hi" + plain_record(2, 1, 2)),
+    Run("redrawn, from standard input", ["redraw"], 0, redrawn(b"Hi"),
+        b"content length 31, was 2\nfile size 31, was 2\n", stdin=HI),
+    Run("redrawn, a named file", ["redraw", HI], 0, redrawn(b"Hi"),
+        b"content length 31, was 2\nfile size 31, was 2\n"),
+    Run("redrawn once more", ["redraw", "-"], 0, redrawn(b"Hi"), b"content length 31, was 31\n", stdin=redrawn(b"Hi")),
+    Run("redrawn, an animation", ["redraw"], 0, redrawn(b"B", 3),
+        b"content length 30, was 5\nfile size 30, was 5\n", stdin=file_of(b"A\x1b[HB", 3)),
+    Run("redrawn, a line end behind a full row", ["redraw"], 0, redrawn(b"\n\x1b[AAB\x1b[2H\r\nC", 2, 3),
+        b"content length 42, was 5\nfile size 42, was 5\n", stdin=file_of(b"AB\r\nC", 2, 3)),
+    Run("redrawn, colours that are not set back", ["redraw"], 0, redrawn(b"\x1b[1;44mA", 2),
+        b"content length 37, was 8\nfile size 37, was 8\n", stdin=file_of(b"\x1b[1;44mA", 2)),
+    Run("redrawn, without an end mark", ["redraw"], 0, redrawn(b"Hi"),
+        b"content length 31, was 2\nput an end mark at 31\nfile size 31, was 2\n", stdin=b"Hi" + plain_record(2, 1, 2)),
     Run("redrawn, a drawing that is refused", ["redraw"], 1,
         stderr=b"at 2: F20 print below the stated lines\n" + REDRAW_ADVICE, stdin=file_of(b"Hi!")),
     Run("redrawn, with bytes behind the record", ["redraw"], 1,
         stderr=b"at 133: F1 no SAUCE record\n" + REDRAW_ADVICE, stdin=file_of(b"Hi") + b"\r\n"),
     Run("redrawn, the longest file", ["redraw"], 1,
-        stderr=b"the redrawn file would have 16777235 bytes, and 16777216 are the most\n"
+        stderr=b"the redrawn file would have 16777245 bytes, and 16777216 are the most\n"
         b"help: fewer cells, end marks or changes of colour make it shorter\n",
         stdin=b"Hi" + b"\x1a" * (LARGEST_FILE - 130) + plain_record(2, 1, 2)),
     Run("redrawn, too long a file", ["redraw"], 2,

@@ -2,7 +2,7 @@
 """Mends random drawings, and compares what DOSBox then shows behind another drawing with what was meant.
 
 The drawings are of the kind that `dosbox.py` makes, with 24 lines, and pass from the cleared start. `mend` writes
-each. DOSBox plays the mended content on the screen that the mended content before it was played on. What its first 24
+each, by turns by itself and with `--name-colours`. DOSBox plays the mended content on the screen that the mended content before it was played on. What its first 24
 rows show has to be the cells that `check --cleared --cells` prints of the drawing as it was. DOSBox prints `7h` of
 the `ESC[?7h` in front, and the clear behind that wipes it out.
 
@@ -11,8 +11,8 @@ has built the program, with a number that seeds the drawings and how many there 
 
     python3 ../../tools/compare/dosbox/mended.py out/anscheck 1 2000
 
-It prints the drawings of which a cell differs, and then how many were compared, and how many of them have something
-put in front. Its status is 1 where one differs.
+It prints the drawings of which a cell differs, and then how many were compared, and how many of them are changed. Its
+status is 1 where one differs.
 """
 import concurrent.futures
 import random
@@ -31,11 +31,12 @@ def drawing(random_):
 
 
 def tried(program, content):
-    """The content, the cells that it has from the cleared start, and the mended content; or None."""
+    """The content, the cells that it has from the cleared start, and the mended content, named or not; or None."""
     cells = cells_of(program, LINES, content)
     if cells is None:
         return None
-    return content, cells, said(program, ["mend"], ans_file(LINES, content)).partition(b"\x1a")[0]
+    flags = ["--name-colours"] if len(content) % 2 else []
+    return content, cells, said(program, ["mend", *flags], ans_file(LINES, content)).partition(b"\x1a")[0]
 
 
 def passing_drawings(program, random_, count):
@@ -63,8 +64,8 @@ def main(program, seed, count):
             different += 1
             cell = next(at for at in range(len(cells)) if shown[at] != cells[at]) // 2
             print(f"row {cell // WIDTH + 1}, column {cell % WIDTH + 1}: {content!r}, mended {mended!r}")
-    longer = sum(mended.endswith(content) and mended != content for content, _, mended in passing)
-    print(f"{len(screens)} mended drawings, {different} differ; {longer} have something in front")
+    longer = sum(mended != content for content, _, mended in passing)
+    print(f"{len(screens)} mended drawings, {different} differ; {longer} are changed")
     return different > 0
 
 
