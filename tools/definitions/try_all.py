@@ -8,8 +8,8 @@ Run it anywhere, with the names of edits or with none for all:
 
 An edit is written as those in `must-fail/`, but its files are named from the folder `crates` on. It is tried on a copy
 of `ans_model` and of `ans_laws` without the examples of texts, which are read by the scanner, so that no third crate
-has to be proved again. For each edit the script prints which of the two crates refuses it, and why. It ends with 0
-where each edit is refused. It takes a minute or two for each.
+has to be proved again. For each edit the script prints which of the two crates refuses it, and why; or that it does not
+fit, and goes on. It ends with 0 if each edit fits and is refused. It takes a minute or two for each.
 """
 import os
 import re
@@ -64,8 +64,12 @@ def check(room, name):
     return proved[-1] == "proved", ran.stdout
 
 
+class Unfit(Exception):
+    """An edit that does not fit its file."""
+
+
 def apply(edit, room):
-    """Makes the changes of an edit."""
+    """Makes the changes of an edit, or raises Unfit."""
     path = old = None
     with open(edit, encoding="utf-8") as it:
         lines = it.read().splitlines()
@@ -79,13 +83,13 @@ def apply(edit, room):
             with open(path, encoding="utf-8") as it:
                 whole = it.read()
             if whole.count(old) != 1:
-                sys.exit(f"{edit}: this stands {whole.count(old)} times in {path}: {old}")
+                raise Unfit(f"this is {whole.count(old)} times in {os.path.relpath(path, room)}: {old}")
             with open(path, "w", encoding="utf-8") as it:
                 it.write(whole.replace(old, text))
 
 
 def refusal(edit, proved, at):
-    """Returns the crate that refuses an edit, with its first complaint, or None."""
+    """Returns the crate that refuses an edit, with its first complaint, or None. Raises Unfit if it does not fit."""
     shutil.copytree(proved, at, symlinks=True)
     apply(edit, at)
     for name in TRIED:
@@ -109,10 +113,14 @@ def main(names):
             if not check(proved, name)[0]:
                 sys.exit(f"{name} is not proved as it stands")
         for edit in [f"{name}.edit" for name in names] or edits:
-            by = refusal(f"{EDITS}/{edit}", proved, f"{room}/tried")
+            try:
+                by = refusal(f"{EDITS}/{edit}", proved, f"{room}/tried")
+                said = f"refused by {by}" if by else "NOT REFUSED"
+            except Unfit as reason:
+                by, said = None, f"DOES NOT FIT: {reason}"
             shutil.rmtree(f"{room}/tried")
             missed += by is None
-            print(f"{edit}: {'refused by ' + by if by else 'NOT REFUSED'}", flush=True)
+            print(f"{edit}: {said}", flush=True)
     return 1 if missed else 0
 
 
