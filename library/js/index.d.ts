@@ -158,7 +158,7 @@ export interface NotMade {
 
 /** What may be changed to mend a file besides what is mended by itself. */
 export interface MendOptions {
-  /** Sequences that players differ in are taken out, and as few line ends at the very end as must go. */
+  /** Refused sequences, such as screen modes, are taken out, and as few line ends at the very end as must go. */
   takeOut?: boolean;
   /** A return is put before each line feed of a drawing that has no return. */
   lineEnds?: boolean;

@@ -59,7 +59,7 @@ function pictureMended(file, classes) {
   return { ...checker.check(CLEARED), brightBackgrounds: ice, without };
 }
 
-/** The picture without the sequences that players differ in, where taking them out is enough. */
+/** The picture without the refused sequences, if taking them out is enough. */
 function pictureWithout(file) {
   const picture = pictureMended(file, CLASSES.takeOut) ?? pictureMended(file, CLASSES.takeOut | CLASSES.leastLines);
   return picture && !isEmpty(picture) ? picture : null;

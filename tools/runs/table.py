@@ -111,7 +111,7 @@ Usage: anscheck <COMMAND>
 
 Commands:
   why     Say why a drawing is refused, what it relies on, and how to mend it
-  mend    Write a drawing mended, so that it shows the same everywhere
+  mend    Write a drawing mended, so that it shows the same from every start
   redraw  Write the picture anew, in the plainest form there is
   needs   Print what a drawing relies on: screen, cursor, saved, colours, wrap
   check   Check that a file always shows the same picture, and print it
@@ -151,7 +151,7 @@ Options:
       --cells          Print each cell too: its byte and its attribute, in hex
   -h, --help           Print help
 """ + STATUSES
-MEND_HELP = b"""Write a drawing mended, so that it shows the same everywhere
+MEND_HELP = b"""Write a drawing mended, so that it shows the same from every start
 
 Usage: anscheck mend [OPTIONS] [FILE]
 
@@ -159,7 +159,7 @@ Arguments:
   [FILE]  The file to read; - or none is standard input
 
 Options:
-      --take-out      Take out the sequences that players differ in
+      --take-out      Take out refused sequences, such as screen modes
       --line-ends     Put a return before each line feed, where there is none
       --full-rows     Take out the line ends behind full rows, if each has one
       --name-colours  Put 37 and 40 after a 0 that something is printed in

@@ -14,8 +14,9 @@ use Rattle.ans_tokens.specs.Walk.{Front, WalksTo, front_with}
 use Rattle.ans_tokens.proofs.Scanning.{split_reading}
 use Rattle.ans_tokens.proofs.Walked.{never_refused, walked_all}
 use Rattle.ans_walks.proofs.KindsFound.{one, spelled_behind, spelled_more}
+use Rattle.ans_walks.specs.NamesShown.{shown_names}
 use Rattle.ans_mend.specs.NamedColours.{begins_unnamed, both_named, names_at_print, takes_names}
-use Rattle.ans_mend.specs.NameSearch.{HasLookedAtFirst, IsFirst, names_of}
+use Rattle.ans_mend.specs.NameSearch.{HasLookedAtFirst, IsFirst}
 use Rattle.ans_mend.specs.declared.name_search.First.{First}
 
 module _ (first old : First) (front : Front) (t : TokenKind) (text behind : List ℕ)
@@ -24,15 +25,15 @@ module _ (first old : First) (front : Front) (t : TokenKind) (text behind : List
   xs = spelled front.tokens front.texts
 
   abbrev n : Names
-  n = names_of old.named
+  n = shown_names old.named
 
   looked_more : (new : First) (goes_on : Bool)
-      → IsFirst goes_on new.unnamed (names_of new.named) (xs ++ one t text ∷ [])
+      → IsFirst goes_on new.unnamed (shown_names new.named) (xs ++ one t text ∷ [])
       → HasLookedAtFirst first (front_with front t text behind) goes_on new
   looked_more new goes_on looked = record {
     texts = let long = h.texts in
         omega (arith, long, length-append front.texts (text ∷ []), length-append front.tokens (t ∷ []));
-    looked = subst (λ (v : List Spelled). IsFirst goes_on new.unnamed (names_of new.named) v)
+    looked = subst (λ (v : List Spelled). IsFirst goes_on new.unnamed (shown_names new.named) v)
         (sym (spelled_more front.tokens t front.texts text h.texts)) looked;
   }
 
@@ -56,7 +57,7 @@ module _ (first old : First) (front : Front) (t : TokenKind) (text behind : List
       ap (λ (v : Names). not (are_both v)) (goes more ∙ now) ∙ sym (is ∙ h.looked.0))
 
   pub first_other : (new : First) → paints t ≡ false → takes_names t ≡ false → new.unnamed ≡ old.unnamed
-      → names_of new.named ≡ names_after n t
+      → shown_names new.named ≡ names_after n t
       → HasLookedAtFirst first (front_with front t text behind) true new
   first_other new other keeps is names =
       looked_more new true (

@@ -12,7 +12,8 @@ use Rattle.ans_model.specs.declared.fault.Fault.{Fault}
 use Rattle.ans_players.specs.Situations.{spelled}
 use Rattle.ans_tokens.specs.Walk.{Front, Walks, WalksTo}
 use Rattle.ans_tokens.proofs.Walked.{never_refused}
-use Rattle.ans_mend.specs.NameSearch.{HasSearched, IsSearched, NoneGoes, WaitsIn, names_of}
+use Rattle.ans_walks.specs.NamesShown.{shown_names}
+use Rattle.ans_mend.specs.NameSearch.{HasSearched, IsSearched, NoneGoes, WaitsIn}
 use Rattle.ans_mend.specs.declared.name_search.Search.{Search}
 use Rattle.ans_mend.specs.declared.name_search.Taking.{Taking}
 use Rattle.ans_mend.proofs.SearchSteps.{none_goes, waiting_within}
@@ -34,14 +35,14 @@ module _ (bytes : List ℕ) (first now : Search) where
   found_none : Walks over_front bytes (length bytes) [] first now true → NoneGoes bytes
   found_none h =
       let all : bytes ≡ h.read = sym (take-length bytes) ∙ h.whole ∙ append-nil h.read in
-      none_goes bytes h.front.tokens h.front.texts now.taking (names_of now.named)
+      none_goes bytes h.front.tokens h.front.texts now.taking (shown_names now.named)
       (subst (λ (v : List ℕ). ReadsAs v h.front.tokens h.front.texts) (sym all) h.reads) h.over.searched
 
   pub none_waits : (over : Bool) → WalksTo over_front bytes (length bytes) first now (Ok over) → now.taking ≡ None
       → NoneGoes bytes
   none_waits true h none = found_none h
   none_waits false (left, h) none =
-      absurd (subst (λ (v : Option Taking). IsSearched false v (names_of now.named)
+      absurd (subst (λ (v : Option Taking). IsSearched false v (shown_names now.named)
       (spelled h.front.tokens h.front.texts)) none h.over.searched)
 
   pub none_waited : (over : Bool) → WalksTo over_front bytes (length bytes) first now (Ok over) → over ≡ true
@@ -74,8 +75,8 @@ module _ (bytes : List ℕ) (first now : Search) where
       → WaitsIn bytes (record { taking = taking; named = now.named; end = length bytes - now.behind })
   waits_there true h is taking some = absurd (false≢true (sym is))
   waits_there false (left, h) is taking some =
-      let found : IsSearched false (Some taking) (names_of now.named) (spelled h.front.tokens h.front.texts) =
-      subst (λ (v : Option Taking). IsSearched false v (names_of now.named)
+      let found : IsSearched false (Some taking) (shown_names now.named) (spelled h.front.tokens h.front.texts) =
+      subst (λ (v : Option Taking). IsSearched false v (shown_names now.named)
       (spelled h.front.tokens h.front.texts)) some h.over.searched in
       let reads : ReadsAs (concat h.front.texts) h.front.tokens h.front.texts =
       record { each = h.reads.each; whole = refl } in
@@ -89,5 +90,5 @@ module _ (bytes : List ℕ) (first now : Search) where
         end = omega (arith, left_behind left h, ap length whole, length-append (concat h.front.texts) left);
         waits = found.0;
         missing = found.1;
-        within = waiting_within bytes left h.front.tokens h.front.texts taking (names_of now.named) reads whole found.0;
+        within = waiting_within bytes left h.front.tokens h.front.texts taking (shown_names now.named) reads whole found.0;
       }

@@ -19,14 +19,15 @@ use Rattle.ans_tokens.specs.declared.token.Token.{Token}
 use Rattle.ans_walks.specs.Counted.{counted}
 use Rattle.ans_walks.specs.declared.times.Times.{Times}
 use Rattle.ans_walks.proofs.KindsFound.{one, spelled_more}
+use Rattle.ans_walks.specs.NamesShown.{shown_names}
 use Rattle.ans_mend.specs.NamedColours.{missing_numbers, named_content, named_sequence, named_text}
 use Rattle.ans_mend.specs.NamedColours.{numbers_to_zero, takes_names, through_numbers, times_named}
 use Rattle.ans_mend.specs.NameSearch.{GoesFirst, HasSearched, IsSearched, NoneGoes}
-use Rattle.ans_mend.specs.NameSearch.{Waits, bytes_of, names_of, taking_after}
+use Rattle.ans_mend.specs.NameSearch.{Waits, bytes_of, taking_after}
 use Rattle.ans_mend.specs.declared.name_search.Going.{Going}
 use Rattle.ans_mend.specs.declared.name_search.Search.{Search}
 use Rattle.ans_mend.specs.declared.name_search.Taking.{Taking}
-use Rattle.ans_mend.specs.declared.names.Named.{Named}
+use Rattle.ans_walks.specs.declared.names.Names as walked
 use Rattle.ans_mend.proofs.NamesWaiting.{bytes_append}
 use Rattle.ans_mend.proofs.Searching.{searched_other, searched_print, searched_taking}
 
@@ -67,27 +68,27 @@ some_bytes (t ∷ tokens) (x ∷ texts) reads some = go x refl
 module _ (first old : Search) (front : Front) (t : TokenKind) (text behind : List ℕ)
     (h : HasSearched first front true old) where
   pub searched_more : (new : Search) (goes_on : Bool) → new.behind ≡ length behind
-      → IsSearched goes_on new.taking (names_of new.named) (spelled front.tokens front.texts ++ one t text ∷ [])
+      → IsSearched goes_on new.taking (shown_names new.named) (spelled front.tokens front.texts ++ one t text ∷ [])
       → HasSearched first (front_with front t text behind) goes_on new
   searched_more new goes_on at searched = record {
     texts = let long = h.texts in
         omega (arith, long, length-append front.texts (text ∷ []), length-append front.tokens (t ∷ []));
     behind = at;
-    searched = subst (λ (v : List Spelled). IsSearched goes_on new.taking (names_of new.named) v)
+    searched = subst (λ (v : List Spelled). IsSearched goes_on new.taking (shown_names new.named) v)
         (sym (spelled_more front.tokens t front.texts text h.texts)) searched;
   }
 
   -- it prints or clears
   pub printed : (new : Search) (goes_on : Bool) → paints t ≡ true → new.behind ≡ length behind
-      → new.taking ≡ (if are_both (names_of old.named) then None else old.taking) → new.named ≡ old.named
+      → new.taking ≡ (if are_both (shown_names old.named) then None else old.taking) → new.named ≡ old.named
       → is_some new.taking ≡ not goes_on → HasSearched first (front_with front t text behind) goes_on new
   printed new goes_on prints at taking_is named_is some =
       let xs : List Spelled = spelled front.tokens front.texts in
-      let n : Names = names_of old.named in
+      let n : Names = shown_names old.named in
       let stops : goes_on ≡ is_none new.taking = none_if new.taking goes_on some in
       searched_more new goes_on at
-      (subst (λ (v : Bool). IsSearched v new.taking (names_of new.named) (xs ++ one t text ∷ [])) (sym stops)
-      (subst (λ (v : Named). IsSearched (is_none new.taking) new.taking (names_of v) (xs ++ one t text ∷ []))
+      (subst (λ (v : Bool). IsSearched v new.taking (shown_names new.named) (xs ++ one t text ∷ [])) (sym stops)
+      (subst (λ (v : walked.Names). IsSearched (is_none new.taking) new.taking (shown_names v) (xs ++ one t text ∷ []))
       (sym named_is)
       (subst (λ (v : Option Taking). IsSearched (is_none v) v n (xs ++ one t text ∷ [])) (sym taking_is)
       (searched_print xs (one t text) n old.taking (are_both n) prints refl h.searched))))
@@ -102,22 +103,22 @@ module _ (first old : Search) (front : Front) (t : TokenKind) (text behind : Lis
   pub passed : (new : Search) (token : Token) → paints t ≡ false → shown_kind (kind_of token) ≡ t
       → start_of token ≡ length (concat front.texts) → length_of token ≡ length text
       → new.behind ≡ length behind → new.taking ≡ taking_after old.taking token
-      → names_of new.named ≡ names_after (names_of old.named) t
+      → shown_names new.named ≡ names_after (shown_names old.named) t
       → HasSearched first (front_with front t text behind) true new
   passed new token other kind_is starts long at taking_is named_is =
       let xs : List Spelled = spelled front.tokens front.texts in
-      let n : Names = names_of old.named in
+      let n : Names = shown_names old.named in
       searched_more new true at
       (subst (λ (v : Names). IsSearched true new.taking v (xs ++ one t text ∷ [])) (sym named_is)
       (subst (λ (v : Option Taking). IsSearched true v (names_after n t) (xs ++ one t text ∷ [])) (sym taking_is)
       (by (takes_names t) refl)))
     where
       by : (takes : Bool) → takes_names t ≡ takes
-          → IsSearched true (taking_after old.taking token) (names_after (names_of old.named) t)
+          → IsSearched true (taking_after old.taking token) (names_after (shown_names old.named) t)
           (spelled front.tokens front.texts ++ one t text ∷ [])
       by true is =
           let xs : List Spelled = spelled front.tokens front.texts in
-          let n : Names = names_of old.named in
+          let n : Names = shown_names old.named in
           let taking : Taking =
           record { start = start_of token; length = length_of token; numbers = numbers_to_zero t } in
           let now : taking_after old.taking token ≡ Some taking = rw (kind_is, is) refl in
@@ -126,7 +127,7 @@ module _ (first old : Search) (front : Front) (t : TokenKind) (text behind : Lis
           (starts ∙ ap length (sym (spelled_bytes front.tokens front.texts h.texts))) long refl)
       by false is =
           let xs : List Spelled = spelled front.tokens front.texts in
-          let n : Names = names_of old.named in
+          let n : Names = shown_names old.named in
           let now : taking_after old.taking token ≡ old.taking = rw (kind_is, is) refl in
           subst (λ (v : Option Taking). IsSearched true v (names_after n t) (xs ++ one t text ∷ [])) (sym now)
           (searched_other xs (one t text) n old.taking other is h.searched)

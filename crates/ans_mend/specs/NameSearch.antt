@@ -11,6 +11,7 @@ use Rattle.ans_tokens.specs.Token.{kind_of, start_of, length_of}
 use Rattle.ans_tokens.specs.Walk.{Front}
 use Rattle.ans_tokens.specs.declared.token.Token.{Token}
 use Rattle.ans_walks.specs.Counted.{counted}
+use Rattle.ans_walks.specs.NamesShown.{shown_names}
 use Rattle.ans_walks.specs.declared.times.Times.{Times}
 use Rattle.ans_mend.specs.NamedColours.{begins_unnamed, named_content, named_sequence, names_at_print, numbers_to_zero}
 use Rattle.ans_mend.specs.NamedColours.{takes_names, times_named}
@@ -20,11 +21,6 @@ use Rattle.ans_mend.specs.declared.name_search.Going.{Going}
 use Rattle.ans_mend.specs.declared.name_search.Search.{Search}
 use Rattle.ans_mend.specs.declared.name_search.Taking.{Taking}
 use Rattle.ans_mend.specs.declared.name_search.Waiting.{Waiting}
-use Rattle.ans_mend.specs.declared.names.Named.{Named}
-
--- the program's names as those of the definitions
-abbrev pub names_of : Named → Names
-names_of n = record { foreground = n.foreground; background = n.background }
 
 -- the bytes of tokens
 abbrev pub bytes_of : List Spelled → List ℕ
@@ -71,7 +67,7 @@ IsSearched false (Some taking) n xs = Waits xs taking (λ more. n) × (are_both 
 pub record HasSearched (first : Search) (front : Front) (goes_on : Bool) (now : Search) : Type 0 where
   pub texts : length front.texts ≡ length front.tokens
   pub behind : now.behind ≡ length front.behind
-  pub searched : IsSearched goes_on now.taking (names_of now.named) (spelled front.tokens front.texts)
+  pub searched : IsSearched goes_on now.taking (shown_names now.named) (spelled front.tokens front.texts)
 
 -- the bytes are read, and no sequence gets names
 pub record NoneGoes (bytes : List ℕ) : Type 0 where
@@ -89,8 +85,8 @@ pub record WaitsIn (bytes : List ℕ) (w : Waiting) : Type 0 where
   pub reads : ReadsAs (concat texts) tokens texts
   pub whole : bytes ≡ concat texts ++ left
   pub end : w.end ≡ length (concat texts)
-  pub waits : Waits (spelled tokens texts) w.taking (λ more. names_of w.named)
-  pub missing : are_both (names_of w.named) ≡ false
+  pub waits : Waits (spelled tokens texts) w.taking (λ more. shown_names w.named)
+  pub missing : are_both (shown_names w.named) ≡ false
   pub within : w.taking.start + w.taking.length ≤ length bytes
 
 -- the first bytes are read, whatever comes: one sequence in them gets names, and the others stay
@@ -121,7 +117,7 @@ IsFirst false found n xs = (more : List Spelled) → begins_unnamed (xs ++ more)
 
 pub record HasLookedAtFirst (first : First) (front : Front) (goes_on : Bool) (now : First) : Type 0 where
   pub texts : length front.texts ≡ length front.tokens
-  pub looked : IsFirst goes_on now.unnamed (names_of now.named) (spelled front.tokens front.texts)
+  pub looked : IsFirst goes_on now.unnamed (shown_names now.named) (spelled front.tokens front.texts)
 
 -- ---- a content
 

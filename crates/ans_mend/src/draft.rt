@@ -1,6 +1,6 @@
 //! A file that is changed in place.
 
-ghost use Rattle.std.specs.Prelude.{◌≡◌, ◌+◌, ◌-◌, ◌≤◌, ◌<◌, ◌∷◌, ◌++◌, length, take, drop};
+ghost use Rattle.std.specs.Prelude.{◌≡◌, ◌+◌, ◌-◌, ◌≤◌, ◌<◌, ◌++◌, length, take};
 ghost use Rattle.ans_sauce.specs.Found.{front_in, record_in};
 ghost use Rattle.ans_mend.specs.Drafts.{draft_of, memory_of, overwritten, with_byte};
 

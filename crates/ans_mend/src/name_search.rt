@@ -7,13 +7,15 @@ ghost use Rattle.ans_model.specs.Sequence.Reads.{Reads, ReadsAs};
 ghost use Rattle.ans_players.specs.Situations.{spelled};
 ghost use Rattle.ans_mend.specs.NamedColours.{begins_unnamed};
 ghost use Rattle.ans_players.specs.Names.{are_both};
-ghost use Rattle.ans_mend.specs.NameSearch.{GoesFirst, NoneGoes, WaitsIn, names_of, taking_after};
+ghost use Rattle.ans_walks.specs.NamesShown.{shown_names};
+ghost use Rattle.ans_mend.specs.NameSearch.{GoesFirst, NoneGoes, WaitsIn, taking_after};
 
-use crate::names::{Named, has_zero, paints, takes_names};
+use crate::names::{has_zero, takes_names};
 use crate::naming::{count_to_zero, naming_of};
 use ans_model::fault::Fault;
 use ans_model::kind::Kind;
 use ans_tokens::{Token, Walker, walk};
+use ans_walks::{Names, paints};
 
 /// A colour sequence that takes the names away. Nothing was printed or cleared after it yet.
 #[derive(Clone, Copy)]
@@ -41,15 +43,15 @@ pub(crate) struct Going {
 #[derive(Clone, Copy)]
 struct Search {
     /// Which colours are named.
-    named: Named,
+    named: Names,
     taking: Option<Taking>,
     /// How many bytes stand behind the last token.
     behind: usize,
 }
 
 /// What still waits after something is printed or cleared while these colours are named.
-fn after_print(taking: Option<Taking>, named: Named) -> Option<Taking>
-    ensures { result ≡ (if are_both (names_of named) then None else taking) }
+fn after_print(taking: Option<Taking>, named: Names) -> Option<Taking>
+    ensures { result ≡ (if are_both (shown_names named) then None else taking) }
 {
     if named.are_both() { None } else { taking }
 }
@@ -91,7 +93,7 @@ impl Walker for Search {
 #[derive(Clone, Copy)]
 struct Waiting {
     taking: Taking,
-    named: Named,
+    named: Names,
     /// Behind the token that prints or clears.
     end: usize,
 }
@@ -104,7 +106,7 @@ fn waiting_in(bytes: &[u8]) -> Result<Option<Waiting>, Fault>
     ensures unread { OnErr result ((tokens : List TokenKind) → ¬ Reads bytes.now tokens) }
 {
     let mut search = Search {
-        named: Named::NEITHER,
+        named: Names::NONE,
         taking: None,
         behind: bytes.len(),
     };
@@ -155,7 +157,7 @@ pub(crate) fn next_going(bytes: &[u8]) -> Result<Option<Going>, Fault>
 /// Looks for what is printed or cleared first, up to the first sequence that takes the names away.
 #[derive(Clone, Copy)]
 struct First {
-    named: Named,
+    named: Names,
     unnamed: bool,
 }
 
@@ -188,7 +190,7 @@ pub fn begins_unnamed(content: &[u8]) -> bool
         → result ≡ begins_unnamed (spelled tokens texts) }
 {
     let mut first = First {
-        named: Named::NEITHER,
+        named: Names::NONE,
         unnamed: false,
     };
     let _ = walk(content, content.len(), &mut first);

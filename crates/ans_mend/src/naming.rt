@@ -1,14 +1,13 @@
 //! One colour sequence that names the colours after its last 0.
 
-ghost use Rattle.std.specs.Prelude.{◌≡◌, ◌+◌, ◌-◌, ◌≤◌, ◌<◌, ◌++◌, ◌&&◌, ◌||◌, ◌==◌, length, take, drop, false};
-ghost use Rattle.ans_model.specs.Bytes.{bracket, longest_file, semicolon};
+ghost use Rattle.std.specs.Prelude.{◌≡◌, ◌+◌, ◌-◌, ◌≤◌, ◌<◌, ◌++◌, length, take, drop, false};
+ghost use Rattle.ans_model.specs.Bytes.{longest_file};
 ghost use Rattle.ans_players.specs.Names.{are_both};
-ghost use Rattle.ans_players.specs.Situations.{omits};
+ghost use Rattle.ans_walks.specs.NamesShown.{shown_names};
 ghost use Rattle.ans_mend.specs.NamedColours.{count_to_zero, ends_number, missing_numbers, named_text, put_by};
 ghost use Rattle.ans_mend.specs.NamedColours.{through_numbers, way_of};
-ghost use Rattle.ans_mend.specs.NameSearch.{names_of};
 
-use crate::names::Named;
+use ans_walks::{Names, omits_number};
 
 /// Where the names of a sequence stand: in it, in one after it, or in one between it and what is left of it.
 #[derive(Clone, Copy)]
@@ -68,35 +67,10 @@ fn length_through(text: &[u8], count: usize) -> usize
     index
 }
 
-/// Whether between these two bytes of a colour sequence a number is omitted.
-fn omits_between(before: u8, byte: u8) -> bool
-    ensures { result
-        ≡ ((before == bracket || before == semicolon) && (byte == semicolon || byte == 0x6D)) }
-{
-    (before == b'[' || before == b';') && (byte == b';' || byte == b'm')
-}
-
-/// Whether a number of a colour sequence with this text is omitted.
-fn omits(text: &[u8]) -> bool
-    ensures { result ≡ omits text.now }
-{
-    let Some((first, rest)) = text.split_first() else {
-        return false;
-    };
-    let mut before = *first;
-    for byte in rest {
-        if omits_between(before, *byte) {
-            return true;
-        }
-        before = *byte;
-    }
-    false
-}
-
 /// How many bytes the missing numbers have.
-fn count_missing(named: Named) -> usize
-    requires { are_both (names_of named) ≡ false }
-    ensures { result ≡ length (missing_numbers (names_of named)) }
+fn count_missing(named: Names) -> usize
+    requires { are_both (shown_names named) ≡ false }
+    ensures { result ≡ length (missing_numbers (shown_names named)) }
 {
     if named.foreground || named.background {
         2
@@ -105,13 +79,13 @@ fn count_missing(named: Named) -> usize
     }
 }
 
-fn way_of(text: &[u8], zero: usize, named: Named) -> Way
-    requires missing { are_both (names_of named) ≡ false }
+fn way_of(text: &[u8], zero: usize, named: Names) -> Way
+    requires missing { are_both (shown_names named) ≡ false }
     requires within { zero ≤ length text.now }
     requires limit { length text.now ≤ longest_file }
-    ensures { result ≡ way_of (missing_numbers (names_of named)) (take zero text.now) (drop zero text.now) }
+    ensures { result ≡ way_of (missing_numbers (shown_names named)) (take zero text.now) (drop zero text.now) }
 {
-    if !omits(text) && text.len() + 1 + count_missing(named) <= LONGEST_SEQUENCE {
+    if !omits_number(text) && text.len() + 1 + count_missing(named) <= LONGEST_SEQUENCE {
         Way::Within
     } else if text.len() - zero <= 1 {
         Way::After
@@ -120,9 +94,9 @@ fn way_of(text: &[u8], zero: usize, named: Named) -> Way
     }
 }
 
-fn text_put(way: Way, named: Named) -> &'static [u8]
-    requires { are_both (names_of named) ≡ false }
-    ensures { result.now ≡ put_by way (missing_numbers (names_of named)) }
+fn text_put(way: Way, named: Names) -> &'static [u8]
+    requires { are_both (shown_names named) ≡ false }
+    ensures { result.now ≡ put_by way (missing_numbers (shown_names named)) }
 {
     match (way, named.foreground, named.background) {
         (Way::Within, false, false) => b";37;40",
@@ -138,14 +112,14 @@ fn text_put(way: Way, named: Named) -> &'static [u8]
 }
 
 /// How a sequence with so many numbers up to its last 0 names the colours that are not named after it.
-pub(crate) fn naming_of(text: &[u8], count: usize, named: Named) -> Naming
-    requires missing { are_both (names_of named) ≡ false }
+pub(crate) fn naming_of(text: &[u8], count: usize, named: Names) -> Naming
+    requires missing { are_both (shown_names named) ≡ false }
     requires limit { length text.now ≤ longest_file }
     ensures order { result.zero ≤ result.rest }
     ensures within { result.rest ≤ length text.now }
     ensures few { length result.put.now ≤ 12 }
     ensures more { result.rest < result.zero + length result.put.now }
-    ensures text { named_text (missing_numbers (names_of named)) (through_numbers count text.now)
+    ensures text { named_text (missing_numbers (shown_names named)) (through_numbers count text.now)
         (drop (length (through_numbers count text.now)) text.now)
         ≡ take result.zero text.now ++ (result.put.now ++ drop result.rest text.now) }
 {

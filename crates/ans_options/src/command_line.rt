@@ -1,10 +1,10 @@
 //! The command line, and the options that its words give.
 ghost use Rattle.std.specs.Prelude.{◌≡◌, true, IfOk, option_map, string_bytes, codes, map, IfSome, IfNone, IfErr};
 ghost use Rattle.std.specs.Prelude.{IsSomeAnd, IsSome, None, IsTrue, ◌↔◌, ◌≢◌, false, [], ◌∷◌};
-ghost use Rattle.clap.specs.Words.{all_of, app_of, first_of, found_of, rows_of, rule_of, subcommand_rows_of, takes};
+ghost use Rattle.clap.specs.Words.{app_of, first_of, found_of, rows_of, rule_of, subcommand_rows_of, takes};
 ghost use Rattle.clap.specs.Words.{fault_of, subcommand_of};
 ghost use Rattle.ans_model.specs.Screen.StartClass.{none_known};
-ghost use Rattle.ans_options.specs.CommandLine.{AreOptionsOf, AsksFor, IsCommand, IsInFormAsked, IsNoCommand};
+ghost use Rattle.ans_options.specs.CommandLine.{AreOptionsOf, IsCommand, IsInFormAsked, IsNoCommand};
 ghost use Rattle.ans_options.specs.CommandLine.{HasKindAmong, IsErrorOf, RanOutOfMemory, start_asked, flag_rule};
 ghost use Rattle.ans_options.specs.CommandLine.{faults_of, form_asked, help_on, named_start, takes_flags};
 ghost use Rattle.ans_options.specs.CommandLine.{with_flags, with_subcommands};
@@ -170,7 +170,7 @@ Examples:
 // What the commands do, in the order of the program's help.
 const WHY: &str = "Say why a drawing is refused, what it relies on, and how to mend it";
 
-const MEND: &str = "Write a drawing mended, so that it shows the same everywhere";
+const MEND: &str = "Write a drawing mended, so that it shows the same from every start";
 
 const REDRAW: &str = "Write the picture anew, in the plainest form there is";
 
@@ -201,7 +201,7 @@ const COMMANDS: [Command; 9] = [
 
 /// The flags of `mend`.
 const MEND_FLAGS: [(&str, &str); 5] = [
-    ("take-out", "Take out the sequences that players differ in"),
+    ("take-out", "Take out refused sequences, such as screen modes"),
     (
         "line-ends",
         "Put a return before each line feed, where there is none",

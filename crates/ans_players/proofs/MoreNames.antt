@@ -1,7 +1,7 @@
 -- Where more colours are named, no more kinds arise, and only own-colours may go.
-use Rattle.std.proofs.Common.{◌≡◌, ℕ, Bool, true, false, refl, ap, sym, ◌∙◌, subst, List, [], ◌∷◌, fold, take, Some}
+use Rattle.std.proofs.Common.{◌≡◌, ℕ, Bool, true, false, refl, sym, subst, List, [], ◌∷◌, fold, take}
 use Rattle.std.proofs.lemmas.Bool.{and_from, and_parts, or_right}
-use Rattle.std.specs.Prelude.{IsTrue, slice_get, not, ◌&&◌, ◌||◌, ◌==◌, if◌then◌else◌}
+use Rattle.std.specs.Prelude.{IsTrue, not, ◌&&◌, ◌==◌, if◌then◌else◌}
 use Rattle.std.specs.List.{list_all}
 use Rattle.ans_model.specs.Sequence.TokenKind.{TokenKind, Colours}
 use Rattle.ans_model.specs.Screen.State.{Size}
@@ -10,7 +10,7 @@ use Rattle.ans_players.specs.declared.kind.Kind.TheVariants.{OwnColours}
 use Rattle.ans_players.specs.Grips.{Stand}
 use Rattle.ans_players.specs.Mends.{or_own}
 use Rattle.ans_players.specs.Names.{Names, unnamed, is_within, names_behind, names_after, are_both, paints}
-use Rattle.ans_players.specs.Situations.{Spelled, is_agreed, kind_if, name_kinds, stand_behind}
+use Rattle.ans_players.specs.Situations.{Spelled, is_agreed, kind_if, stand_behind}
 use Rattle.ans_players.proofs.OneOfTwo.{parts_agreed, from_parts}
 
 -- each colour that is named here is named there

@@ -13,7 +13,7 @@ use Rattle.ans_players.specs.declared.kind.Kind.TheVariants.{ClearInColour, Save
 use Rattle.ans_players.specs.declared.kind.Kind.TheVariants.{LineErased, WrapOff, StopsAtEdge, PageControls}
 use Rattle.ans_players.specs.declared.kind.Kind.TheVariants.{TerminalControls, OwnColours}
 use Rattle.ans_players.specs.Names.{Names, is_within, are_both, paints}
-use Rattle.ans_players.specs.Grips.{Grip, Stand, loose_kinds, is_held, firmly, stand_after}
+use Rattle.ans_players.specs.Grips.{Stand, loose_kinds, is_held, firmly, stand_after}
 
 -- the kind, where the test holds
 abbrev pub kind_if : Bool → Kind → List Kind

@@ -107,8 +107,10 @@ pub fn own_colours()
     ensures tab { AriseAtOnce (bytes (codes "\t")) (TabPrints ∷ OwnColours ∷ []) }
     ensures clear { AriseAtOnce (sequence Clear (codes "[2J") ∷ []) (OwnColours ∷ []) }
     ensures line { AriseAtOnce (sequence EraseLine (codes "[K") ∷ []) (LineErased ∷ OwnColours ∷ []) }
-    ensures foreground { AriseAtOnce (sequence (Colours (37 ∷ [])) (codes "[37m") ∷ bytes (codes "A")) (OwnColours ∷ []) }
-    ensures background { AriseAtOnce (sequence (Colours (40 ∷ [])) (codes "[40m") ∷ bytes (codes "A")) (OwnColours ∷ []) }
+    ensures foreground { AriseAtOnce
+        (sequence (Colours (37 ∷ [])) (codes "[37m") ∷ bytes (codes "A")) (OwnColours ∷ []) }
+    ensures background { AriseAtOnce
+        (sequence (Colours (40 ∷ [])) (codes "[40m") ∷ bytes (codes "A")) (OwnColours ∷ []) }
     ensures both { AriseAtOnce (sequence (Colours (31 ∷ 44 ∷ [])) (codes "[31;44m") ∷ bytes (codes "A")) [] }
     ensures zero { Arise (sequence (Colours (0 ∷ [])) (codes "[0m") ∷ bytes (codes "A")) (OwnColours ∷ []) }
     ensures zero_first { AriseAtOnce

@@ -19,11 +19,12 @@
 //! - The laws speak of the memories that stand firmly for a start. Each player has one for each state of a
 //!   start, and of its other memories nothing is said.
 //!
-//! At which tokens which kinds arise stands in `specs/Situations.antt`, how firmly players stand where the
-//! profile stands in `specs/Grips.antt`, which colours are named in `specs/Names.antt`, and what a player is in `specs/Players.antt`. `specs/Named.antt`
-//! and `specs/Classes.antt` say what is said of a drawing. Each law is the contract of a function without a
-//! body: in [`laws`] those of all players, in [`witnesses`] players that part in one kind alone, one or more
-//! for each but own colours, and in [`examples`] the kinds of short contents.
+//! `specs/Situations.antt` says at which tokens which kinds arise, `specs/Grips.antt` how firmly the players
+//! are where the profile is, `specs/Names.antt` which colours are named, and `specs/Players.antt` what a
+//! player is. `specs/Named.antt` and `specs/Classes.antt` say what is said of a drawing. Each law is the
+//! contract of a function without a body: in [`laws`] those of all players, in [`witnesses`] players that
+//! part in one kind alone, one or more for each but own colours, and in [`examples`] the kinds of short
+//! contents.
 #![tactic(auto)]
 
 pub mod examples;

@@ -118,7 +118,8 @@ pub fn taller_player_parts()
 /// One that goes to the next row at a move right that would be stopped. In one column and two lines
 /// `ESC[C A` shows something else on it.
 pub fn over_the_edge_player_parts()
-    ensures { PartsIn StopsAtEdge (by_token over_the_edge_step) (sized 1 2) ((escape ∷ codes "[37;40m") ++ (escape ∷ codes "[C") ++ codes "A") }
+    ensures { PartsIn StopsAtEdge (by_token over_the_edge_step) (sized 1 2)
+        ((escape ∷ codes "[37;40m") ++ (escape ∷ codes "[C") ++ codes "A") }
 {}
 
 /// One that draws 07h and 08h. 07h shows something else on it.
@@ -128,7 +129,8 @@ pub fn bell_drawing_player_parts()
 
 /// One that does not draw 00h, 0Bh and 0Ch. 00h shows something else on it.
 pub fn page_undrawing_player_parts()
-    ensures { PartsIn PageControls (by_token page_undrawn_step) (sized 1 1) ((escape ∷ codes "[37;40m") ++ (0x00 ∷ [])) }
+    ensures { PartsIn PageControls (by_token page_undrawn_step) (sized 1 1)
+        ((escape ∷ codes "[37;40m") ++ (0x00 ∷ [])) }
 {}
 
 /// One that draws no control byte that terminals do not draw. 01h shows something else on it.

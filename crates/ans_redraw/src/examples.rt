@@ -1,8 +1,7 @@
 //! Small pictures and their bytes, one a clause, worked out apart from the definitions.
 
-ghost use Rattle.std.specs.Prelude.{[], ◌∷◌, ◌++◌, codes, replicate};
+ghost use Rattle.std.specs.Prelude.{[], ◌++◌, codes, replicate};
 ghost use Rattle.std.specs.List.{concat};
-ghost use Rattle.ans_model.specs.Screen.State.{cell};
 ghost use Rattle.ans_redraw.specs.Examples.{Becomes, IsDrawn, IsPlaced, cells_in, esc, grey};
 
 /// What changes, if neither bright nor blink goes; else 0, then 1 or 5 if it is set, and both colours.

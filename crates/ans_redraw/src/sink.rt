@@ -1,5 +1,5 @@
 //! What takes the bytes of a form.
-ghost use Rattle.std.specs.Prelude.{◌≤◌, ℕ, List, [], ◌++◌, length};
+ghost use Rattle.std.specs.Prelude.{ℕ, List, [], ◌++◌};
 
 use ans_write::Outbox;
 use std::io::Write;

@@ -34,7 +34,8 @@ use Rattle.ans_tokens.specs.Walk.{Front, front_with, WalksTo}
 use Rattle.ans_tokens.proofs.Scanning.{IsSplit, split_reading}
 use Rattle.ans_tokens.proofs.Walked.{never_refused, walked_all}
 use Rattle.ans_walks.specs.CalmWalked.{HasStayedCalm, IsCalmTo}
-use Rattle.ans_walks.specs.GripsShown.{shown_grip, shown_names}
+use Rattle.ans_walks.specs.GripsShown.{shown_grip}
+use Rattle.ans_walks.specs.NamesShown.{shown_names}
 use Rattle.ans_walks.specs.KindsUsed.{is_used}
 use Rattle.ans_walks.specs.KindsWalked.{StandsAt}
 use Rattle.ans_walks.specs.Pens.{pen_of}
@@ -133,7 +134,8 @@ walked_calm first old new front t text behind goes_on h next size content used s
 
 -- what the walk says in the end
 module _ (content : List ℕ) (first now : CalmWalk) (s : State) (tokens : List TokenKind) (texts : List (List ℕ))
-    (pen : first.pen ≡ pen_of s) (firm : first.grip ≡ Firm) (none : shown_names first.names ≡ unnamed) (reads : ReadsAs content tokens texts) where
+    (pen : first.pen ≡ pen_of s) (firm : first.grip ≡ Firm) (none : shown_names first.names ≡ unnamed)
+    (reads : ReadsAs content tokens texts) where
   abbrev agreed : Kind → Bool
   agreed = is_used first.used.now
 

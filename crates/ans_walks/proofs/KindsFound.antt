@@ -31,7 +31,8 @@ use Rattle.ans_players.specs.declared.kind.Kind.TheVariants.{StopsAtEdge, PageCo
 use Rattle.ans_tokens.specs.Walk.{Front, front_with, WalksTo}
 use Rattle.ans_tokens.proofs.Walked.{walked_whole}
 use Rattle.ans_walks.specs.Counted.{counted}
-use Rattle.ans_walks.specs.GripsShown.{shown_grip, shown_names}
+use Rattle.ans_walks.specs.GripsShown.{shown_grip}
+use Rattle.ans_walks.specs.NamesShown.{shown_names}
 use Rattle.ans_walks.specs.KindsUsed.{IsTold, used_of}
 use Rattle.ans_walks.specs.KindsWalked.{others_used, has_no_others, has_none, HasFoundKinds, IsFound}
 use Rattle.ans_walks.specs.Pens.{pen_of}

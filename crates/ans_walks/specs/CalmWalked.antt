@@ -14,7 +14,7 @@ use Rattle.ans_walks.specs.declared.grip.Grip.{Grip}
 use Rattle.ans_walks.specs.declared.grip.Grip.TheVariants.{Firm}
 use Rattle.ans_walks.specs.declared.names.Names.{Names}
 use Rattle.ans_walks.specs.declared.pen.Pen.{Pen}
-use Rattle.ans_walks.specs.GripsShown.{shown_names}
+use Rattle.ans_walks.specs.NamesShown.{shown_names}
 use Rattle.ans_players.specs.Names.{unnamed}
 
 -- from this state no kinds but agreed ones arise at the tokens, and the pen, the grip and the names are those after

@@ -1,13 +1,11 @@
 -- The program's grips and situations as those of the definitions. Only private contracts cite them.
 use Rattle.std.specs.Prelude.{List, [], ◌∷◌, ◌++◌, Option, None, Some}
 use Rattle.ans_players.specs.Grips as grip
-use Rattle.ans_players.specs.Names as name
 use Rattle.ans_players.specs.Situations.{kind_if}
 use Rattle.ans_players.specs.declared.kind.Kind.{Kind}
 use Rattle.ans_walks.specs.declared.grip.Grip.{Grip}
 use Rattle.ans_walks.specs.declared.grip.Grip.TheVariants.{Firm, Wrapped, BehindFeed, BehindReturn, Adrift}
 use Rattle.ans_players.specs.declared.kind.Kind.TheVariants.{OwnColours}
-use Rattle.ans_walks.specs.declared.names.Names.{Names}
 use Rattle.ans_walks.specs.declared.situations.Situations.{Situations}
 
 -- one to one
@@ -17,10 +15,6 @@ shown_grip Wrapped = grip.Wrapped
 shown_grip BehindFeed = grip.BehindFeed
 shown_grip BehindReturn = grip.BehindReturn
 shown_grip (Adrift kind) = grip.Adrift kind
-
--- one to one
-abbrev pub shown_names : Names → name.Names
-shown_names n = record { foreground = n.foreground; background = n.background }
 
 -- the one kind, or none
 abbrev pub kinds_in : Option Kind → List Kind

@@ -9,7 +9,8 @@ use Rattle.ans_players.specs.Situations.{Spelled, spelled, stand_of}
 use Rattle.ans_players.specs.declared.kind.Kind.{Kind}
 use Rattle.ans_tokens.specs.Walk.{Front}
 use Rattle.ans_walks.specs.Counted.{count_of}
-use Rattle.ans_walks.specs.GripsShown.{shown_grip, shown_names}
+use Rattle.ans_walks.specs.GripsShown.{shown_grip}
+use Rattle.ans_walks.specs.NamesShown.{shown_names}
 use Rattle.ans_walks.specs.KindsUsed.{used_of}
 use Rattle.ans_walks.specs.Pens.{pen_of, StandsOn}
 use Rattle.ans_walks.specs.declared.grip.Grip.{Grip}

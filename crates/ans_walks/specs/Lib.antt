@@ -20,6 +20,7 @@ pub mod FullRowEnds
 pub mod FullRowSearch
 pub mod LastEnds
 pub mod GripsShown
+pub mod NamesShown
 pub mod KindsUsed
 pub mod KindsWalked
 pub mod CalmWalked

@@ -1,6 +1,6 @@
 //! In which kinds players may part at a token.
 
-ghost use Rattle.std.specs.Prelude.{◌≡◌, ◌+◌, ◌≤◌, ◌==◌, ◌||◌, ◌&&◌, ◌++◌, ◌↔◌, [], List, ℕ, IsTrue};
+ghost use Rattle.std.specs.Prelude.{◌≡◌, ◌+◌, ◌≤◌, ◌==◌, ◌||◌, ◌&&◌, ◌++◌, ◌↔◌, [], IsTrue};
 ghost use Rattle.std.specs.List.{list_all, list_any};
 ghost use Rattle.ans_model.specs.Bytes.{bracket, longest_file, semicolon};
 ghost use Rattle.ans_model.specs.Screen.State.{State};
@@ -10,7 +10,8 @@ ghost use Rattle.ans_players.specs.Situations.{is_common_colour, is_page_control
 ghost use Rattle.ans_players.specs.Situations.{omits, own_kinds, situations};
 ghost use Rattle.ans_walks.specs.Counted.{count_of, counted};
 ghost use Rattle.ans_players.specs.declared.kind.Kind.TheVariants.{OwnColours};
-ghost use Rattle.ans_walks.specs.GripsShown.{kinds_in, kinds_of, shown_grip, shown_names};
+ghost use Rattle.ans_walks.specs.GripsShown.{kinds_in, kinds_of, shown_grip};
+ghost use Rattle.ans_walks.specs.NamesShown.{shown_names};
 ghost use Rattle.ans_walks.specs.Pens.{pen_of, StandsOn};
 
 use crate::grip::Grip;
@@ -69,8 +70,9 @@ fn omits_between(before: u8, byte: u8) -> bool
     (before == b'[' || before == b';') && (byte == b';' || byte == b'm')
 }
 
-/// Whether a number of a colour sequence with this text is omitted.
-fn omits(text: &[u8]) -> bool
+/// Whether a number of a colour sequence is omitted, as in `ESC[;1m` or `ESC[m`. The text is that of
+/// the sequence, from its ESC to its `m`.
+pub fn omits_number(text: &[u8]) -> bool
     ensures { result ≡ omits text.now }
 {
     let Some((first, rest)) = text.split_first() else {
@@ -128,7 +130,7 @@ fn own_kinds(
             let is_same = is_grey && are_zero(numbers);
             (
                 kind_if(!are_common_colours(numbers), PlayerKind::DosColours),
-                kind_if(!is_same && omits(text), PlayerKind::DosColours),
+                kind_if(!is_same && omits_number(text), PlayerKind::DosColours),
             )
         }
         Kind::Wrap(on) => (kind_if(!*on, PlayerKind::WrapOff), None),

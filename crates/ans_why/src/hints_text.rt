@@ -1,6 +1,5 @@
 //! The lines of hints.
 
-ghost use Rattle.std.specs.Prelude.{◌≡◌};
 ghost use Rattle.ans_why.specs.HintsText.{colour_hints, empty_rows_line, font_line, foreign_hints, hints_text};
 ghost use Rattle.ans_why.specs.HintsText.{row_hints, times_line, wider_line};
 ghost use Rattle.ans_write.specs.Puts.{Puts};

@@ -1,7 +1,5 @@
 //! Contents with their hints, from bytes to the whole text.
 
-ghost use Rattle.std.specs.Prelude.{◌≤◌, length};
-ghost use Rattle.ans_model.specs.Bytes.{longest_file};
 
 use ans_model::fault::Cause;
 use ans_model::size::Size;

@@ -1,7 +1,7 @@
 # Completion for fish: copy this file to ~/.config/fish/completions.
 set -l commands why mend redraw needs check show sauce tokens table help
 complete -c anscheck -n "not __fish_seen_subcommand_from $commands" -f -a why -d 'Why a drawing is refused, and what it relies on'
-complete -c anscheck -n "not __fish_seen_subcommand_from $commands" -f -a mend -d 'A drawing that shows the same everywhere'
+complete -c anscheck -n "not __fish_seen_subcommand_from $commands" -f -a mend -d 'A drawing that shows the same from every start'
 complete -c anscheck -n "not __fish_seen_subcommand_from $commands" -f -a redraw -d 'The picture anew, in the plainest form'
 complete -c anscheck -n "not __fish_seen_subcommand_from $commands" -f -a needs -d 'What a drawing relies on'
 complete -c anscheck -n "not __fish_seen_subcommand_from $commands" -f -a check -d 'Check a drawing, and print its picture'
@@ -12,7 +12,7 @@ complete -c anscheck -n "not __fish_seen_subcommand_from $commands" -f -a table 
 complete -c anscheck -n "not __fish_seen_subcommand_from $commands" -f -a help -d 'Help on a command, a fault or a note'
 complete -c anscheck -n "__fish_seen_subcommand_from help" -f -a 'why mend redraw needs check show sauce tokens table'
 complete -c anscheck -n "__fish_seen_subcommand_from help" -f -a 'F1 F2 F3 F4 F5 F6 F7 F8 F9 F10 F11 F12 F13 F14 F15 F16 F17 F19 F20 F21 F22 F23 F24 F25 N1 N2 N3 N4 N5 N6'
-complete -c anscheck -n "__fish_seen_subcommand_from mend" -l take-out -d 'Without the sequences that players differ in'
+complete -c anscheck -n "__fish_seen_subcommand_from mend" -l take-out -d 'Without refused sequences, such as screen modes'
 complete -c anscheck -n "__fish_seen_subcommand_from mend" -l line-ends -d 'A return before each line feed'
 complete -c anscheck -n "__fish_seen_subcommand_from mend" -l full-rows -d 'No line ends behind full rows'
 complete -c anscheck -n "__fish_seen_subcommand_from mend" -l name-colours -d '37 and 40 after a 0 that something is printed in'

@@ -228,7 +228,8 @@ static RECORDS: [Shown; 13] = [
         ROWS,
         b"Hi\x1a",
         &[(105, b"\xf4"), (82, b"1996x")],
-        "pass\tcursor colours\town-colours\tcursor colours\tyes\t\t\t\t\t2\t1\t2\tN4 N5\tno\t9\tsquare\t\t1996x101\t\t\t\tf\n",
+        "pass\tcursor colours\town-colours\tcursor colours\tyes\t\t\t\t\t2\t1\t2\tN4 N5\tno\t9\tsquare\t\t\
+        1996x101\t\t\t\tf\n",
     ),
     (
         ROWS,

@@ -82,7 +82,7 @@ const PROGRAM_HELP: &str = help!(
     \n\
     Commands:\n\
     \x20 why     Say why a drawing is refused, what it relies on, and how to mend it\n\
-    \x20 mend    Write a drawing mended, so that it shows the same everywhere\n\
+    \x20 mend    Write a drawing mended, so that it shows the same from every start\n\
     \x20 redraw  Write the picture anew, in the plainest form there is\n\
     \x20 needs   Print what a drawing relies on: screen, cursor, saved, colours, wrap\n\
     \x20 check   Check that a file always shows the same picture, and print it\n\
@@ -178,7 +178,7 @@ const TABLE_HELP: &str = "\
     \x20 2  A file could not be read, or the table could not be written\n";
 
 const MEND_HELP: &str = "\
-    Write a drawing mended, so that it shows the same everywhere\n\
+    Write a drawing mended, so that it shows the same from every start\n\
     \n\
     Usage: anscheck mend [OPTIONS] [FILE]\n\
     \n\
@@ -186,7 +186,7 @@ const MEND_HELP: &str = "\
     \x20 [FILE]  The file to read; - or none is standard input\n\
     \n\
     Options:\n\
-    \x20     --take-out      Take out the sequences that players differ in\n\
+    \x20     --take-out      Take out refused sequences, such as screen modes\n\
     \x20     --line-ends     Put a return before each line feed, where there is none\n\
     \x20     --full-rows     Take out the line ends behind full rows, if each has one\n\
     \x20     --name-colours  Put 37 and 40 after a 0 that something is printed in\n\

@@ -1,5 +1,5 @@
+use Rattle.ans_walks.specs.NamesShown.{shown_names}
 use Rattle.ans_mend.specs.NamedColours.{missing_numbers}
-use Rattle.ans_mend.specs.NameSearch.{names_of}
 use Rattle.ans_mend.proofs.NamedParts.{left_between, left_whole, named_parts}
 use Rattle.ans_mend.proofs.naming.naming_of.Goals as goal
 use Rattle.ans_mend.proofs.naming.naming_of.Goals.{in-Between, in_default}
@@ -9,7 +9,7 @@ returns-clause-text c =
     let text = c.args.text.now in
     let zero = c.length_through-zero.result in
     let way = c.way_of-way.result in
-    named_parts text (missing_numbers (names_of c.args.named)) c.text_put.result.now c.args.count zero c.match-way.rest
+    named_parts text (missing_numbers (shown_names c.args.named)) c.text_put.result.now c.args.count zero c.match-way.rest
     way c.length_through-zero.ensures.length c.length_through-zero.ensures.text c.way_of-way.ensures c.text_put.ensures
     (elim c.match-way.branch [
       | in-Between w ↦ left_between text zero c.match-way.rest way w.in-Between.is w.rest-is

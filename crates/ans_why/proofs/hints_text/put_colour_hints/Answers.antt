@@ -1,4 +1,3 @@
-use Rattle.std.proofs.Common.{sym, subst, Option}
 use Rattle.ans_write.proofs.PutsLemmas.{Puts-then}
 use Rattle.ans_why.proofs.hints_text.put_colour_hints.Goals as goal
 

@@ -1,7 +1,7 @@
 use Rattle.std.proofs.Common.{◌≡◌, fold, drop}
 use Rattle.ans_players.specs.Names.{names_behind}
-use Rattle.ans_walks.specs.GripsShown.{shown_names}
-use Rattle.ans_walks.proofs.names.Names.behind_all.Given as goal
+use Rattle.ans_walks.specs.NamesShown.{shown_names}
+use Rattle.ans_walks.proofs.names.Names.after_numbers.Given as goal
 
 abbrev pub invariant-loop-number : goal.invariant-loop-number
 invariant-loop-number l =
