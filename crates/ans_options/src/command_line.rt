@@ -201,7 +201,10 @@ const COMMANDS: [Command; 9] = [
 
 /// The flags of `mend`.
 const MEND_FLAGS: [(&str, &str); 5] = [
-    ("take-out", "Take out refused sequences, such as screen modes"),
+    (
+        "take-out",
+        "Take out refused sequences, such as screen modes",
+    ),
     (
         "line-ends",
         "Put a return before each line feed, where there is none",

@@ -1,6 +1,5 @@
 //! Contents with their hints, from bytes to the whole text.
 
-
 use ans_model::fault::Cause;
 use ans_model::size::Size;
 use ans_samples::Narrow;
