@@ -12,6 +12,8 @@ Run it in `crates/anscheck`, after `rt run -- check --cleared data/hi.ans` has b
 - What the page quotes below each heading is what `anscheck help` prints of that fault or note.
 - The examples of the page are those that the tests of ans_judge try, and the tests try none more.
 - The program sets each of the 256 colour numbers as the table of docs/PROFILE.md says.
+- The worked example of docs/CHANGING.md names each file that `git grep -lw EraseLine` finds.
+- docs/MANUAL.md is what tools/manual.py makes of the manual page, if `mandoc` is there.
 - Each command of a block of no language, on a line that begins with `$ `, has to print the lines
   that follow it. It is run by bash in this folder, with the program on the PATH. Blocks that are not
   to be run have the language `text`.
@@ -22,6 +24,7 @@ import ast
 import os
 import pathlib
 import re
+import shutil
 import subprocess
 import sys
 import tempfile
@@ -34,6 +37,7 @@ TOP = pathlib.Path(__file__).resolve().parent.parent.parent
 HERE = TOP / "crates" / "anscheck"
 PAGE = TOP / "docs" / "FAULTS.md"
 PROFILE = TOP / "docs" / "PROFILE.md"
+CHANGING = TOP / "docs" / "CHANGING.md"
 MODEL = TOP / "crates" / "ans_model" / "src"
 TESTS = TOP / "crates" / "ans_judge" / "src" / "tests" / "fault_page.rt"
 DRAWINGS = "/usr/share/doc/ansilove/examples"
@@ -243,6 +247,28 @@ def try_colours(tried, program):
             tried.compare(f"docs/PROFILE.md, {number} on {old:02x}", wanted, cells[4 * number:4 * number + 4])
 
 
+# The worked example, and the manual.
+
+
+def try_worked_example(tried):
+    """Each file that names the token has its name, without its ending, in the section or the paragraphs below it."""
+    search = ["git", "grep", "-lw", "EraseLine", "--", ":!docs/CHANGING.md", ":!tools/runs"]
+    found = subprocess.run(search, cwd=TOP, stdout=subprocess.PIPE, text=True, check=False)
+    page = CHANGING.read_text()
+    told = set(re.findall(r"\w+", page[page.index("## One letter, file by file"):]))
+    missing = [file for file in found.stdout.split() if pathlib.PurePath(file).stem not in told]
+    tried.compare("docs/CHANGING.md, files that the worked example does not name", [], missing)
+
+
+def try_manual(tried):
+    if shutil.which("mandoc") is None:
+        print("skipped, since mandoc is missing: docs/MANUAL.md")
+        return
+    made = subprocess.run([sys.executable, TOP / "tools" / "manual.py", "--check"], stdout=subprocess.PIPE,
+                          stderr=subprocess.DEVNULL, check=False)
+    tried.compare("docs/MANUAL.md", 0, made.returncode)
+
+
 # The commands of all pages.
 
 
@@ -278,6 +304,8 @@ def main(program):
     try_meanings(tried, text, program)
     try_tests(tried, examples)
     try_colours(tried, program)
+    try_worked_example(tried)
+    try_manual(tried)
     try_commands(tried, program)
     print(f"{tried.count} examples, {tried.differing} differ")
     return 1 if tried.differing else 0
