@@ -10,8 +10,10 @@ are written down from the README and the definitions, and never from what the pr
 of the slow files are worked out here. What `runs/table.py` has already stands there: a folder as FILE,
 `/dev/full` and a closed output for small files, and the longest file without a record.
 
-A check of a slow file has a limit of 1 second, and `needs` of 6, since it plays up to six times. What counts
-is the time of a processor; the time by the clock is printed beside it. A run is stopped after 60 seconds.
+A check of a slow file has a limit of 1 second, and `needs` of 6, since it plays up to six times. The other commands
+have 10 seconds; of them the status is stated, how the text begins, and that a file is written whole or not at all. What
+counts is the time of a processor; the time by the clock is printed beside it. A run is stopped after 60 seconds. The
+longest time of each command comes before the last line.
 
 The memory rows limit the address space (RLIMIT_AS) to what the README states, and 8 MiB for the program's
 code, the C library, the stacks and the buffers. A row whose limit is too low is answered with status 2 and
@@ -41,7 +43,7 @@ from table import HI_PASSES, file_of, plain_record
 MIB = 1_048_576
 LARGEST_SCREEN = 33_697_809
 ALLOWANCE = 8 * MIB
-CHECK_SECONDS, NEEDS_SECONDS, CLOCK_SECONDS = 1.0, 6.0, 60
+CHECK_SECONDS, NEEDS_SECONDS, OTHER_SECONDS, CLOCK_SECONDS = 1.0, 6.0, 10.0, 60
 
 NOT_READ = b"anscheck: cannot read the file\n"
 NOT_WRITTEN = b"anscheck: cannot write the report\n"
@@ -113,16 +115,28 @@ class Tally:
 
     def __init__(self):
         self.rows = self.wrong = self.slow = 0
+        self.longest = {}
 
     def row(self, name, came, wanted, limit=CHECK_SECONDS):
+        self.says(name, came, came[:3] == tuple(wanted), f"wanted {shortened(wanted)}", limit)
+
+    def says(self, name, came, is_right, wanted, limit):
         self.rows += 1
-        is_wrong, is_slow = came[:3] != tuple(wanted), came.seconds > limit
-        self.wrong += is_wrong
+        is_slow = came.seconds > limit
+        self.wrong += not is_right
         self.slow += is_slow
         words = f"{name}: status {came.status}, {came.seconds:.3f} s of at most {limit:.0f} s"
         print(f"{words}, by the clock {came.clock:.3f} s{', TOO SLOW' if is_slow else ''}", flush=True)
-        if is_wrong:
-            print(f"  WRONG: wanted {shortened(wanted)}\n  got {shortened(came[:3])}", flush=True)
+        if not is_right:
+            print(f"  WRONG: {wanted}\n  got {shortened(came[:3])}", flush=True)
+
+    def begins(self, command, name, came, statuses, begin):
+        """A run whose text begins so where it passes; where it does not, what `mend` and `redraw` write is nothing."""
+        writes = command.split()[0] in ("mend", "redraw")
+        is_whole = bool(came.out) == (came.status == 0) if writes else not came.err or command.startswith("table")
+        is_right = came.status in statuses and is_whole and (came.status != 0 or came.out.startswith(begin))
+        self.longest[command] = max(self.longest.get(command, (0, "")), (came.seconds, name))
+        self.says(f"{name}, {command}", came, is_right, f"wanted status {statuses}, {begin}", OTHER_SECONDS)
 
 
 def shortened(texts):
@@ -201,6 +215,29 @@ def try_playing_files(tally, program, room):
             tally.row(f"{name}, {' '.join(words)}", came_of([program, *words, path]), wanted)
         wanted = passes(b"size: %d x %d\ncontent: %d bytes\nneeds: nothing\n" % (width, lines, len(content)))
         tally.row(f"{name}, needs", came_of([program, "needs", path]), wanted, NEEDS_SECONDS)
+
+
+MEND_ALL = "mend --take-out --line-ends --full-rows --name-colours --least-lines"
+# How the text of each other command begins where it passes; and the status where the content does not pass.
+OTHERS = {
+    "why": (b"size: ", 1), "table --no-header": (b"pass\t", 1), "show": (b"\x1b[0;", 1), "show --vga": (b"\x1b[0;", 1),
+    "show --html": (b"<!DOCTYPE html>", 1), "sauce": (b"title: ", 0), "tokens": (b"", None), "mend": (b"", None),
+    MEND_ALL: (b"", None), "redraw": (b"\x1b[?7h\x1b[0;37;40m\x1b[2J\x1b[H\x1b[s", 1),
+}
+
+
+def try_other_commands(tally, program, room):
+    """Each slow file with the commands that are not tried above. `mend` and `redraw` may find that no more fits in."""
+    playing = ((name, content, size, True) for name, content, size, _ in playing_files())
+    refused = ((name, content, (WIDTH, LINES), False) for name, content, _, _ in refused_files())
+    for name, content, (width, lines), passed in (*playing, *refused):
+        path = saved(room, "slow", file_of(content, width, lines))
+        for command, (begin, refusal_status) in OTHERS.items():
+            statuses = (0,) if passed else (0, 1) if refusal_status is None else (refusal_status,)
+            if command.split()[0] in ("mend", "redraw"):
+                statuses = (0, 1) if passed else statuses
+            came = came_of([program, *command.split(), path])
+            tally.begins(command, name, came, statuses, begin)
 
 
 def try_refused_files(tally, program, room):
@@ -375,9 +412,11 @@ def try_limits(tally, program, path, stated, wanted):
 def main(program):
     program, tally = os.path.abspath(program), Tally()
     with tempfile.TemporaryDirectory() as room:
-        for part in (try_playing_files, try_refused_files, try_marks_and_comments, try_lengths, try_closed_output,
-                     try_closed_streams, try_odd_files, try_growing_file, try_memory):
+        for part in (try_playing_files, try_refused_files, try_other_commands, try_marks_and_comments, try_lengths,
+                     try_closed_output, try_closed_streams, try_odd_files, try_growing_file, try_memory):
             part(tally, program, room)
+    for command, (seconds, name) in tally.longest.items():
+        print(f"{command}: at most {seconds:.2f} s, {name}")
     print(f"{tally.rows} rows: {tally.wrong} came out otherwise, {tally.slow} took too long")
     return 1 if tally.wrong or tally.slow else 0
 

@@ -5,22 +5,28 @@ Run it in `crates/anscheck`, after `rt run -- check --cleared data/hi.ans` has b
 
     python3 ../../tools/hostile/mutated_files.py out/anscheck [SEED] [RUNS] [WORKERS]
 
-A case is a file and four runs on it. The file is one of the seeds (those of `data`, the contents and
+A case is a file and four runs on it, or five. The file is one of the seeds (those of `data`, the contents and
 records on which the crates are tested, and some made here) after one to six changes: bits, bytes,
 slices cut, doubled or taken from another seed, numbers and lengths of sequences, the numbers and the
 length of the record, and its layout. Case N of a seed is the same file and the same runs each time.
-Three cases of five run two commands, each on the file by its name and on standard input; in one case of
-fifty, where the file has at most 4096 bytes, standard input is a pipe that gives one byte a read. The
-other cases compare commands: a check from a class of starts, one from the cleared screen, `needs`, and
-`sauce` or `tokens`.
+Three cases of six run two commands, each on the file by its name and on standard input; in one case of
+fifty, where the file has at most 4096 bytes, standard input is a pipe that gives one byte a read. Two
+compare commands: a check from a class of starts, one from the cleared screen, `needs`, and `sauce` or
+`tokens`. One compares what is said of the file and made of it: the cleared check, `why`, a row of
+`table`, and `mend` with some flags or `redraw`; what either writes is a file that is checked.
 
 A run goes wrong where its status is not 0 or 1 (a readable file always has an answer, so 2 is wrong
-too), where a signal ends it, where it says anything on standard error, where it takes more than one
-second of a processor or 30 seconds by the clock, where its text has not the form of an answer, or where
-its fault stands past the file's end. A case goes wrong where the ways of reading differ, or where:
+too), where a signal ends it, where it says anything on standard error (but what was changed, or why
+there is no file; and the counts of `table`), where it takes more than one second of a processor, or
+four as `why`, `table`, `mend` or `redraw`, or 30 seconds by the clock, where its text has not the form
+of an answer, or where its fault stands past the file's end.
+A case goes wrong where the ways of reading differ, or where:
 the class passes and the cleared screen does not, or with another picture; `needs` does not name exactly
 what the class has to know; `needs` is refused and the cleared check otherwise; a fault of the record is
-not told by each command; or `tokens` and `check` differ on a sequence.
+not told by each command; `tokens` and `check` differ on a sequence; `why` or `table` has another verdict,
+fault or place; `redraw` writes a file where the cleared check refuses, or none where it passes, or one
+with another picture; `mend` writes none where it passes; or what either writes does not pass from every
+start.
 
 Each run may have 96 MiB of address space (RLIMIT_AS): what the README states for the largest file and
 the largest screen, 50,343,937 bytes, and 50,319,359 more; `bad_inputs.py` gives less. A run in which
@@ -48,10 +54,12 @@ from second_machine import FAULTS, PARTS, a_content, a_piece
 from table import file_of, plain_record
 
 MEMORY = 96 * 1024 * 1024
-SECONDS, CLOCK_SECONDS = 1.0, 30
+SECONDS, LONG_SECONDS, CLOCK_SECONDS = 1.0, 4.0, 30
+LONG_COMMANDS = ("why", "table", "mend", "redraw")
 LONGEST = 131_072
 LONG_TEXT = 1_048_576
 RUNS_OF_A_CASE, CASES_OF_A_BATCH = 4, 250
+MEND_FLAGS = ("--take-out", "--line-ends", "--full-rows", "--name-colours", "--least-lines")
 TEXTS = {
     1: "no SAUCE record", 2: "SAUCE version is not 00", 3: "not Character/ANSi",
     4: "comment block missing", 5: "number of lines not stated", 6: "width above 1024",
@@ -345,9 +353,32 @@ def fault_of(answer):
     return None
 
 
+def said_fault(answer):
+    """The offset and the number of the fault that `why` or a row of `table` says, or None."""
+    if answer.words[0] == "table":
+        fields = answer.out.split(b"\t")
+        return (int(fields[6]), int(fields[5][1:])) if fields[0] == b"refused" else None
+    found = FAULT_LINE.search(answer.out, answer.out.find(b"verdict: refused\n"))
+    return (int(found[1]), int(found[2])) if found else None
+
+
+def has_long_form(answer):
+    """The same for the commands that say more, or write a file."""
+    command, out, passed = answer.words[0], answer.out, answer.status == 0
+    if command == "why":
+        return (b"verdict: pass\nneeds: " if passed else b"verdict: refused\nat ") in out
+    if command == "table":
+        return out.startswith(b"pass\t" if passed else b"refused\t") and out.count(b"\t") == 21
+    return bool(out) == passed and (passed or b"F" in answer.err or b"long" in answer.err or b"help" in answer.err)
+
+
 def has_form(answer):
     """Whether the text is one of those that the command writes with this status."""
     command, out = answer.words[0], answer.out
+    if command in LONG_COMMANDS:
+        return has_long_form(answer)
+    if command == "show" and answer.status == 0:
+        return out.startswith(b"<!DOCTYPE html>") if "--html" in answer.words else out.startswith(b"\x1b[0;")
     if answer.status == 1:
         refused = command == "tokens" or b"verdict: refused\nat " in out[-120:]
         return refused and fault_of(answer) is not None
@@ -368,13 +399,14 @@ def wrong_by_itself(answer, length):
     if answer.status not in (0, 1):
         yield f"status {answer.status}" if answer.status >= 0 else f"signal {-answer.status}"
         return
-    if answer.err:
+    long = answer.words[0] in LONG_COMMANDS
+    if answer.err and (not long or answer.words[0] == "why"):
         yield f"on standard error: {answer.err[:80]}"
-    if answer.seconds > SECONDS:
+    if answer.seconds > (LONG_SECONDS if long else SECONDS):
         yield f"{answer.seconds:.2f} seconds"
     if not has_form(answer):
         yield f"no answer's form: {answer.out[-80:]}"
-    fault = fault_of(answer)
+    fault = said_fault(answer) if answer.words[0] in ("why", "table") else fault_of(answer)
     if answer.status == 1 and fault and fault[0] > length:
         yield f"a fault past the end: {answer.out[-80:]}"
 
@@ -417,6 +449,35 @@ def wrong_of_tokens(fault, tokens):
         yield "tokens meets a sequence before check"
 
 
+def wrong_of_what_is_said(cleared, why, row):
+    """What is wrong with `why` and a row of `table` beside the cleared check."""
+    for answer in (why, row):
+        if answer.status != cleared.status:
+            yield f"{answer.words[0]} and the cleared check differ"
+        elif cleared.status == 1 and said_fault(answer) != fault_of(cleared):
+            yield f"{answer.words[0]} has another fault"
+
+
+def wrong_of_what_is_made(cleared, made, checked):
+    """What is wrong with a file that `mend` or `redraw` made, and with the check of it from every start."""
+    command = made.words[0]
+    if made.status == 1:
+        if cleared.status == 0 and b"long" not in made.err:
+            yield f"{command} makes nothing of what passes"
+        return
+    if command == "redraw" and cleared.status == 1:
+        yield "redraw makes a file of what is refused"
+    if checked.status != 0:
+        yield f"what {command} makes does not pass"
+    elif command == "redraw" and after_head(checked) != after_head(cleared):
+        yield "what redraw makes has another picture"
+
+
+def after_head(answer):
+    """The picture of a report."""
+    return answer.out.split(b"verdict: pass\n")[1:]
+
+
 def words_of_a_check(chance):
     known = ["--cleared"] if chance.random() < 0.4 else [f"--known-{p}" for p in PARTS if chance.random() < 0.4]
     return ["check", *known, *["--cells"] * (chance.random() < 0.25)]
@@ -426,7 +487,8 @@ def compare_ways(chance, room, number):
     """Two commands, each in two ways."""
     drips = number % 50 == 0 and len(room.bytes) <= 4096
     answers, wrong = [], []
-    for words in (words_of_a_check(chance), chance.choice([["needs"], ["sauce"], ["tokens"], ["check"]])):
+    others = ["needs"], ["sauce"], ["tokens"], ["check"], ["why"], ["show"], ["show", "--html"], ["mend"], ["redraw"]
+    for words in (words_of_a_check(chance), chance.choice(others)):
         pair = [room.run(words, "file"), room.run(words, "drip" if drips else "input")]
         answers += pair
         if pair[0][2:6] != pair[1][2:6]:
@@ -443,16 +505,40 @@ def compare_commands(chance, room):
     return answers, [*wrong_between(*answers)] if answered else []
 
 
+def compare_what_is_made(chance, room):
+    """What is said of a file and made of it, and the check of that."""
+    flags = [flag for flag in MEND_FLAGS if chance.random() < 0.4]
+    flags += ["--width", "80"] * (chance.random() < 0.3)
+    makes = chance.choice([["redraw"], ["mend", *flags], ["mend", *flags]])
+    cleared, why, row, made = (
+        room.run(words, "file") for words in (["check", "--cleared"], ["why"], ["table", "--no-header"], makes)
+    )
+    answers = [cleared, why, row, made]
+    if any(answer.status not in (0, 1) for answer in answers):
+        return answers, []
+    wrong = [*wrong_of_what_is_said(cleared, why, row)]
+    if made.status == 0:
+        with open(room.out, "rb") as file:
+            room.save(file.read())
+        answers.append(room.run(["check"], "file"))
+    return answers, wrong + [*wrong_of_what_is_made(cleared, made, answers[-1])]
+
+
 def play_case(seed, number):
     """One case: its answers, and what is wrong with them."""
     chance = random.Random(f"{seed} {number}")
-    THE_ROOM.save(a_file(chance, THE_SEEDS))
-    if number % 5 < 3:
+    file = a_file(chance, THE_SEEDS)
+    THE_ROOM.save(file)
+    if number % 6 < 3:
         answers, wrong = compare_ways(chance, THE_ROOM, number)
-    else:
+    elif number % 6 < 5:
         answers, wrong = compare_commands(chance, THE_ROOM)
+    else:
+        answers, wrong = compare_what_is_made(chance, THE_ROOM)
+    longest = max(len(file), len(THE_ROOM.bytes))
     for answer in answers:
-        wrong += [f"{answer.words} by {answer.way}: {what}" for what in wrong_by_itself(answer, len(THE_ROOM.bytes))]
+        wrong += [f"{answer.words} by {answer.way}: {what}" for what in wrong_by_itself(answer, longest)]
+    THE_ROOM.save(file)
     return answers, wrong
 
 
@@ -499,7 +585,7 @@ def play_all(pool, seed, batches, kept):
             report(each, kept)
         if time.monotonic() - told > 30:
             told = time.monotonic()
-            so_far = done * RUNS_OF_A_CASE * CASES_OF_A_BATCH
+            so_far = done * RUNS_OF_A_CASE * CASES_OF_A_BATCH  # a few more, where five runs are made
             print(f"{so_far} runs, {so_far / (told - begun):.0f} a second, {wrong} wrong", flush=True)
     return seen, slowest, wrong
 
@@ -516,7 +602,8 @@ def main(program, seed="1", runs="10000", workers="4"):
             pool.join()
     cases = batches * CASES_OF_A_BATCH
     counts = ", ".join(f"{seen[kind]} {kind}" for kind in sorted(seen, key=seen.get, reverse=True))
-    print(f"{cases * RUNS_OF_A_CASE} runs on {cases} files, seed {seed}: {wrong} went wrong; "
+    runs = sum(count for kind, count in seen.items() if kind.startswith("by "))
+    print(f"{runs} runs on {cases} files, seed {seed}: {wrong} went wrong; "
           f"the longest took {slowest:.2f} s of a processor; {counts}")
     return 1 if wrong else 0
 
