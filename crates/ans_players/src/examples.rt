@@ -1,5 +1,5 @@
 //! Examples of where kinds arise, one a clause, worked out apart from the definitions: on a screen of four
-//! columns and three lines, from the cleared start. All but the last begin with `ESC[37;40m`.
+//! columns and three lines, from the cleared start. All but those of own colours begin with `ESC[37;40m`.
 
 ghost use Rattle.std.specs.Prelude.{[], ◌∷◌, ◌++◌, codes, true, false};
 ghost use Rattle.ans_model.specs.Sequence.TokenKind.{Up, Down, Forward, Backward, Place, Clear, EraseLine, Save};
@@ -100,8 +100,8 @@ pub fn control_bytes()
     ensures others { Arise (bytes (0x20 ∷ 0x7E ∷ 0x80 ∷ 0xFF ∷ [])) [] }
 {}
 
-/// What is printed or blanked is in a player's own colours until both are named, and anew after a 0. A last
-/// `ESC[0m` is of no kind.
+/// What is printed or blanked is in a player's own colours until both are named, and again after a 0. Moves
+/// and a last `ESC[0m` are of no kind.
 pub fn own_colours()
     ensures at_once { AriseAtOnce (bytes (codes "A ")) (OwnColours ∷ OwnColours ∷ []) }
     ensures tab { AriseAtOnce (bytes (codes "\t")) (TabPrints ∷ OwnColours ∷ []) }
@@ -112,6 +112,15 @@ pub fn own_colours()
     ensures background { AriseAtOnce
         (sequence (Colours (40 ∷ [])) (codes "[40m") ∷ bytes (codes "A")) (OwnColours ∷ []) }
     ensures both { AriseAtOnce (sequence (Colours (31 ∷ 44 ∷ [])) (codes "[31;44m") ∷ bytes (codes "A")) [] }
+    ensures first_and_last { AriseAtOnce
+        (sequence (Colours (30 ∷ 47 ∷ [])) (codes "[30;47m") ∷ bytes (codes "A")) [] }
+    ensures last_and_first { AriseAtOnce
+        (sequence (Colours (37 ∷ 40 ∷ [])) (codes "[37;40m") ∷ bytes (codes "A")) [] }
+    ensures beside { AriseAtOnce
+        (sequence (Colours (29 ∷ 38 ∷ 39 ∷ 48 ∷ 49 ∷ 90 ∷ 100 ∷ [])) (codes "[29;38;39;48;49;90;100m")
+        ∷ bytes (codes "A")) (DosColours ∷ OwnColours ∷ []) }
+    ensures moves { AriseAtOnce
+        (sequence (Forward 1) (codes "[C") ∷ sequence (Place 1 1) (codes "[H") ∷ bytes (codes "\r\n")) [] }
     ensures zero { Arise (sequence (Colours (0 ∷ [])) (codes "[0m") ∷ bytes (codes "A")) (OwnColours ∷ []) }
     ensures zero_first { AriseAtOnce
         (sequence (Colours (0 ∷ 37 ∷ 40 ∷ [])) (codes "[0;37;40m") ∷ bytes (codes "A")) [] }

@@ -36,8 +36,8 @@ pub enum Kind {
     PageControls,
     /// 01h to 06h, 0Eh to 19h, 1Ch to 1Fh and 7Fh are drawn. Terminals alone do not draw them.
     TerminalControls,
-    /// 0 sets white on black, as 37 and 40 do, and so it is at a start. Terminals have a white and a black
-    /// of their own there.
+    /// 0 and an omitted number set white on black, as 37 and 40 do, and so it is at a start. Terminals have
+    /// a white and a black of their own there.
     OwnColours,
 }
 

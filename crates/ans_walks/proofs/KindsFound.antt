@@ -5,9 +5,9 @@ use Rattle.std.proofs.Common.{append-nil, length-append}
 use Rattle.std.specs.Prelude.{IsTrue, is_none, Result, slice_get, if◌then◌else◌}
 use Rattle.std.specs.List.{concat, list_all, list_any}
 use Rattle.std.proofs.Math.Seq.{take-append_seam, take-length}
-use Rattle.std.proofs.lemmas.Bool.{and_from, and_parts, false≢true}
+use Rattle.std.proofs.lemmas.Bool.{and_parts, false≢true}
 use Rattle.std.proofs.lemmas.List.{take-append-le}
-use Rattle.std.proofs.lemmas.List.Folds.{concat-append, list_all-append}
+use Rattle.std.proofs.lemmas.List.Folds.{concat-append}
 use Rattle.std.proofs.lemmas.List.Sums.{fold-append}
 use Rattle.std.proofs.lemmas.Option.{slice_get_within}
 use Rattle.ans_model.specs.Sequence.TokenKind.{TokenKind}
@@ -34,7 +34,7 @@ use Rattle.ans_walks.specs.Counted.{counted}
 use Rattle.ans_walks.specs.GripsShown.{shown_grip}
 use Rattle.ans_walks.specs.NamesShown.{shown_names}
 use Rattle.ans_walks.specs.KindsUsed.{IsTold, used_of}
-use Rattle.ans_walks.specs.KindsWalked.{others_used, has_no_others, has_none, HasFoundKinds, IsFound}
+use Rattle.ans_walks.specs.KindsWalked.{others_used, has_no_others, HasFoundKinds, IsFound}
 use Rattle.ans_walks.specs.Pens.{pen_of}
 use Rattle.ans_walks.specs.declared.kinds.KindsUsed.{KindsUsed}
 use Rattle.ans_walks.specs.declared.kinds.KindsWalk.{KindsWalk}
@@ -210,17 +210,6 @@ all_others_none used each =
       each TerminalControls refl,
     )
     refl
-
-pub each_none : (used : KindsUsed) → IsTrue (has_none used) → (kind : Kind) → used_of used kind ≡ None
-each_none used h kind =
-    let parts = and_parts (has_no_others used) (is_none used.own_colours) h in
-    none_at (all_used used) (kind_number kind) (used_of used kind)
-    (list_all-append is_none (others_used used) (used.own_colours ∷ [])
-    ∙ and_from _ _ parts.0 (and_from _ _ parts.1 refl)) (used_at used kind)
-
-pub all_none : (used : KindsUsed) → ((kind : Kind) → used_of used kind ≡ None) → IsTrue (has_none used)
-all_none used each =
-    and_from _ _ (all_others_none used (λ kind is. each kind)) (ap is_none (each OwnColours))
 
 -- ---- the walk
 module _ (first old : KindsWalk) (front : Front) (t : TokenKind) (text behind : List ℕ)

@@ -1,5 +1,5 @@
 -- What the walk over the kinds in which players part has found so far. Only private contracts cite it.
-use Rattle.std.specs.Prelude.{◌≡◌, ℕ, ◌<◌, ◌≤◌, Bool, ◌&&◌, is_none, IsTrue, List, [], ◌∷◌, ◌++◌, length, Option, None, Some}
+use Rattle.std.specs.Prelude.{◌≡◌, ℕ, ◌<◌, ◌≤◌, Bool, is_none, IsTrue, List, [], ◌∷◌, ◌++◌, length, Option, None, Some}
 use Rattle.std.specs.List.{concat, list_all}
 use Rattle.ans_model.specs.Screen.State.{Size}
 use Rattle.ans_model.specs.Screen.StartClass.{cleared}
@@ -46,10 +46,6 @@ others_used used =
 -- none of any kind but own colours was
 abbrev pub has_no_others : KindsUsed → Bool
 has_no_others used = list_all is_none (others_used used)
-
--- none of any kind was
-abbrev pub has_none : KindsUsed → Bool
-has_none used = has_no_others used && is_none used.own_colours
 
 -- from the cleared start the kind arises so often at the tokens, and there first
 pub record AriseFrom (z : Size) (xs : List Spelled) (kind : Kind) (times : Times) : Type 0 where

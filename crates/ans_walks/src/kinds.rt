@@ -13,7 +13,7 @@ ghost use Rattle.ans_walks.specs.GripsShown.{kinds_in, kinds_of};
 ghost use Rattle.ans_walks.specs.KindsUsed.{IsTold, is_used, used_of, words_used};
 ghost use Rattle.ans_players.specs.OwnKind.{all_but};
 ghost use Rattle.ans_players.specs.declared.kind.Kind.TheVariants.{OwnColours as own_colours};
-ghost use Rattle.ans_walks.specs.KindsWalked.{AreFew, has_no_others, has_none};
+ghost use Rattle.ans_walks.specs.KindsWalked.{AreFew, has_no_others};
 
 use crate::grip::Grip;
 use crate::names::Names;
@@ -97,19 +97,6 @@ impl KindsUsed {
             }
         }
         words
-    }
-
-    /// Whether no kind arises.
-    pub fn are_none(&self) -> bool
-        ensures { IsTrue result ↔ ((kind : Kind) → used_of self.now kind ≡ None) }
-    {
-        self.has_none()
-    }
-
-    fn has_none(&self) -> bool
-        ensures { result ≡ has_none self.now }
-    {
-        self.has_no_others() && self.own_colours.is_none()
     }
 
     fn has_no_others(&self) -> bool

@@ -1,6 +1,6 @@
 //! In which kinds players may part at a token.
 
-ghost use Rattle.std.specs.Prelude.{◌≡◌, ◌+◌, ◌≤◌, ◌==◌, ◌||◌, ◌&&◌, ◌++◌, ◌↔◌, [], IsTrue};
+ghost use Rattle.std.specs.Prelude.{◌≡◌, ◌+◌, ◌≤◌, ◌==◌, ◌||◌, ◌&&◌, ◌++◌, ◌↔◌, IsTrue};
 ghost use Rattle.std.specs.List.{list_all, list_any};
 ghost use Rattle.ans_model.specs.Bytes.{bracket, longest_file, semicolon};
 ghost use Rattle.ans_model.specs.Screen.State.{State};
@@ -176,14 +176,6 @@ impl Situations {
             other,
             unnamed: paints(kind) && !names.are_both(),
         }
-    }
-
-    /// Whether no kind arises.
-    #[inline(always)]
-    pub(crate) fn are_none(&self) -> bool
-        ensures { IsTrue result ↔ (kinds_of self.now ≡ []) }
-    {
-        self.are_own_colours_at_most() && !self.unnamed
     }
 
     /// Whether no kind arises but own colours.

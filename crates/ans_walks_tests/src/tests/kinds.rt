@@ -161,7 +161,8 @@ fn expect_used(rt: &impl Abort, row: &Used) {
         assert_eq!(rt; used.of(*kind), Some(*times), "in {content:?}");
         assert_eq!(rt; *word, kind.word(), "in {content:?}");
     }
-    assert_eq!(rt; used.are_none(), kinds.is_empty(), "in {content:?}");
+    let others = kinds.iter().any(|kind| kind.0 != Kind::OwnColours);
+    assert_eq!(rt; used.are_own_colours_at_most(), !others, "in {content:?}");
 }
 
 /// What is said of a content in which these kinds arise, and that has this least class.
