@@ -23,3 +23,4 @@ mod FirstPrint
 mod NamedGrowth
 mod NamedWriting
 mod NamedFiles
+pub mod NamedBound
