@@ -289,8 +289,8 @@ static inline enum ans_answer ans_why(const uint8_t *file, size_t file_len, void
  * `classes` is a sum of ANS_TAKE_OUT and those below it; other bits count for nothing. `width` is the columns of the
  * record that a file without one is given, 1 to 1024, or 0 for no record; `lines` the number of lines that is stated
  * where others are wanted, 1 to 8192, or 0 for none. `draft` and `mended` want file_len + ANS_MENDING_ROOM bytes,
- * with ANS_LINE_ENDS one more for each line feed of the file; and with ANS_NAME_COLOURS ANS_LONGEST_FILE in the place
- * of file_len.
+ * with ANS_LINE_ENDS one more for each line feed of the file; and with ANS_NAME_COLOURS 9 * file_len + 8 in the place
+ * of file_len, or ANS_LONGEST_FILE if that is less.
  * `scratch` is for the screen of the mended file, which may have other lines. ANS_MOST_SCRATCH is always enough.
  * Where ans_size answers ANS_PASS for the file, 8193 * (24 + 4 * columns) is enough; and without `lines` and
  * ANS_LEAST_LINES what it tells. For any other file 4120 bytes for each line of the mended one, and for one line

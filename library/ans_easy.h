@@ -120,12 +120,14 @@ static inline enum ans_answer ans_record_easily(const uint8_t *file, size_t file
  * NULL. */
 static inline enum ans_answer ans_mend_easily(const uint8_t *file, size_t file_len, uint32_t classes, uint32_t width,
                                               uint32_t lines, uint8_t **mended, size_t *size, char **text) {
-    size_t room = (classes & ANS_NAME_COLOURS ? ANS_LONGEST_FILE : file_len) + ANS_MENDING_ROOM, length = 0;
+    size_t room = file_len + ANS_MENDING_ROOM, length = 0;
     enum ans_answer answer = ANS_NO_MEMORY;
     *mended = NULL;
     *text = NULL;
     if (file_len > ANS_LONGEST_FILE)
         return ANS_TOO_LONG;
+    if (classes & ANS_NAME_COLOURS)
+        room = (9 * file_len + 8 < ANS_LONGEST_FILE ? 9 * file_len + 8 : ANS_LONGEST_FILE) + ANS_MENDING_ROOM;
     for (size_t i = 0; i < file_len; i++)
         room += file[i] == '\n';
     void *scratch = malloc(ANS_MOST_SCRATCH);

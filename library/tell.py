@@ -125,7 +125,8 @@ class Checker:
         return self.library.ans_row_on(*self.file, *self.screen, byref(row)), row
 
     def mend(self, classes, width):
-        count = (LONGEST_FILE if classes & 16 else self.file[1]) + self.file[0].count(b"\n") + MENDING_ROOM
+        most = min(LONGEST_FILE, 9 * self.file[1] + 8) if classes & 16 else self.file[1]
+        count = most + self.file[0].count(b"\n") + MENDING_ROOM
         screen = ((ScreenRow * MOST_ROWS)(), MOST_ROWS, *room(MOST_BYTES))
         mended, size = room(count), c_size_t()
         answer, text, length = text_of(

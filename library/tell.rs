@@ -204,7 +204,8 @@ impl Checker {
     /// What `ans_mend_on` answers, and the mended file.
     fn mend(&self, classes: u32, width: u32, text: &mut [u8], length: &mut usize) -> (u32, Vec<u8>) {
         let line_feeds = self.file.iter().filter(|&&byte| byte == b'\n').count();
-        let most = if classes & 16 == 0 { self.file.len() } else { LONGEST_FILE };
+        let named = LONGEST_FILE.min(9 * self.file.len() + 8);
+        let most = if classes & 16 == 0 { self.file.len() } else { named };
         let room = most + line_feeds + MENDING_ROOM;
         let (mut rows, mut bytes) = (vec![ScreenRow::default(); MOST_ROWS], vec![0u8; MOST_BYTES]);
         let (mut draft, mut mended, mut size) = (vec![0u8; room], vec![0u8; room], 0);

@@ -113,12 +113,12 @@ class Checker {
   }
 
   /**
-   * How many bytes the draft wants: with line ends one more for each line feed; where colours are named the longest
-   * file has to have room.
+   * How many bytes the draft wants: with line ends one more for each line feed; with names of colours eight more for
+   * each byte and eight, up to the longest file.
    */
   mendingRoom(classes) {
     const file = this.bytesOf(this.file);
-    const most = classes & CLASSES.nameColours ? LONGEST_FILE : file.length;
+    const most = classes & CLASSES.nameColours ? Math.min(LONGEST_FILE, 9 * file.length + 8) : file.length;
     const more = classes & CLASSES.lineEnds ? file.reduce((count, byte) => count + (byte === LINE_FEED), 0) : 0;
     return most + MENDING_ROOM + more;
   }

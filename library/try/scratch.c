@@ -82,9 +82,15 @@ static void compare(const char *what, const struct said *wanted, struct said *sa
     free(said);
 }
 
+/* How many bytes the draft wants, whatever is asked for. */
+static size_t mending_room(void) {
+    size_t named = 9 * file_len + 8;
+    return (named < ANS_LONGEST_FILE ? named : ANS_LONGEST_FILE) + file_len + ANS_MENDING_ROOM;
+}
+
 /* What ans_mend answers on so much scratch, and its file and its text in one. */
 static enum ans_answer mend_on(size_t scratch_len, uint32_t classes, uint8_t *mended, size_t *size) {
-    size_t room = ANS_LONGEST_FILE + file_len + ANS_MENDING_ROOM, length = 0;
+    size_t room = mending_room(), length = 0;
     uint8_t *scratch = (uint8_t *)malloc(scratch_len), *draft = (uint8_t *)malloc(room);
     if (!scratch || !draft)
         exit(2);
@@ -99,7 +105,7 @@ static enum ans_answer mend_on(size_t scratch_len, uint32_t classes, uint8_t *me
 }
 
 static void try_mending(const char *what, size_t scratch_len, uint32_t classes) {
-    size_t room = ANS_LONGEST_FILE + file_len + ANS_MENDING_ROOM + ANS_LONGEST_TEXT, size, most_size;
+    size_t room = mending_room() + ANS_LONGEST_TEXT, size, most_size;
     uint8_t *mended = (uint8_t *)malloc(room), *with_most = (uint8_t *)malloc(room);
     if (!mended || !with_most)
         exit(2);

@@ -37,9 +37,11 @@ pub struct Passing {
     pub needs: u32,
     /// The kinds in which players part that it makes use of, added up: 1 wrap-at-once, 2 line-ends,
     /// 4 home-on-clear, 8 clear-in-colour, 16 save-place-only, 32 dos-colours, 64 tab-prints,
-    /// 128 line-erased, 256 wrap-off, 512 stops-at-edge, 1024 page-controls, 2048 terminal-controls.
+    /// 128 line-erased, 256 wrap-off, 512 stops-at-edge, 1024 page-controls, 2048 terminal-controls,
+    /// 4096 own-colours.
     pub players: u32,
-    /// Where it makes use of none, the parts that have to be known for every player to show the same; else 0.
+    /// If it makes use of none, or of own colours alone, the parts that have to be known for every player to
+    /// show the same, in named colours; else 0.
     pub on_every_player: u32,
     /// 1: it shows its picture on every taller screen too. 0 does not say that it differs there.
     pub taller: u32,

@@ -1,6 +1,7 @@
 -- What is changed of a content where it is asked for.
 use Rattle.std.proofs.Common.{◌≡◌, inr, ℕ, ◌+◌, ◌-◌, ◌<◌, ◌≤◌, Bool, true, false, List, length, Ok, Err, sym, ap, subst}
-use Rattle.std.proofs.Common.{arith}
+use Rattle.std.proofs.Common.{◌*◌, arith, min}
+use Rattle.std.proofs.lemmas.List.{length-take-le}
 use Rattle.std.specs.Prelude.{MatchBool, Option, None, OnErr, OnOk, IfOk, IsTrue, Result, if◌then◌else◌}
 use Rattle.ans_model.specs.Bytes.{longest_file, most_lines}
 use Rattle.ans_model.specs.Screen.State.{Size, sized}
@@ -16,9 +17,10 @@ use Rattle.ans_mend.specs.declared.taking_out.Told.{Told}
 use Rattle.ans_options.specs.declared.command.Mends.{Mends}
 use Rattle.ans_check.specs.Mending.{AreLastEndsGone, AreNamed, AreRowsJoined, AreSequencesOut, IsEdited}
 use Rattle.ans_check.specs.Mending.{TellsReturns, returned}
-use Rattle.ans_check.specs.MendingRoom.{most_names, most_returns}
+use Rattle.ans_check.specs.MendingRoom.{most_added, most_returns}
 use Rattle.ans_check.specs.MendingSteps.{IsEditedTooLong, IsNamedTooLong}
-use Rattle.ans_check.proofs.MendRoomLemmas.{line_ends_length}
+use Rattle.ans_mend.proofs.NamedBound.{longer_by_names as named_bound}
+use Rattle.ans_check.proofs.MendRoomLemmas.{line_ends_length, returns_few}
 
 -- where returns are put, the file is longer by no more than its line feeds
 pub longer_by_returns : (mends : Mends) (file new : List ℕ) (r : Result (Option Times) NoRoom) → mends.line_ends ≡ true
@@ -45,15 +47,18 @@ named_if mends file new (Ok times) asked named = colours_named mends file new ti
 named_if mends file new (Err none) asked named = tt
 
 -- no room was asked for
-pub lacks_if : (mends : Mends) (P Q : Type 0) (r : Result (Option Times) NoRoom) → mends.name_colours ≡ true
-    → OnErr r (P × Q) → OnErr r (IsTrue mends.name_colours × Q)
-lacks_if mends P Q (Ok times) asked lacks = tt
-lacks_if mends P Q (Err none) asked lacks = (asked, lacks.1)
+pub lacks_if : (mends : Mends) (P : Type 0) (file : List ℕ) (memory : ℕ) (r : Result (Option Times) NoRoom)
+    → mends.name_colours ≡ true → OnErr r (P × IsTooLongNamed file memory)
+    → OnErr r (IsTrue mends.name_colours × IsTooLongNamed file memory × (memory < length file + 4 * (length file - 128)))
+lacks_if mends P file memory (Ok times) asked lacks = tt
+lacks_if mends P file memory (Err none) asked (same, (new, times, named, more)) =
+    let few = named_bound file new times named in
+    (asked, (new, times, named, more), omega (arith, more, few))
 
 -- where the memory is as long as the longest file, the names are too many
-pub too_many_names : (mends : Mends) (file : List ℕ) (memory : ℕ) → longest_file ≤ memory
-    → IsTrue mends.name_colours × IsTooLongNamed file memory → IsNamedTooLong mends file
-too_many_names mends file memory long (asked, (new, times, named, more)) =
+pub too_many_names : (mends : Mends) (file : List ℕ) (memory : ℕ) (P : Type 0) → longest_file ≤ memory
+    → IsTrue mends.name_colours × IsTooLongNamed file memory × P → IsNamedTooLong mends file
+too_many_names mends file memory P long (asked, (new, times, named, more), few) =
     (new, times, colours_named mends file new times asked named, omega (arith, long, more))
 
 -- with the content changed
@@ -85,19 +90,32 @@ module _ (mends : Mends) (z : Size) (file returned_file out joined ended : List 
   edited_too_long reason (is, (new, times, are_named, long)) =
       (is, inr (new, _, edited_so new times are_named, long))
 
--- a file with its names is as long as the longest, at most
-pub longer_by_names : (mends : Mends) (old returns : ℕ) (ended new : List ℕ) (times : Option Times)
-    → AreNamed mends ended new times → length ended ≤ old + returns → length new ≤ longest_file
-    → length new ≤ old + (returns + most_names mends old)
-longer_by_names mends old returns ended new times named shorter long = go mends.name_colours named
-  where
-    go : (asked : Bool) → MatchBool asked (HasNamedColours ended new times) ((new ≡ ended) × (times ≡ None))
-        → length new ≤ old + (returns + (if asked then longest_file - old else 0))
-    go true named = omega (arith, long)
-    go false (same, none) = let as_long = ap length same in omega (arith, as_long, shorter)
+-- ---- of a file to which returns were put, and of which something was taken out
+module _ (mends : Mends) (old ended : List ℕ)
+    (shorter : length ended ≤ length old + most_returns mends (front_in old)) where
+  front_long : length (front_in old) ≡ length old - 128
+  front_long = length-take-le (length old - 128) old (omega arith)
 
--- there is no room for what is asked for
-pub lacks_names : (mends : Mends) (memory room old returns : ℕ) → memory ≡ old + room
-    → IsTrue mends.name_colours → memory < longest_file → room < returns + most_names mends old
-lacks_names mends memory room old returns sum asked few =
-    rw asked (omega (arith, sum, few))
+  -- with its names it is no longer than they can make it
+  pub longer_by_names : (new : List ℕ) (times : Option Times) → AreNamed mends ended new times
+      → length new ≤ longest_file → length new ≤ length old + most_added mends old
+  longer_by_names new times named long = go mends.name_colours named
+    where
+      go : (asked : Bool) → MatchBool asked (HasNamedColours ended new times) ((new ≡ ended) × (times ≡ None))
+          → length new ≤ length old + (most_returns mends (front_in old)
+          + (if asked then min (longest_file - length old) (8 * length (front_in old)) else 0))
+      go true named =
+          let more = named_bound ended new times named in
+          let front = front_long in
+          let few = returns_few mends (front_in old) in
+          omega (arith, long, more, front, few, shorter)
+      go false (same, none) = let as_long = ap length same in omega (arith, as_long, shorter)
+
+  -- there is no room for them
+  pub lacks_names : (memory room : ℕ) → memory ≡ length old + room → IsTrue mends.name_colours
+      → memory < longest_file → memory < length ended + 4 * (length ended - 128)
+      → room < most_added mends old
+  lacks_names memory room sum asked short few =
+      let front = front_long in
+      let returns = returns_few mends (front_in old) in
+      rw asked (omega (arith, sum, short, few, front, returns, shorter))

@@ -53,6 +53,26 @@ content_in_short file =
 
 -- ---- returns
 
+feeds_few : (bytes : List ℕ) → line_feeds bytes ≤ length bytes
+feeds_few [] = omega arith
+feeds_few (b ∷ bytes) =
+    let feeds = sum_by-cons (λ (v : ℕ). if is_line_feed v then 1 else 0) b bytes in
+    let rest = feeds_few bytes in
+    let one = at_most_one (is_line_feed b) in
+    omega (arith, feeds, rest, one)
+  where
+    at_most_one : (feed : Bool) → (if feed then 1 else 0) ≤ 1
+    at_most_one true = omega arith
+    at_most_one false = omega arith
+
+-- one for each byte, at most
+pub returns_few : (mends : Mends) (bytes : List ℕ) → most_returns mends bytes ≤ length bytes
+returns_few mends bytes = go mends.line_ends
+  where
+    go : (asked : Bool) → (if asked then line_feeds bytes else 0) ≤ length bytes
+    go true = feeds_few bytes
+    go false = omega arith
+
 returns_length : (bytes : List ℕ) → length (with_returns bytes) ≡ length bytes + line_feeds bytes
 returns_length [] = refl
 returns_length (b ∷ bytes) =

@@ -1,5 +1,5 @@
 -- What is done on the way to a mended file. Only private contracts cite it.
-use Rattle.std.specs.Prelude.{◌≡◌, ℕ, ◌+◌, ◌-◌, ◌<◌, ◌≤◌, Bool, true, false, List}
+use Rattle.std.specs.Prelude.{◌≡◌, ℕ, ◌+◌, ◌-◌, ◌*◌, ◌<◌, ◌≤◌, Bool, true, false, List}
 use Rattle.std.specs.Prelude.{length, if◌then◌else◌}
 use Rattle.ans_model.specs.Bytes.{longest_file}
 use Rattle.ans_model.specs.File.Layout.{FileParts, content}
@@ -63,9 +63,11 @@ abbrev pub IsEditedTooLong : Mends → Size → List ℕ → Unmended → Type 0
 IsEditedTooLong mends z file reason = (reason ≡ TooLong) × ((longest_file < length (returned mends file))
     ⊎ ((edited : List ℕ) × (edits : Edits) × IsEdited mends z file edited edits × (longest_file < length edited)))
 
--- there is no room for names that are asked for, and would be if the memory were as long as the longest file
+-- there is no room for names that are asked for, and there may be if the memory were as long as the longest file, or
+-- as they can make this one
 abbrev pub LacksNameRoom : Mends → DraftView → Type 0
 LacksNameRoom mends draft = IsTrue mends.name_colours × (memory_of draft < longest_file)
+    × (memory_of draft < length draft.file + 4 * (length draft.file - 128))
 
 -- what was done with the content, the lines and the end mark
 pub record IsDone (asked : Mends) (based : List ℕ) (done : Done) (settled : List ℕ) : Type 0 where

@@ -1,11 +1,11 @@
 //! What is changed of the content of a file that is mended.
-ghost use Rattle.std.specs.Prelude.{◌≡◌, ◌+◌, ◌≤◌, ◌<◌, length, IfOk, IfErr, IsTrue, OnErr, OnOk};
+ghost use Rattle.std.specs.Prelude.{◌≡◌, ◌+◌, ◌-◌, ◌*◌, ◌≤◌, ◌<◌, length, IfOk, IfErr, IsTrue, OnErr, OnOk};
 ghost use Rattle.ans_model.specs.Bytes.{longest_file};
 ghost use Rattle.ans_mend.specs.declared.outcome.Unmended.TheVariants.{TooLong};
 ghost use Rattle.ans_check.specs.Mending.{AreLastEndsGone, AreNamed, AreRowsJoined, AreSequencesOut, IsEdited};
 ghost use Rattle.ans_check.specs.Mending.{TellsReturns};
 ghost use Rattle.ans_check.specs.Mending.{returned};
-ghost use Rattle.ans_check.specs.MendingRoom.{most_names, most_returns};
+ghost use Rattle.ans_check.specs.MendingRoom.{most_added, most_returns};
 ghost use Rattle.ans_check.specs.MendingSteps.{IsEditedTooLong, IsNamedTooLong, LacksNameRoom};
 ghost use Rattle.ans_mend.specs.NamedColours.{IsTooLongNamed};
 ghost use Rattle.ans_mend.specs.Drafts.{memory_of};
@@ -77,7 +77,8 @@ fn name_colours(draft: &mut Draft<'_>, mends: &Mends) -> Result<Option<Times>, N
     ensures file { IfOk result (AreNamed mends.now draft.old.file draft.new.file) }
     ensures memory { memory_of draft.new ≡ memory_of draft.old }
     ensures no_room { OnErr result (IsTrue mends.now.name_colours
-        × IsTooLongNamed draft.old.file (memory_of draft.old)) }
+        × IsTooLongNamed draft.old.file (memory_of draft.old)
+        × (memory_of draft.old < length draft.old.file + 4 * (length draft.old.file - 128))) }
 {
     if mends.name_colours {
         return draft.name_colours();
@@ -122,11 +123,10 @@ pub(crate) fn edit(
     ensures edits { IfOk result (λ answer. IfOk answer (IsEdited mends.now size draft.old.file draft.new.file)) }
     ensures length { IfOk result (λ answer. OnOk answer (length draft.new.file ≤ longest_file)) }
     ensures reason { IfOk result (λ answer. IfErr answer (IsEditedTooLong mends.now size draft.old.file)) }
-    ensures longer { IfOk result (λ answer. OnOk answer (length draft.new.file ≤ length draft.old.file
-        + (most_returns mends.now (front_in draft.old.file) + most_names mends.now (length draft.old.file)))) }
+    ensures longer { IfOk result (λ answer. OnOk answer
+        (length draft.new.file ≤ length draft.old.file + most_added mends.now draft.old.file)) }
     ensures memory { memory_of draft.new ≡ memory_of draft.old }
-    ensures no_room { OnErr result (draft.old.room < most_returns mends.now (front_in draft.old.file)
-        + most_names mends.now (length draft.old.file)) }
+    ensures no_room { OnErr result (draft.old.room < most_added mends.now draft.old.file) }
 {
     let returns = put_returns(draft, mends)?;
     if draft.file().len() > MAX_FILE {

@@ -1,5 +1,5 @@
 //! A file that is read to be mended, and what is written of it.
-ghost use Rattle.std.specs.Prelude.{◌≡◌, ◌≤◌, ◌++◌, false, length, take};
+ghost use Rattle.std.specs.Prelude.{◌≡◌, ◌+◌, ◌*◌, ◌≤◌, ◌++◌, false, length, take};
 ghost use Rattle.ans_model.specs.Bytes.{longest_file};
 ghost use Rattle.ans_write.specs.Puts.{Puts};
 ghost use Rattle.ans_write.specs.Tried.{has_failed};
@@ -50,13 +50,15 @@ fn put_answer<W: Write>(out: &mut Outbox<'_, W>, answer: &Result<Mended, Unmende
     }
 }
 
-/// How many bytes names of colours are at most, where they are asked for: up to the longest file.
+/// How many bytes names of colours are at most, where they are asked for: eight for each byte before the record,
+/// an end mark that is put counted, up to the longest file.
 fn room_for_names(file: &[u8], mends: &Mends) -> usize
     requires { length file.now ≤ longest_file }
-    ensures { result ≡ most_names mends.now (length file.now) }
+    ensures value { result ≡ most_names mends.now (length file.now) (length file.now + 1) }
+    ensures few { result ≤ longest_file }
 {
     if mends.name_colours {
-        MAX_FILE - file.len()
+        (MAX_FILE - file.len()).min(8 * (file.len() + 1))
     } else {
         0
     }
@@ -66,7 +68,8 @@ fn room_for_names(file: &[u8], mends: &Mends) -> usize
 /// end marks.
 fn room_for(file: &[u8], mends: &Mends) -> usize
     requires { length file.now ≤ longest_file }
-    ensures { result ≡ most_put mends.now file.now }
+    ensures value { result ≡ most_put mends.now file.now }
+    ensures few { result ≤ 2 * longest_file + 130 }
 {
     let names = room_for_names(file, mends);
     if !mends.line_ends {
@@ -83,7 +86,7 @@ fn mend_in<W: Write>(
     count: usize,
     mends: &Mends,
 ) -> Result<Result<Mended, Unmended>, AllocError>
-    requires within { count ≤ length memory.old }
+    requires within { count + most_put mends.now (take count memory.old) ≤ length memory.old }
     requires length { count ≤ longest_file }
     ensures { PutsMended W.contents mends.now (take count memory.old) out.old out.new result }
 {

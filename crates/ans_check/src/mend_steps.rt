@@ -3,9 +3,8 @@ ghost use Rattle.std.specs.Prelude.{◌≡◌, ◌⊎◌, ◌+◌, ◌<◌, ◌�
 ghost use Rattle.std.specs.Prelude.{OnErr, OnOk};
 ghost use Rattle.ans_model.specs.Bytes.{longest_file, most_lines};
 ghost use Rattle.ans_mend.specs.Drafts.{memory_of};
-ghost use Rattle.ans_sauce.specs.Found.{front_in};
 ghost use Rattle.ans_check.specs.Mending.{IsMended, IsReason, IsReasonFor, record_put, recorded};
-ghost use Rattle.ans_check.specs.MendingRoom.{LacksRoom, LacksScreenInTheEnd, most_names, most_put, most_returns};
+ghost use Rattle.ans_check.specs.MendingRoom.{LacksRoom, LacksScreenInTheEnd, most_added, most_put};
 ghost use Rattle.ans_check.specs.MendingSteps.{IsDone, IsFinished, IsPrepared, IsTooLong};
 
 use crate::mend_edits::edit;
@@ -58,10 +57,8 @@ fn settle(draft: &mut Draft<'_>, asked: &Mends) -> Result<Result<Done, Unmended>
     ensures length { IfOk result (λ answer. OnOk answer (length draft.new.file ≤ longest_file)) }
     ensures reason { IfOk result (λ answer. IfErr answer (IsReasonFor asked.now draft.old.file)) }
     ensures longer { IfOk result (λ answer. OnOk answer
-        (length draft.new.file ≤ length draft.old.file + (most_returns asked.now (front_in draft.old.file)
-        + most_names asked.now (length draft.old.file) + 1))) }
-    ensures no_room { OnErr result (draft.old.room ≤ most_returns asked.now (front_in draft.old.file)
-        + most_names asked.now (length draft.old.file)) }
+        (length draft.new.file ≤ length draft.old.file + (most_added asked.now draft.old.file + 1))) }
+    ensures no_room { OnErr result (draft.old.room ≤ most_added asked.now draft.old.file) }
 {
     let lacks = open_lines(draft, asked);
     let survey = match survey_of(draft.file(), lacks) {
@@ -182,7 +179,8 @@ fn finish(
 /// The answer is an error where the file cannot be mended so. The draft then holds a file that is half
 /// changed. `Err` says that there is no room for the screen; it comes, too, where the draft has room for
 /// fewer than 130 bytes, and with line ends for fewer than one more for each line feed. With names of colours
-/// it may come where the memory is shorter than the longest file besides.
+/// it may come where there is room for fewer than eight more for each byte and eight besides, unless the memory
+/// is as long as the longest file and these.
 pub fn mend_on<S: Screens>(
     screens: &mut S,
     draft: &mut Draft<'_>,

@@ -234,6 +234,13 @@ module _ (file : List ℕ) where
             ∙ marked_body (unmarked (has_record file) (list_any is_end_mark (body_in file)) is)
         go false is = refl
 
+    pub mark_record : record_in (with_end_mark file) ≡ record_in file
+    mark_record = go (lacks_end_mark file)
+      where
+        go : (lacks : Bool) → record_in (marked_if lacks) ≡ record_in file
+        go true = ap record_in marked_whole ∙ record_behind marked_front (record_in file) record_size
+        go false = refl
+
 -- ---- returns
 
 pub content_unmarked : (body : List ℕ) → list_any is_end_mark (content body) ≡ false
@@ -367,6 +374,18 @@ module _ (file : List ℕ) (has : has_record file ≡ true) where
       is_empty : (bytes : List ℕ) → length bytes < 1 → bytes ≡ []
       is_empty [] few = refl
       is_empty (b ∷ bytes) few = absurd (let no : ⊥ = omega (arith, few) in no)
+
+  -- and the record stays, whatever is put
+  pub record_stays : (new : List ℕ) → record_in (with_content new file) ≡ record_in file
+  record_stays new =
+      let long = recorded_long file has in
+      let front : List ℕ = new ++ drop (length c) before in
+      let whole : with_content new file ≡ front ++ record_in file =
+      ap (λ (v : List ℕ). new ++ drop (length c) v) (sym (take-append-drop (length file - 128) file))
+      ∙ ap (λ (v : List ℕ). new ++ v) (drop-append-le (length c) before (record_in file) (content_before file))
+      ∙ sym (append_assoc new (drop (length c) before) (record_in file)) in
+      ap record_in whole
+      ∙ record_behind front (record_in file) (length-drop (length file - 128) file ∙ omega (arith, long))
 
   put_wanted : wants_returns c ≡ true → wants_returns (content_in (with_content (with_returns c) file)) ≡ false
   put_wanted wants =

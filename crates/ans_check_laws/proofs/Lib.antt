@@ -27,6 +27,7 @@ pub mod NothingGone
 pub mod MendedItself
 pub mod MendedAgain
 pub mod MendedTwice
+pub mod NamedItself
 pub mod PlayersShown
 pub mod RedrawnAgain
 pub mod MendedRedrawn

@@ -38,7 +38,7 @@ nothing_lacks file = go (has_record file) (stated_lines (record_in file) == 0)
     go true false = refl
     go false unstated = refl
 
-not_opened : (file : List ℕ) → opened no_mends.NONE file ≡ file
+pub not_opened : (file : List ℕ) → opened no_mends.NONE file ≡ file
 not_opened file =
     ap (λ (lacks : Bool). if lacks then with_record (with_lines most_lines (record_in file)) file else file)
     (nothing_lacks file)
@@ -54,7 +54,7 @@ not_asked lacks sauce bytes lines (wants, inl given) = absurd (none_given given)
     none_given e = cc
 not_asked lacks sauce bytes lines (wants, inr (asks, least)) = true≢false (sym asks.1)
 
-not_lined : (lacks : Bool) (file : List ℕ) (lines : Option ℕ) → AreLinesFor no_mends.NONE lacks file lines
+pub not_lined : (lacks : Bool) (file : List ℕ) (lines : Option ℕ) → AreLinesFor no_mends.NONE lacks file lines
     → lined lines file ≡ file
 not_lined lacks file None h = refl
 not_lined lacks file (Some lines) h = absurd (not_asked lacks (record_in file) (content_in file) lines h)

@@ -34,8 +34,8 @@ use Rattle.ans_names_laws.specs.NameLaws.{NeverOwn, NoneOwnIsLeft}
 use Rattle.ans_check_laws.proofs.WholeFiles.{accepted_long}
 use Rattle.ans_check_laws.proofs.MarkedContents.{marked_stays}
 use Rattle.ans_check_laws.proofs.CutFiles.{front_shorter, content_before, front_of_front, has_by, length_front}
-use Rattle.ans_check_laws.proofs.CutFiles.{lines_had, lines_kept, mark_had, mark_kept, record_behind}
-use Rattle.ans_check_laws.proofs.CutFiles.{content_put, content_unmarked, returned_wants_none}
+use Rattle.ans_check_laws.proofs.CutFiles.{lines_had, lines_kept, mark_had, mark_kept, mark_record, record_behind}
+use Rattle.ans_check_laws.proofs.CutFiles.{content_put, content_unmarked, record_stays, returned_wants_none}
 use Rattle.ans_check_laws.proofs.MendedAgain.{off, on, opened_stays, settled_stays}
 use Rattle.ans_check_laws.proofs.MendedItself.{same_size, settled_content}
 use Rattle.ans_check_laws.proofs.NamedAgain.{NamingLaws, begins_named, named_again, own_gone}
@@ -149,7 +149,7 @@ module _ (mends : Mends) (file : List ℕ) (mended : Mended) (draft : List ℕ) 
       let last : length (drop 94 r) ≡ length r - 94 = length-drop 94 r in
       omega (arith, sum, first, last, record_size)
 
-  its_record : h.apart.record_bytes ≡ resized
+  pub its_record : h.apart.record_bytes ≡ resized
   its_record =
       let whole : written ≡ (front_bytes mended.front ++ front_in h.settled) ++ resized =
       ap (λ (v : List ℕ). front_bytes mended.front ++ v) h.draft_is
@@ -269,15 +269,21 @@ module _ (mends : Mends) (file : List ℕ) (mended : Mended) (draft : List ℕ) 
         let names_on : h.asked.name_colours ≡ true = ap (λ (m : Mends). m.name_colours) h.asked_is ∙ asks in
         on (has_record ended) _ has_ended (on h.asked.name_colours _ names_on h.is_edited.named)
 
-    left_is : content_in h.settled ≡ put.0
+    pub left_is : content_in h.settled ≡ put.0
     left_is =
         same_content ∙ ap content_in put.2
         ∙ content_put ended has_ended put.0
         (named_unmarked (content_in ended) put.0 times put.1 (content_unmarked (body_in ended)))
         (nothing_named (content_in ended) put.0 times put.1)
 
+    -- where no lines are taken, the record is as it was
+    pub record_is : lined h.lines h.edited ≡ h.edited → record_in h.settled ≡ record_in ended
+    record_is same =
+        ap record_in h.settled_is ∙ ap (λ (v : List ℕ). record_in (with_end_mark v)) same
+        ∙ mark_record h.edited has_edited ∙ ap record_in put.2 ∙ record_stays ended has_ended put.0
+
     -- what passes can be read
-    was_named : NamesColours (content_in ended) put.0 times
+    pub was_named : NamesColours (content_in ended) put.0 times
     was_named = go put.1
       where
         go : AreColoursNamed (content_in ended) put.0 times → NamesColours (content_in ended) put.0 times

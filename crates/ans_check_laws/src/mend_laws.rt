@@ -1,7 +1,7 @@
 //! Laws of mending: by itself, and with what is asked for. Where colours are named, a body calls the laws of
 //! naming on which its own law stands.
 
-ghost use Rattle.std.specs.Prelude.{◌≡◌, ℕ, false, IsTrue, List, ◌++◌};
+ghost use Rattle.std.specs.Prelude.{◌≡◌, ℕ, true, false, IsTrue, List, ◌++◌};
 ghost use Rattle.ans_model.specs.File.Layout.{FileParts};
 ghost use Rattle.ans_model.specs.File.Record.{stated_size};
 ghost use Rattle.ans_model.specs.Screen.State.{Size, State};
@@ -16,7 +16,9 @@ ghost use Rattle.ans_check.specs.FileVerdict.{Passes};
 ghost use Rattle.ans_check.specs.Mending.{IsMended, front_bytes};
 ghost use Rattle.ans_check_laws.specs.KeptReturns.{KeepsReturns};
 
-use ans_names_laws::{named_content_is_read, naming_twice_is_naming_once, no_own_colours_are_left};
+use ans_names_laws::{
+    cells_stay, named_content_is_read, naming_twice_is_naming_once, no_own_colours_are_left,
+};
 
 /// Mending by itself changes no cell of a drawing. What is written of a file that passes from the
 /// cleared start is accepted, states the same size, and passes from every start with the same picture.
@@ -26,6 +28,17 @@ pub fn mending_keeps_the_picture()
         → (new : FileParts) × Passes (front_bytes mended.front ++ draft) none_known new picture
         × (stated_size new.record_bytes ≡ stated_size apart.record_bytes) }
 {}
+
+/// Nor does it where colours are named, and nothing else is asked for.
+pub fn naming_keeps_the_picture()
+    ensures { (file draft : List ℕ) (apart : FileParts) (picture : Picture) (mended : Mended)
+        → Passes file all_known apart picture
+        → IsMended (record no_mends.NONE { name_colours = true }) file mended draft
+        → (new : FileParts) × Passes (front_bytes mended.front ++ draft) none_known new picture
+        × (stated_size new.record_bytes ≡ stated_size apart.record_bytes) }
+{
+    cells_stay();
+}
 
 /// To mend once is enough: of what is written, mended again in the same way, the same bytes are written.
 /// That is so whatever is asked for, names of colours too, except two things. No line ends behind full rows

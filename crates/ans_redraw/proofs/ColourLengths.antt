@@ -2,14 +2,16 @@
 use Rattle.std.proofs.Common.{◌≡◌, inl, inr, ℕ, ◌+◌, ◌<◌, ◌≤◌, Bool, true, false, not}
 use Rattle.std.proofs.Common.{◌&&◌, ◌==◌, refl, ◌∙◌, arith, List, [], ◌∷◌, ◌++◌, length, length-append}
 use Rattle.std.proofs.Common.{map}
-use Rattle.std.specs.Prelude.{decimal, ◌||◌, if◌then◌else◌}
+use Rattle.std.specs.Prelude.{All, decimal, ◌||◌, if◌then◌else◌}
 use Rattle.std.specs.Fmt.{digits}
 use Rattle.std.specs.List.{concat, join_with_byte}
 use Rattle.std.proofs.lemmas.Bool.{agree_below_at, eqb-true, and_cases}
+use Rattle.std.proofs.lemmas.List.Elements.{All-cons, All-nil}
 use Rattle.ans_model.specs.Bytes.{semicolon}
 use Rattle.ans_players.specs.Situations.{Spelled}
 use Rattle.ans_redraw.specs.Colours.{foreground, is_bright, background, blinks, colour_number, number_if, changes}
 use Rattle.ans_redraw.specs.Colours.{stays, anew, numbers_to, colours_text, colours, colours_to}
+use Rattle.ans_redraw.specs.Laws.{ColoursAreShort}
 use Rattle.ans_redraw.proofs.ColourParts.{foreground_lt, background_lt, bright_number, blink_number}
 use Rattle.ans_redraw.proofs.ColourParts.{front_number, back_number}
 
@@ -148,3 +150,12 @@ colours_to_length from to = by_test (from == to)
     by_test : (t : Bool) → bytes_of (if t then [] else colours (numbers_to from to) ∷ []) ≤ 12
     by_test true = omega arith
     by_test false = omega (arith, one_text (colours (numbers_to from to)), numbers_length from to)
+
+pub colours_are_short : ColoursAreShort
+colours_are_short from to = by_test (from == to)
+  where
+    by_test : (t : Bool) → All (λ x. length x.text ≤ 12) (if t then [] else colours (numbers_to from to) ∷ [])
+    by_test true = All-nil (λ x. length x.text ≤ 12)
+    by_test false =
+        All-cons (λ x. length x.text ≤ 12) (colours (numbers_to from to)) [] (numbers_length from to)
+        (All-nil (λ x. length x.text ≤ 12))

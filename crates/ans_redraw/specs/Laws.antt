@@ -1,6 +1,6 @@
 -- What is proved of the form.
 use Rattle.std.specs.Prelude.{◌≡◌, ◌↔◌, ℕ, ◌+◌, ◌<◌, Bool, IsTrue, IsFalse, List, [], fold, map}
-use Rattle.std.specs.Prelude.{take, slice_get, All, Some}
+use Rattle.std.specs.Prelude.{take, length, slice_get, All, Some, ◌≤◌}
 use Rattle.std.specs.List.{concat, list_any}
 use Rattle.ans_model.specs.Bytes.{IsByte}
 use Rattle.ans_model.specs.File.Layout.{is_end_mark}
@@ -31,6 +31,10 @@ ColoursLead = (z : Size) (s : State) (to : ℕ) → IsByte s.attribute → IsByt
 abbrev pub ColoursAreCalm : Type 0
 ColoursAreCalm = (z : Size) (h : Stand) (from to : ℕ) → IsByte from → IsByte to
     → All (λ x. situations z h x ≡ []) (colours_to from to)
+
+-- They have at most ten bytes after ESC and `[`: ansilove takes a sequence of up to 14 for one.
+abbrev pub ColoursAreShort : Type 0
+ColoursAreShort = (from to : ℕ) → All (λ x. length x.text ≤ 12) (colours_to from to)
 
 -- If both colours are named, both are named after them.
 abbrev pub ColoursKeepNames : Type 0

@@ -1,6 +1,6 @@
 //! Laws of the form.
 
-ghost use Rattle.ans_redraw.specs.Laws.{ColoursAreCalm, ColoursAreRead, ColoursKeepNames, ColoursLead};
+ghost use Rattle.ans_redraw.specs.Laws.{ColoursAreCalm, ColoursAreRead, ColoursAreShort, ColoursKeepNames, ColoursLead};
 ghost use Rattle.ans_redraw.specs.Laws.{FormEndsGrey, FormFeedsOn, FormHasNoEndMark, FormIsAgreed, FormIsGood};
 ghost use Rattle.ans_redraw.specs.Laws.{FormIsKept, FormIsRead, FormIsSame, FormIsShown, FormNeedsNothing};
 ghost use Rattle.ans_redraw.specs.Laws.{FormTellsThePicture, GoodPicturesAreDrawable};
@@ -8,10 +8,12 @@ ghost use Rattle.ans_redraw.specs.Laws.{FormTellsThePicture, GoodPicturesAreDraw
 use ans_players::player::Player;
 
 /// From each of the 256 attributes to each other: the colours make it so and change nothing else, no player
-/// parts from another at them, both colours stay named, and their bytes are read as they are meant.
+/// parts from another at them, both colours stay named, and their bytes are read as they are meant. They are
+/// one sequence at most, of ten bytes at most after ESC and `[`.
 pub fn colours_lead_from_each_to_each()
     ensures lead { ColoursLead }
     ensures calm { ColoursAreCalm }
+    ensures short { ColoursAreShort }
     ensures named { ColoursKeepNames }
     ensures read { ColoursAreRead }
 {}

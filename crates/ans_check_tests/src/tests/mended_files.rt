@@ -210,6 +210,33 @@ fn there_is_room_for_a_return_before_each_line_feed(rt: HostRuntime) -> Result<(
     Ok(())
 }
 
+/// A file of sequences with an omitted number, each of which takes eight bytes more.
+#[test]
+fn there_is_room_for_the_names_of_each_sequence(rt: HostRuntime) -> Result<(), AllocError> {
+    let mut content = [b'A'; 160];
+    for sequence in content.chunks_mut(4) {
+        sequence[..3].copy_from_slice(b"\x1b[m");
+    }
+    let file = sample_file(rt.alloc(), &content, &[(96, b"\x28")])?;
+    let named = Mends {
+        name_colours: true,
+        ..Mends::NONE
+    };
+    let mut reader = Tried::new(file.as_slice());
+    let mut writer = Tried::new(Narrow::new(4096));
+    let answer = mend(rt.alloc(), &mut reader, &mut writer, &named);
+    assert_eq!(rt; came(&rt, answer, writer.calls())?, Ok(Ok(true)));
+    let rest = behind(&rt, writer.inner().held(), MENDING);
+    assert!(rt;
+        rest.len() == 609
+            && rest
+                .chunks(12)
+                .take(40)
+                .all(|sequence| sequence == b"\x1b[m\x1b[37;40mA".as_slice())
+    );
+    Ok(())
+}
+
 #[test]
 fn a_reason_leaves_nothing_written(rt: HostRuntime) -> Result<(), AllocError> {
     let mut reader = Tried::new([b'S'; 127].as_slice());

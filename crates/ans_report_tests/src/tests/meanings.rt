@@ -4,7 +4,7 @@ use ans_sauce::{Cause, Note};
 use std::process::Abort;
 
 /// Some faults, and the whole text of each.
-static FAULTS: [(Cause, &str); 3] = [
+static FAULTS: [(Cause, &str); 6] = [
     (
         Cause::LinesTooLarge,
         "The record states more than 8192 lines. If the drawing is not that long, the\n\
@@ -21,6 +21,34 @@ static FAULTS: [(Cause, &str); 3] = [
         To mend it, look at the hints of 'anscheck why' first: full rows with line\n\
         ends, bare line feeds, rows over the edge and UTF-8 tear a drawing. Only if the\n\
         picture is right, state as many lines as the line 'lines:' says.\n",
+    ),
+    (
+        Cause::PrintUnknownPlace,
+        "Something is printed before the drawing has said where the cursor stands. On a\n\
+        screen where it stands elsewhere, the drawing is moved. The place is also\n\
+        unknown behind a full row if wrap was not switched on, and behind ESC[u if\n\
+        nothing was saved.\n\
+        \n\
+        To mend it, put the safe beginning in front:\n\
+        ESC[?7h ESC[0;37;40m ESC[2J ESC[H ESC[s, without the blanks.\n",
+    ),
+    (
+        Cause::EraseUnknownPlace,
+        "ESC[K blanks the rest of the cursor's row, and the drawing has not yet said\n\
+        where the cursor stands. It would blank another row on another screen.\n\
+        \n\
+        To mend it, put the safe beginning in front:\n\
+        ESC[?7h ESC[0;37;40m ESC[2J ESC[H ESC[s, without the blanks. If the rest of\n\
+        the screen is to stay, place the cursor first: ESC[1;1H.\n",
+    ),
+    (
+        Cause::MayScroll,
+        "A line feed comes where the cursor may stand below the stated lines. From some\n\
+        starts the screen scrolls and loses its top row.\n\
+        \n\
+        To mend it, put the safe beginning in front:\n\
+        ESC[?7h ESC[0;37;40m ESC[2J ESC[H ESC[s, without the blanks. If the line feed\n\
+        then scrolls from every start, it is F21: take it out.\n",
     ),
     (
         Cause::UnknownCell { row: 3, col: 7 },

@@ -3,6 +3,15 @@ use Rattle.ans_check.specs.Reported.{PutsMended}
 use Rattle.ans_check.proofs.MendFileLemmas.{grown_front, saturated}
 use Rattle.ans_check.proofs.mend_file.mend_file.Goals as goal
 
+pub mend_in-requires-within : goal.mend_in-requires-within
+mend_in-requires-within g c =
+    let bytes = c.args.file.items in
+    let count : c.len-count.result ≡ length bytes =
+    c.len-count.ensures ∙ sym c.as_slice.ensures.len ∙ ap length c.as_slice.ensures.value in
+    roomy c.args.mends.now bytes c.as_mut_slice.result.now c.len-count.result c.room_for-room.result
+    c.saturating_add.result count c.room_for-room.ensures.value c.room_for-room.ensures.few c.saturating_add.ensures
+    c.requires (c.as_mut_slice.ensures.value ∙ c.in_ok-resize.ensures.items)
+
 pub returns : goal.returns
 returns g c =
     let bytes = c.args.file.items in
