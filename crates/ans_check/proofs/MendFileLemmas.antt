@@ -1,10 +1,10 @@
 -- A file in memory with room behind it, and how its writing ends.
 use Rattle.std.proofs.Common.{◌≡◌, ◌∙◌, ℕ, ◌+◌, ◌≤◌, Bool, true, false, List, ◌++◌, length, take, Ok, Err}
-use Rattle.std.proofs.Common.{◌-◌, ◌*◌, ap, ap₂, arith, refl, replicate, subst, sym, true≢false}
+use Rattle.std.proofs.Common.{◌-◌, ◌*◌, ap, ap₂, arith, refl, subst, sym, true≢false}
 use Rattle.std.specs.Prelude.{◌↔◌, Result, IsErr, IsTrue, min}
 use Rattle.std.proofs.Math.Nat.{le-min}
 use Rattle.std.proofs.Math.Seq.{take-append_seam}
-use Rattle.std.proofs.lemmas.List.{length-append, length-replicate, take_all}
+use Rattle.std.proofs.lemmas.List.{length-append, take_all}
 use Rattle.ans_model.specs.Bytes.{longest_file}
 use Rattle.ans_options.specs.declared.command.Mends.{Mends}
 use Rattle.ans_check.specs.MendingRoom.{most_put}
@@ -22,21 +22,20 @@ saturated bytes count room sum is total within =
     subst (λ (v : ℕ). length bytes ≤ v) (sym total) (le-min (omega (arith, is)) (omega (arith, within)))
 
 -- so behind a file there is all the room that mending takes
-pub roomy : (mends : Mends) (bytes memory : List ℕ) (count room sum : ℕ) → count ≡ length bytes
+pub roomy : (mends : Mends) (bytes zeros memory : List ℕ) (count room sum : ℕ) → count ≡ length bytes
     → room ≡ most_put mends bytes → room ≤ 2 * longest_file + 130
     → sum ≡ min (count + room) 18446744073709551615 → length bytes ≤ longest_file
-    → memory ≡ take sum bytes ++ replicate (sum - length bytes) 0
+    → length zeros ≡ sum - length bytes → memory ≡ take sum bytes ++ zeros
     → count + most_put mends (take count memory) ≤ length memory
-roomy mends bytes memory count room sum is put few total within memory_is =
+roomy mends bytes zeros memory count room sum is put few total within rest memory_is =
     let all : sum ≡ count + room = omega (arith, is, few, total, within) in
     let front : take count memory ≡ bytes =
     ap₂ (λ (n : ℕ) (v : List ℕ). take n v) is memory_is
-    ∙ grown_front bytes sum (replicate (sum - length bytes) 0) (omega (arith, is, all)) in
-    let long : length memory ≡ length (take sum bytes) + length (replicate (sum - length bytes) 0) =
-    ap length memory_is ∙ length-append (take sum bytes) (replicate (sum - length bytes) 0) in
+    ∙ grown_front bytes sum zeros (omega (arith, is, all)) in
+    let long : length memory ≡ length (take sum bytes) + length zeros =
+    ap length memory_is ∙ length-append (take sum bytes) zeros in
     let first : length (take sum bytes) ≡ length bytes =
     ap length (take_all sum bytes (omega (arith, is, all))) in
-    let rest : length (replicate (sum - length bytes) 0) ≡ sum - length bytes = length-replicate (sum - length bytes) 0 in
     subst (λ (v : List ℕ). count + most_put mends v ≤ length memory) (sym front)
     (omega (arith, is, put, all, long, first, rest))
 

@@ -178,9 +178,8 @@ fn finish(
 ///
 /// The answer is an error where the file cannot be mended so. The draft then holds a file that is half
 /// changed. `Err` says that there is no room for the screen; it comes, too, where the draft has room for
-/// fewer than 130 bytes, and with line ends for fewer than one more for each line feed. With names of colours
-/// it may come where there is room for fewer than eight more for each byte and eight besides, unless the memory
-/// is as long as the longest file and these.
+/// fewer than 130 bytes, with line ends for fewer than one more for each line feed, and with names of colours
+/// for fewer than eight more for each byte and eight, up to the longest file.
 pub fn mend_on<S: Screens>(
     screens: &mut S,
     draft: &mut Draft<'_>,

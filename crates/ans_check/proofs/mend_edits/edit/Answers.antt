@@ -1,4 +1,5 @@
-use Rattle.ans_check.proofs.EditLemmas.{edited_so, edited_too_long}
+use Rattle.std.proofs.Common.{arith}
+use Rattle.ans_check.proofs.EditLemmas.{edited_so, edited_too_long, longer_by_names}
 use Rattle.ans_check.proofs.mend_edits.edit.Goals as goal
 
 pub returns-in-Ok-clause-edits : goal.returns-in-Ok-clause-edits
@@ -20,3 +21,13 @@ returns-in-Err-clause-reason c =
     c.in_ok-returns.ensures.file c.take_out_sequences-told.ensures.file c.join_rows-row_ends.ensures.file
     c.take_out_last_ends-last_ends.ensures.file c.in-Err.reason
     (rw c.in-Err.is at c.in_ok-named_colours.ensures.reason)
+
+pub returns-in-Ok-clause-longer : goal.returns-in-Ok-clause-longer
+returns-in-Ok-clause-longer c =
+    let put = c.in_ok-returns.ensures.longer in
+    let out = c.take_out_sequences-told.ensures.no_longer in
+    let joined = c.join_rows-row_ends.ensures.no_longer in
+    let ended = c.take_out_last_ends-last_ends.ensures.no_longer in
+    longer_by_names c.args.mends.now c.args.draft.now.file c.take_out_last_ends-last_ends.new.draft.file
+    (omega (arith, put, out, joined, ended)) c.name_within.new.draft.file c.in-Ok.named_colours
+    (rw c.in-Ok.is at c.in_ok-named_colours.ensures.named) (rw c.in-Ok.is at c.in_ok-named_colours.ensures.length)

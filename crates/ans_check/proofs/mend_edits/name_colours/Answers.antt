@@ -1,3 +1,4 @@
+use Rattle.ans_mend.specs.Drafts.{memory_of}
 use Rattle.ans_check.proofs.EditLemmas.{lacks_if, named_if}
 use Rattle.ans_check.proofs.mend_edits.name_colours.Goals as goal
 
@@ -8,4 +9,5 @@ returns-then-mends-clause-file c =
 
 pub returns-then-mends-clause-no_room : goal.returns-then-mends-clause-no_room
 returns-then-mends-clause-no_room c =
-    lacks_if c.args.mends.now _ _ c.name_colours.result c.if-mends.true c.name_colours.ensures.no_room
+    lacks_if c.args.mends.now _ c.args.draft.now.file (memory_of c.args.draft.now) c.name_colours.result
+    c.if-mends.true c.name_colours.ensures.no_room
