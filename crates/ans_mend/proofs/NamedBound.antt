@@ -1,12 +1,12 @@
 -- How much longer a file is at most with its colours named.
 use Rattle.std.proofs.Common.{◌≡◌, ℕ, ◌+◌, ◌-◌, ◌*◌, ◌≤◌, Bool, true, false, List, [], ◌∷◌, ◌++◌, length, drop, inl, inr}
-use Rattle.std.proofs.Common.{refl, sym, ap, ◌∙◌, arith, subst, codes, length-append, length-drop, Option, None, Ok}
-use Rattle.std.specs.Prelude.{IsTrue, MatchBool, nat_le, ◌==◌, ◌&&◌, if◌then◌else◌}
+use Rattle.std.proofs.Common.{refl, sym, ap, ◌∙◌, arith, codes, length-append, length-drop, Option, None}
+use Rattle.std.specs.Prelude.{MatchBool, nat_le, ◌==◌, if◌then◌else◌}
 use Rattle.std.specs.List.{AllZip, concat, join_with_byte}
 use Rattle.std.proofs.lemmas.Bool.{and_parts, false≢true, leb-true}
 use Rattle.ans_model.specs.Bytes.{bracket, escape, semicolon}
 use Rattle.ans_model.specs.File.Refusals.{has_record}
-use Rattle.ans_model.specs.Sequence.Reads.{ReadsAs, SpellsToken, kind_of_byte}
+use Rattle.ans_model.specs.Sequence.Reads.{SpellsToken, kind_of_byte}
 use Rattle.ans_model.specs.Sequence.Spelling.{mark_bytes}
 use Rattle.ans_model.specs.Sequence.TokenKind.{TokenKind, Glyph, Bell, BackSpace, CarriageReturn, LineFeed, Tab}
 use Rattle.ans_players.specs.Names.{Names, are_both}
