@@ -264,7 +264,7 @@ module _ (mends : Mends) (file : List ℕ) (mended : Mended) (draft : List ℕ) 
 
   -- where names are asked for
   module _ (asks : mends.name_colours ≡ true) where
-    put : (left : List ℕ) × AreColoursNamed (content_in ended) left times × (h.edited ≡ with_content left ended)
+    pub put : (left : List ℕ) × AreColoursNamed (content_in ended) left times × (h.edited ≡ with_content left ended)
     put =
         let names_on : h.asked.name_colours ≡ true = ap (λ (m : Mends). m.name_colours) h.asked_is ∙ asks in
         on (has_record ended) _ has_ended (on h.asked.name_colours _ names_on h.is_edited.named)

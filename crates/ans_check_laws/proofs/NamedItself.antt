@@ -1,10 +1,10 @@
 -- What comes of a file of which the colours are named, and nothing else is asked for.
-use Rattle.std.proofs.Common.{◌≡◌, List, [], true, refl, sym, ap, ap₂, ◌∙◌, subst, subst₂, ◌++◌}
+use Rattle.std.proofs.Common.{◌≡◌, ℕ, List, [], true, refl, sym, ap, ap₂, ◌∙◌, subst, subst₂, ◌++◌}
 use Rattle.ans_model.specs.File.Layout.{FileParts, content}
 use Rattle.ans_model.specs.File.Record.{stated_size}
 use Rattle.ans_model.specs.Screen.State.{Size}
 use Rattle.ans_model.specs.Screen.StartClass.{all_known, none_known}
-use Rattle.ans_model.specs.Sequence.Reads.{Reads}
+use Rattle.ans_model.specs.Sequence.Reads.{ReadsAs}
 use Rattle.ans_model.specs.Verdict.Good.{GoodWith, Picture}
 use Rattle.ans_players.specs.Situations.{spelled}
 use Rattle.ans_players.proofs.OneSpelling.{one_spelling}
@@ -25,7 +25,7 @@ use Rattle.ans_check.specs.Mending.{AreLinesFor, IsEdited, IsEditedAsStated, IsM
 use Rattle.ans_check.specs.Mending.{opened}
 use Rattle.ans_check_laws.proofs.WholeFiles.{nothing_cut}
 use Rattle.ans_check_laws.proofs.MendedItself.{not_lined, not_opened}
-use Rattle.ans_check_laws.proofs.MendedTwice.{its_record, left_is, record_is, was_named}
+use Rattle.ans_check_laws.proofs.MendedTwice.{its_record, left_is, put, record_is, was_named}
 
 -- names of colours, and nothing else
 abbrev names : Mends
@@ -67,14 +67,16 @@ module _ (cells : CellsStay) (file draft : List ℕ) (apart : FileParts) (pictur
       ∙ ap (with_file_size mended.file_size.is) same_record)
       ∙ resized_size [] refl mended.file_size.is file apart passes.accepts
 
-  was : NamesColours (content_in h.is_edited.ended) _ mended.edits.named_colours
+  was : NamesColours (content_in h.is_edited.ended) (put names file mended draft h refl).0 mended.edits.named_colours
   was = was_named names file mended draft h refl
 
   same_tokens : spelled was.tokens was.reads.0 ≡ spelled passes.good.tokens passes.good.reads.0
   same_tokens =
-      one_spelling (content_in h.is_edited.ended) was.tokens passes.good.tokens was.reads
-      (subst (λ (v : List ℕ). Reads v passes.good.tokens)
-      (sym (ap content_in ended_is ∙ ap content (laid_body file apart passes.accepts.laid))) passes.good.reads)
+      one_spelling (content_in h.is_edited.ended) was.tokens passes.good.tokens was.reads (
+        passes.good.reads.0,
+        subst (λ (v : List ℕ). ReadsAs v passes.good.tokens passes.good.reads.0)
+            (sym (ap content_in ended_is ∙ ap content (laid_body file apart passes.accepts.laid))) passes.good.reads.1,
+      )
 
   same_picture : h.picture ≡ picture
   same_picture =
