@@ -29,6 +29,19 @@ def plain_synopsis(body):
     return re.sub(r"## Synopsis\n(.*?)## Description", block, body, flags=re.DOTALL)
 
 
+def with_links(body):
+    """The names of sections and pages as links, and a list of the sections at the top."""
+    heads = re.findall(r"^## (.*)$", body, flags=re.MULTILINE)
+    for head in heads:
+        body = body.replace(f"*{head.upper()}*", f"[{head}]({anchor(head)})")
+    body = re.sub(r"\*docs/(\w+\.md)\*", r"[\1](\1)", body)
+    return " · ".join(f"[{head}]({anchor(head)})" for head in heads) + "\n\n" + body
+
+
+def anchor(head):
+    return "#" + head.lower().replace(" ", "-")
+
+
 def manual():
     """The page in Markdown: its own heads a level lower, and without mandoc's first and last line."""
     made = subprocess.run(["mandoc", "-T", "markdown", PAGE], stdout=subprocess.PIPE, check=True, text=True).stdout
@@ -36,7 +49,7 @@ def manual():
     for escaped, plain in PLAIN.items():
         body = body.replace(escaped, plain)
     body = re.sub(r"^# (.*)$", lambda head: f"## {head[1].capitalize()}", body, flags=re.MULTILINE)
-    return f"{HEAD}\n{plain_synopsis(body)}\n"
+    return f"{HEAD}\n{with_links(plain_synopsis(body))}\n"
 
 
 def main(arguments):
