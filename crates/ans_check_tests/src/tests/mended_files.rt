@@ -210,14 +210,16 @@ fn there_is_room_for_a_return_before_each_line_feed(rt: HostRuntime) -> Result<(
     Ok(())
 }
 
-/// A file of sequences with an omitted number, each of which takes eight bytes more.
+/// Sequences with an omitted number, each of which takes eight bytes more.
+const UNNAMED: &[u8; 160] = b"\
+    \x1b[mA\x1b[mA\x1b[mA\x1b[mA\x1b[mA\x1b[mA\x1b[mA\x1b[mA\x1b[mA\x1b[mA\
+    \x1b[mA\x1b[mA\x1b[mA\x1b[mA\x1b[mA\x1b[mA\x1b[mA\x1b[mA\x1b[mA\x1b[mA\
+    \x1b[mA\x1b[mA\x1b[mA\x1b[mA\x1b[mA\x1b[mA\x1b[mA\x1b[mA\x1b[mA\x1b[mA\
+    \x1b[mA\x1b[mA\x1b[mA\x1b[mA\x1b[mA\x1b[mA\x1b[mA\x1b[mA\x1b[mA\x1b[mA";
+
 #[test]
 fn there_is_room_for_the_names_of_each_sequence(rt: HostRuntime) -> Result<(), AllocError> {
-    let mut content = [b'A'; 160];
-    for sequence in content.chunks_mut(4) {
-        sequence[..3].copy_from_slice(b"\x1b[m");
-    }
-    let file = sample_file(rt.alloc(), &content, &[(96, b"\x28")])?;
+    let file = sample_file(rt.alloc(), UNNAMED, &[(96, b"\x28")])?;
     let named = Mends {
         name_colours: true,
         ..Mends::NONE
