@@ -49,7 +49,8 @@ named_if mends file new (Err none) asked named = tt
 -- no room was asked for
 pub lacks_if : (mends : Mends) (P : Type 0) (file : List ℕ) (memory : ℕ) (r : Result (Option Times) NoRoom)
     → mends.name_colours ≡ true → OnErr r (P × IsTooLongNamed file memory)
-    → OnErr r (IsTrue mends.name_colours × IsTooLongNamed file memory × (memory < length file + 4 * (length file - 128)))
+    → OnErr r (IsTrue mends.name_colours × IsTooLongNamed file memory
+    × (memory < length file + 4 * (length file - 128)))
 lacks_if mends P file memory (Ok times) asked lacks = tt
 lacks_if mends P file memory (Err none) asked (same, (new, times, named, more)) =
     let few = named_bound file new times named in

@@ -1,6 +1,6 @@
 -- How much longer a file is at most with its colours named.
-use Rattle.std.proofs.Common.{◌≡◌, ℕ, ◌+◌, ◌-◌, ◌*◌, ◌≤◌, Bool, true, false, List, [], ◌∷◌, ◌++◌, length, drop, inl, inr}
-use Rattle.std.proofs.Common.{refl, sym, ap, ◌∙◌, arith, codes, length-append, length-drop, Option, None}
+use Rattle.std.proofs.Common.{◌≡◌, ℕ, ◌+◌, ◌-◌, ◌*◌, ◌≤◌, Bool, true, false, List, [], ◌∷◌, ◌++◌, length, drop}
+use Rattle.std.proofs.Common.{inl, inr, refl, sym, ap, ◌∙◌, arith, codes, length-append, length-drop, Option, None}
 use Rattle.std.specs.Prelude.{MatchBool, nat_le, ◌==◌, if◌then◌else◌}
 use Rattle.std.specs.List.{AllZip, concat, join_with_byte}
 use Rattle.std.proofs.lemmas.Bool.{and_parts, false≢true, leb-true}
@@ -138,7 +138,8 @@ pub longer_by_names : (file new : List ℕ) (times : Option Times) → HasNamedC
 longer_by_names file new times h = go (has_record file) refl h
   where
     go : (has : Bool) → has_record file ≡ has
-        → MatchBool has ((left : List ℕ) × AreColoursNamed (content_in file) left times × (new ≡ with_content left file))
+        → MatchBool has
+        ((left : List ℕ) × AreColoursNamed (content_in file) left times × (new ≡ with_content left file))
         ((new ≡ file) × (times ≡ None))
         → length new ≤ length file + 4 * (length file - 128)
     go false is named = let same = ap length named.0 in omega (arith, same)

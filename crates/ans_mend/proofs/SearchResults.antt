@@ -90,5 +90,6 @@ module _ (bytes : List ℕ) (first now : Search) where
         end = omega (arith, left_behind left h, ap length whole, length-append (concat h.front.texts) left);
         waits = found.0;
         missing = found.1;
-        within = waiting_within bytes left h.front.tokens h.front.texts taking (shown_names now.named) reads whole found.0;
+        within = waiting_within bytes left h.front.tokens h.front.texts taking (shown_names now.named) reads whole
+            found.0;
       }

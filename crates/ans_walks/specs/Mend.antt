@@ -13,8 +13,8 @@ mending =
     (escape ∷ codes "[?7h") ++ (escape ∷ codes "[0;37;40m") ++ (escape ∷ codes "[2J") ++ (escape ∷ codes "[H")
     ++ (escape ∷ codes "[s")
 
--- Wrap on, white on black by name, a blank screen, the cursor at home, and saved there. Clear takes it home too in ANSI.SYS,
--- and in no terminal of today.
+-- Wrap on, white on black by name, a blank screen, the cursor at home, and saved there. Clear takes it home too in
+-- ANSI.SYS, and in no terminal of today.
 abbrev pub mending_tokens : List TokenKind
 mending_tokens = Wrap true ∷ Colours (0 ∷ 37 ∷ 40 ∷ []) ∷ Clear ∷ Place 1 1 ∷ Save ∷ []
 
