@@ -7,7 +7,8 @@ use Rattle.std.proofs.lemmas.Bool.{false≢true}
 use Rattle.std.proofs.lemmas.List.{take-append-drop}
 use Rattle.ans_model.specs.Sequence.Spelling.{is_mark_byte}
 use Rattle.ans_forms.specs.Pieces.{allows, behind_form, behind_piece, count_front, is_digit, is_note, is_parameter}
-use Rattle.ans_forms.specs.Unwanted.{Entry, IsOfKind, behind_going, first_form, forms, kind_or, may_go, unwanted_form}
+use Rattle.ans_forms.specs.Unwanted.{Entry, IsOfKind, ReassignsNone, behind_going, first_form, forms, kind_or, may_go}
+use Rattle.ans_forms.specs.Unwanted.{unwanted_form}
 use Rattle.ans_forms.specs.declared.kinds.Before.{Before}
 use Rattle.ans_forms.specs.declared.kinds.Unwanted.{Unwanted}
 use Rattle.ans_forms.specs.declared.kinds.Unwanted.TheVariants as unwanted
@@ -117,9 +118,10 @@ no_form_at false false = refl
 pub no_form_in_nothing : (before : Before) → unwanted_form before [] ≡ None
 no_form_in_nothing before = no_form_at before.is_shown before.is_coloured
 
--- what is found is of its kind
+-- what is found is of its kind, if no key is reassigned there
 pub found_of_kind : (before : Before) (kind : Unwanted) (text rest : List ℕ) → IsTrue (has_form kind)
-    → unwanted_form before (text ++ rest) ≡ Some (kind, rest) → IsOfKind before kind text rest
-found_of_kind before unwanted.ReassignedKey text rest has e = absurd (false≢true has)
-found_of_kind before unwanted.Unfinished text rest has e = absurd (false≢true has)
-found_of_kind before kind text rest has e = e
+    → ReassignsNone (text ++ rest) → unwanted_form before (text ++ rest) ≡ Some (kind, rest)
+    → IsOfKind before kind text rest
+found_of_kind before unwanted.ReassignedKey text rest has none e = absurd (false≢true has)
+found_of_kind before unwanted.Unfinished text rest has none e = absurd (false≢true has)
+found_of_kind before kind text rest has none e = (none, e)

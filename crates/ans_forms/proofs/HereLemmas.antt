@@ -17,7 +17,7 @@ use Rattle.ans_model.proofs.Reading.{refused_no_token, token_nonempty, unfinishe
 use Rattle.ans_model.proofs.Refusing.{unfinished_not_refused}
 use Rattle.ans_tokens.specs.Walk.{HasNoReading}
 use Rattle.ans_forms.specs.Here.{IsForm, IsGoingHere, IsTokenHere, NoneGoesHere, ends_plainly, is_keys}
-use Rattle.ans_forms.specs.Unwanted.{BeginsStaying, stays, unwanted_form}
+use Rattle.ans_forms.specs.Unwanted.{BeginsStaying, ReassignsNone, stays, unwanted_form}
 use Rattle.ans_forms.specs.declared.kinds.Before.{Before}
 use Rattle.ans_forms.specs.declared.kinds.Going.{Going}
 use Rattle.ans_forms.specs.declared.kinds.Unwanted.{Unwanted}
@@ -43,22 +43,22 @@ form_is before left place kind behind e =
       },
     )
 
-pub form_goes : (before : Before) (left : List ℕ) (place : ℕ) (going : Going) → IsForm before left place going
-    → IsGoingHere before left place going
-form_goes before left place going h = record {
+pub form_goes : (before : Before) (left : List ℕ) (place : ℕ) (going : Going) → ReassignsNone left
+    → IsForm before left place going → IsGoingHere before left place going
+form_goes before left place going none h = record {
   text = h.text;
   rest = h.rest;
   whole = h.whole;
   of_kind = found_of_kind before going.kind h.text h.rest (found_is before left going.kind h.rest h.form).0
-      (rw h.whole at h.form);
+      (subst ReassignsNone h.whole none) (rw h.whole at h.form);
   place_is = h.place_is;
   length_is = h.length_is;
 }
 
-pub form_goes_if : (before : Before) (left : List ℕ) (place : ℕ) (result : Option Going)
+pub form_goes_if : (before : Before) (left : List ℕ) (place : ℕ) (result : Option Going) → ReassignsNone left
     → IfSome result (IsForm before left place) → IfSome result (IsGoingHere before left place)
-form_goes_if before left place None h = tt
-form_goes_if before left place (Some going) h = form_goes before left place going h
+form_goes_if before left place None none h = tt
+form_goes_if before left place (Some going) none h = form_goes before left place going none h
 
 -- ---- by no kind
 pub if_none : (result : Option Going) (P Q : Type 0) → IfNone result P → (P → Q) → IfNone result Q
@@ -66,15 +66,14 @@ if_none None P Q h f = f h
 if_none (Some going) P Q h f = tt
 
 pub none_goes : (before : Before) (left : List ℕ) → unwanted_form before left ≡ None
-    → ((text rest : List ℕ) → left ≡ text ++ rest → ¬ SpellsToken Keys text)
-    → (IsUnfinished left → ¬ IsTrue (not (list_any is_quote left))) → NoneGoesHere before left
+    → ReassignsNone left → (IsUnfinished left → ¬ IsTrue (not (list_any is_quote left))) → NoneGoesHere before left
 none_goes before left no_form no_keys no_end unwanted.ReassignedKey text rest e is = no_keys text rest e is
 none_goes before left no_form no_keys no_end unwanted.Unfinished text rest e is =
     let all : text ≡ left = sym (e ∙ ap (λ (v : List ℕ). text ++ v) is.0 ∙ append-nil text) in
     no_end (subst IsUnfinished all is.1) (subst (λ (v : List ℕ). IsTrue (not (list_any is_quote v))) all is.2)
 none_goes before left no_form no_keys no_end kind text rest e is =
     let no : ◌≡◌ {A = Option (Unwanted × List ℕ)} None (Some (kind, rest)) =
-    sym no_form ∙ ap (unwanted_form before) e ∙ is in cc
+    sym no_form ∙ ap (unwanted_form before) e ∙ is.1 in cc
 
 -- ---- where nothing is left
 pub nothing_stays : ¬ BeginsStaying []
@@ -109,14 +108,16 @@ module _ (left : List ℕ) (long : ℕ) (reassigns : Bool) (h : IsTokenHere left
     length_is = size ∙ h.long_is;
   }
 
+  pub no_keys_there : reassigns ≡ false → ReassignsNone left
+  no_keys_there is text rest e keys =
+      let same : h.token ≡ Keys =
+      (one_token_in_front h.token Keys h.text text h.rest rest h.spelled keys (sym h.whole ∙ e)).0 in
+      false≢true (sym is ∙ h.keys ∙ ap is_keys same)
+
   pub none_at_token : (before : Before) → reassigns ≡ false → unwanted_form before left ≡ None
       → NoneGoesHere before left
   none_at_token before is no_form =
-      none_goes before left no_form
-      (λ text rest e keys.
-      let same : h.token ≡ Keys =
-      (one_token_in_front h.token Keys h.text text h.rest rest h.spelled keys (sym h.whole ∙ e)).0 in
-      false≢true (sym is ∙ h.keys ∙ ap is_keys same))
+      none_goes before left no_form (no_keys_there is)
       (λ unfinished plain. unfinished_no_token h.token h.text h.rest h.spelled (subst IsUnfinished h.whole unfinished))
 
 -- ---- where the reading refuses
@@ -147,6 +148,9 @@ module _ (left : List ℕ) (cause : Cause) (h : HasNoReading left cause) where
     | inr (unfinished, is) ↦ unfinished_no_token t text rest spelled (subst IsUnfinished e unfinished)
   ]
 
+  pub no_keys_refused : ReassignsNone left
+  no_keys_refused text rest e keys = no_token Keys text rest e keys
+
   pub refused_stays : ¬ BeginsStaying left
   refused_stays b = no_token b.token b.text b.rest b.whole b.spelled
 
@@ -157,15 +161,15 @@ module _ (left : List ℕ) (cause : Cause) (h : HasNoReading left cause) where
   ]
 
   pub end_goes : (before : Before) (place : ℕ) (going : Going) → ends_plainly cause left ≡ true
-      → going.kind ≡ unwanted.Unfinished → going.place ≡ place → going.length ≡ length left
-      → IsGoingHere before left place going
-  end_goes before place going plain kind at size =
+      → unwanted_form before left ≡ None → going.kind ≡ unwanted.Unfinished → going.place ≡ place
+      → going.length ≡ length left → IsGoingHere before left place going
+  end_goes before place going plain no_form kind at size =
       let (is, no_quote) = plain_end cause left plain in
       record {
         text = left;
         rest = [];
         whole = sym (append-nil left);
-        of_kind = rw kind (refl, ends is, no_quote);
+        of_kind = rw kind (refl, ends is, no_quote, no_form);
         place_is = at;
         length_is = size;
       }
@@ -182,5 +186,4 @@ module _ (left : List ℕ) (cause : Cause) (h : HasNoReading left cause) where
   pub none_at_fault : (before : Before) → ends_plainly cause left ≡ false → unwanted_form before left ≡ None
       → NoneGoesHere before left
   none_at_fault before plain no_form =
-      none_goes before left no_form (λ text rest e keys. no_token Keys text rest e keys)
-      (no_plain_end cause refl plain)
+      none_goes before left no_form no_keys_refused (no_plain_end cause refl plain)

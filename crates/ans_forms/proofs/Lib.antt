@@ -3,3 +3,4 @@ pub mod FormEnds
 mod SomeText
 pub mod HereLemmas
 pub mod KeptSteps
+pub mod OneGoing

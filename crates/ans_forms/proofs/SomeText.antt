@@ -1,7 +1,7 @@
 -- What goes has a byte.
-use Rattle.std.proofs.Common.{◌≡◌, ℕ, suc, ◌+◌, ◌<◌, Bool, true, false, ◌&&◌, List, [], ◌∷◌, ◌++◌, length, Option}
+use Rattle.std.proofs.Common.{◌≡◌, ℕ, ◌+◌, ◌<◌, Bool, true, false, ◌&&◌, List, [], ◌∷◌, ◌++◌, length, Option}
 use Rattle.std.proofs.Common.{Some, None}
-use Rattle.std.proofs.Common.{refl, sym, ap, ◌∙◌, arith, length-append}
+use Rattle.std.proofs.Common.{refl, ap, ◌∙◌, arith, length-append}
 use Rattle.std.specs.Prelude.{IsTrue, option_and_then, if◌then◌else◌}
 use Rattle.std.specs.List.{list_all}
 use Rattle.std.proofs.lemmas.Bool.{false≢true}
@@ -91,4 +91,4 @@ pub some_text : (before : Before) (kind : Unwanted) (text rest : List ℕ) → I
     → 0 < length text
 some_text before unwanted.ReassignedKey text rest h = by_token text h
 some_text before unwanted.Unfinished text rest h = h.1.begun
-some_text before kind text rest h = by_form before kind text rest h
+some_text before kind text rest h = by_form before kind text rest h.1

@@ -115,13 +115,19 @@ first_form before bytes (form ∷ more) =
 unfoldable pub unwanted_form : Before → List ℕ → Option (Unwanted × List ℕ)
 unwanted_form before bytes = first_form before bytes forms
 
--- The bytes are this text, which is of the kind, and the rest: a reassigned key by its token, an unfinished sequence
--- with no quote in it at the end, and all else by its form.
+-- no token that reassigns a key begins the bytes
+abbrev pub ReassignsNone : List ℕ → Type 0
+ReassignsNone bytes = (text rest : List ℕ) → bytes ≡ text ++ rest → ¬ SpellsToken Keys text
+
+-- The bytes are this text, which is of the kind, and the rest. A reassigned key comes first, and is known by its token.
+-- Then comes the first form that fits and may go here. An unfinished sequence comes last: it ends the bytes, it has no
+-- quote, and there is no such form. So no two kinds are at one place.
 abbrev pub IsOfKind : Before → Unwanted → List ℕ → List ℕ → Type 0
 IsOfKind before unwanted.ReassignedKey text rest = SpellsToken Keys text
 IsOfKind before unwanted.Unfinished text rest =
-    (rest ≡ []) × IsUnfinished text × IsTrue (not (list_any is_quote text))
-IsOfKind before kind text rest = unwanted_form before (text ++ rest) ≡ Some (kind, rest)
+    (rest ≡ []) × IsUnfinished text × IsTrue (not (list_any is_quote text)) × (unwanted_form before text ≡ None)
+IsOfKind before kind text rest =
+    ReassignsNone (text ++ rest) × (unwanted_form before (text ++ rest) ≡ Some (kind, rest))
 
 -- tokens with these texts, all of which stay
 pub record AllStay (tokens : List TokenKind) (texts : List (List ℕ)) : Type 0 where

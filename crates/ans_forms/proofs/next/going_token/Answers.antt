@@ -1,5 +1,5 @@
 use Rattle.std.proofs.Common.{refl}
-use Rattle.ans_forms.proofs.HereLemmas.{form_goes_if, if_none, keys_go, none_at_token}
+use Rattle.ans_forms.proofs.HereLemmas.{form_goes_if, if_none, keys_go, no_keys_there, none_at_token}
 use Rattle.ans_forms.proofs.next.going_token.Goals as goal
 
 pub returns-then-stopped-clause-some : goal.returns-then-stopped-clause-some
@@ -8,7 +8,9 @@ returns-then-stopped-clause-some c =
     refl refl
 
 pub returns-clause-some : goal.returns-clause-some
-returns-clause-some c = form_goes_if _ _ _ c.going_form.result c.going_form.ensures.some
+returns-clause-some c =
+    form_goes_if _ _ _ c.going_form.result (no_keys_there c.args.left.now _ _ c.requires c.if-stopped.false)
+    c.going_form.ensures.some
 
 pub returns-clause-none : goal.returns-clause-none
 returns-clause-none c =
