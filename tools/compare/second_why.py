@@ -410,9 +410,16 @@ def has_whole_record(behind):
     return 0 <= behind.find(b"SAUCE00") <= len(behind) - 128
 
 
+def last_record(file):
+    """The place of the last `SAUCE00` with 121 bytes after it, and with no other less than 128 bytes before; or -1."""
+    places = [found.start() for found in re.finditer(b"SAUCE00", file[:max(0, len(file) - 121)])]
+    counted = [place for before, place in zip([-128] + places, places) if place - before >= 128]
+    return counted[-1] if counted else -1
+
+
 def missing_record(file):
     """F1, and where a record stands all the same."""
-    place = file.rfind(b"SAUCE00", 0, max(0, len(file) - 121))
+    place = last_record(file)
     behind = many(len(file) - place - 128, "byte")
     return len(file), 1, f"a record at {place}, and {behind} behind it" if place >= 0 else None
 

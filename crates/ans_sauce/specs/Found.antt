@@ -1,6 +1,6 @@
 -- What stands in a file where its record or its layout is refused.
-use Rattle.std.specs.Prelude.{◌≡◌, ◌⊎◌, ℕ, ◌+◌, ◌-◌, ◌≤◌, ◌↔◌, IsTrue, List, length, take, drop, codes, Option, Some}
-use Rattle.std.specs.Prelude.{None}
+use Rattle.std.specs.Prelude.{◌≡◌, ◌⊎◌, ℕ, ◌+◌, ◌-◌, ◌<◌, ◌≤◌, ◌↔◌, IsTrue, List, length, take, drop, codes}
+use Rattle.std.specs.Prelude.{Option, None, Some}
 use Rattle.memchr.specs.Find.{OccursAt, IsLast}
 use Rattle.ans_model.specs.declared.fault.Cause.{Cause}
 use Rattle.ans_model.specs.declared.fault.Cause.TheVariants.{NoRecord, WrongVersion, WrongKind, CommentsMissing}
@@ -17,9 +17,14 @@ pub record IsRecordAt (bytes : List ℕ) (place : ℕ) : Type 0 where
   pub id : OccursAt bytes (codes "SAUCE00") place
   pub whole : place + 128 ≤ length bytes
 
--- the last place of a record of version 00, where there is one
+-- and none begins in the 127 bytes before: of two that overlap the earlier counts
+pub record CountsAt (bytes : List ℕ) (place : ℕ) : Type 0 where
+  pub is_record : IsRecordAt bytes place
+  pub apart : (earlier : ℕ) → earlier < place → place < earlier + 128 → ¬ IsRecordAt bytes earlier
+
+-- the last place of a record of version 00 that counts, if there is one
 abbrev pub IsLastRecord : List ℕ → Option ℕ → Type 0
-IsLastRecord bytes place = IsLast (IsRecordAt bytes) 0 (length bytes) place
+IsLastRecord bytes place = IsLast (CountsAt bytes) 0 (length bytes) place
 
 -- somewhere a record of version 00 stands
 abbrev pub HoldsRecord : List ℕ → Type 0

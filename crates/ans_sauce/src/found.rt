@@ -1,10 +1,11 @@
 //! What stands in a file where its record or its layout is refused.
-ghost use Rattle.std.specs.Prelude.{◌≡◌, ℕ, List, Some};
+ghost use Rattle.std.specs.Prelude.{◌≡◌, ◌+◌, ◌-◌, ◌≤◌, ℕ, List, Some, length};
+ghost use Rattle.memchr.specs.Find.{IsLast};
 ghost use Rattle.ans_model.specs.File.Refusals.{record_fault};
 ghost use Rattle.ans_model.specs.declared.fault.Cause.TheVariants.{NoRecord, BytesAfterEndMark};
 ghost use Rattle.ans_sauce.specs.RecordBytes.{bytes_of};
 ghost use Rattle.ans_sauce.specs.Split.{EndsInRecord};
-ghost use Rattle.ans_sauce.specs.Found.{IsFound, IsLastRecord, after_end_mark};
+ghost use Rattle.ans_sauce.specs.Found.{IsFound, IsLastRecord, IsRecordAt, after_end_mark};
 
 use crate::layout::{body_before, cut_content, cut_record};
 use crate::record::Record;
@@ -37,13 +38,38 @@ pub enum Found<'a> {
 /// How a record of version 00 begins.
 const IDENTIFIER: &[u8] = b"SAUCE00";
 
-/// The last place at which `SAUCE00` and 121 more bytes stand, in bytes from the first one: a record of
-/// version 00, whatever stands behind it.
-pub fn last_record_place(bytes: &[u8]) -> Option<usize>
-    ensures { IsLastRecord bytes.now result }
+/// The last place of `SAUCE00` and 121 more bytes.
+fn last_identifier(bytes: &[u8]) -> Option<usize>
+    ensures { IsLast (IsRecordAt bytes.now) 0 (length bytes.now) result }
 {
     let end = bytes.len().checked_sub(121)?;
     FinderRev::new(IDENTIFIER).rfind(&bytes[..end], IDENTIFIER)
+}
+
+/// The place of the nearest record before the one at this place, if they overlap.
+fn overlapped(bytes: &[u8], place: usize) -> Option<usize>
+    requires { place + 128 ≤ length bytes.now }
+    ensures { IsLast (IsRecordAt bytes.now) (place - 127) place result }
+{
+    let earlier = last_identifier(&bytes[..place + 127])?;
+    if place - earlier < 128 {
+        Some(earlier)
+    } else {
+        None
+    }
+}
+
+/// The last place at which `SAUCE00` and 121 more bytes stand, in bytes from the first one: a record of
+/// version 00, whatever follows it. One counts only if none begins in the 127 bytes before it: it may be in
+/// a text of that record.
+pub fn last_record_place(bytes: &[u8]) -> Option<usize>
+    ensures { IsLastRecord bytes.now result }
+{
+    let mut place = last_identifier(bytes)?;
+    'overlapped: while let Some(earlier) = overlapped(bytes, place) {
+        place = earlier;
+    }
+    Some(place)
 }
 
 /// F1

@@ -177,7 +177,8 @@ impl<'a> Record<'a> {
         self.version() == b"00".as_slice()
     }
 
-    pub(crate) fn is_character_ansi(&self) -> bool
+    /// Whether it is of type Character/ANSi: DataType 1 and FileType 1 (SAUCE 00.5).
+    pub fn is_character_ansi(&self) -> bool
         ensures { result ≡ (data_type (bytes_of self.now) == 1
             && file_type (bytes_of self.now) == 1) }
     {

@@ -4,7 +4,7 @@
 use ans_model::fault::{Cause, Fault};
 use ans_samples::records::{ACCEPTED, REFUSED};
 use ans_samples::sample_file;
-use ans_sauce::{Found, find, split, without_lines};
+use ans_sauce::{Found, find, last_record_place, split, without_lines};
 use std::process::Abort;
 use std::test::Fail;
 
@@ -215,6 +215,28 @@ fn records_before_the_end_are_found(rt: HostRuntime) -> Result<(), Fail> {
             record: true,
         },
     );
+    Ok(())
+}
+
+/// Of two records less than 128 bytes apart the earlier counts: what comes before the record, a title, what follows the
+/// record, and the place that is found.
+static OVERLAPPING: [(&[u8], &[u8], &[u8], usize); 4] = [
+    (b"Hi\x1a", b"SAUCE00", b"\0\0\0\0\0\0\0\0\0", 3),
+    (b"HiSAUCE00\x1a", b"A title", b"\n", 2),
+    (b"SAUCE00....", b"SAUCE00", b"\0\0\0\0\0\0\0\0", 0),
+    (b"SAUCE0\x1a", b"sauce00", b"\n", 7),
+];
+
+#[test]
+fn the_earlier_of_overlapping_records_counts(rt: HostRuntime) -> Result<(), Fail> {
+    for (front, title, behind, offset) in OVERLAPPING {
+        let mut file = sample_file(rt.alloc(), front, &[(7, title)])?;
+        file.extend_from_slice(behind)?;
+        assert!(rt; last_record_place(&file) == Some(offset), "{front:?}");
+    }
+    let mut twice = sample_file(rt.alloc(), b"Hi\x1a", &[])?;
+    twice.extend_from_slice(&sample_file(rt.alloc(), b"", &[])?)?;
+    assert!(rt; last_record_place(&twice) == Some(131));
     Ok(())
 }
 
