@@ -28,7 +28,7 @@ last_stay file place byte start before within =
     ∙ drop-append-add front (byte ∷ drop place file) (suc (start - place))
     ∙ drop-drop (start - place) place file ∙ ap (λ (v : ℕ). drop v file) (omega (arith, before))
 
-byte_more : (file : List ℕ) (place byte : ℕ) → length (with_byte place byte file) ≡ length file + 1
+pub byte_more : (file : List ℕ) (place byte : ℕ) → length (with_byte place byte file) ≡ length file + 1
 byte_more file place byte =
     let cut : length (take place file) + length (drop place file) ≡ length file =
     sym (length-append (take place file) (drop place file)) ∙ ap length (take-append-drop place file) in

@@ -104,12 +104,13 @@ mended_text m =
 abbrev pub look_text : List ℕ
 look_text = codes "help: anscheck why shows the place, and anscheck help tells of the fault\n"
 
--- a drawing without a record wants one, or --width stands and puts none
-abbrev pub record_help : Mends → List ℕ
-record_help asked =
-    if is_some asked.width
-    then codes "help: no record is put where SAUCE00 stands, or more follows 1Ah: see anscheck help F1\n"
-    else codes "help: --width N gives a drawing without a record one for N columns\n"
+-- a drawing without a record wants one
+abbrev pub record_help : List ℕ
+record_help = codes "help: --width N gives a drawing without a record one for N columns\n"
+
+-- why it gets none
+abbrev pub no_record_help : List ℕ
+no_record_help = codes "help: no record is put where SAUCE00 stands, or more follows 1Ah: see anscheck help F1\n"
 
 abbrev pub sequence_help : Mends → List ℕ
 sequence_help asked =
@@ -150,7 +151,7 @@ place_help asked = if has_least asked then look_text else added_text ++ (lines_o
 
 -- what may help against a fault, of what is not asked for yet
 abbrev pub help_text : Mends → Cause → List ℕ
-help_text asked cause.NoRecord = record_help asked
+help_text asked cause.NoRecord = record_help
 help_text asked cause.LinesUnstated =
     codes "help: --least-lines states the least number of lines that is enough\n"
 help_text asked cause.BrokenSequence = sequence_help asked
@@ -179,6 +180,7 @@ no_lines_help asked = rows_help (record asked { least_lines = true })
 
 abbrev pub unmended_text : Mends → Unmended → List ℕ
 unmended_text asked (unmended.Refused fault) = fault_line fault ++ help_text asked fault.cause
+unmended_text asked (unmended.TakesNoRecord fault) = fault_line fault ++ no_record_help
 unmended_text asked unmended.Torn = codes "the rows are torn\n" ++ torn_help asked
 unmended_text asked unmended.NoLines = codes "no number of lines up to 8192 is enough\n" ++ no_lines_help asked
 unmended_text asked unmended.TooLong =

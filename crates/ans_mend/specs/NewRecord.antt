@@ -1,13 +1,18 @@
 -- A record for a file that has none.
-use Rattle.std.specs.Prelude.{ℕ, Bool, false, not, ◌&&◌, ◌||◌, List, [], ◌∷◌, ◌++◌, length, take, codes, replicate}
-use Rattle.std.specs.Prelude.{bytes_eq, Option, None, Some, if◌then◌else◌}
+use Rattle.std.specs.Prelude.{ℕ, Bool, true, false, not, ◌&&◌, ◌||◌, List, [], ◌∷◌, ◌++◌, length, take, codes}
+use Rattle.std.specs.Prelude.{replicate, bytes_eq, Option, None, Some, if◌then◌else◌}
 use Rattle.std.specs.List.{list_all}
 use Rattle.ans_model.specs.Bytes.{blank, end_mark}
 use Rattle.ans_model.specs.File.Layout.{after_content, content}
 use Rattle.ans_model.specs.File.Refusals.{has_record}
+use Rattle.ans_model.specs.declared.fault.Cause.{Cause}
+use Rattle.ans_model.specs.declared.fault.Cause.TheVariants.{NoRecord}
+use Rattle.ans_model.specs.declared.fault.Fault.{Fault}
 use Rattle.ans_mend.specs.Fields.{two_bytes}
 use Rattle.ans_mend.specs.Tail.{is_tail_byte}
 use Rattle.ans_mend.specs.declared.outcome.GivenRecord.{GivenRecord}
+use Rattle.ans_mend.specs.declared.outcome.Unmended.{Unmended}
+use Rattle.ans_mend.specs.declared.outcome.Unmended.TheVariants.{Refused, TakesNoRecord}
 
 -- SAUCE 00.5, record layout: version 00, blank texts, a date of eight zeros, FileSize 0, Character/ANSi, this width in
 -- columns, and no lines, comments, flags or font
@@ -40,3 +45,14 @@ record_given width file =
     if takes_record file
     then Some (record { width = width; place = length (content file); cut = length (after_content file) })
     else None
+
+-- ---- a file that takes none
+
+abbrev pub is_no_record : Cause → Bool
+is_no_record NoRecord = true
+is_no_record _ = false
+
+-- why a file is not mended whose record or layout has this fault
+abbrev pub refusal_of : List ℕ → Fault → Unmended
+refusal_of file fault =
+    if is_no_record fault.cause && not (takes_record file) then TakesNoRecord fault else Refused fault

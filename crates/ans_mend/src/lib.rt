@@ -26,5 +26,6 @@ pub use draft::{Draft, NoRoom};
 pub use line_ends::count_line_feeds;
 pub use mended_text::{put_end_mark_line, put_mended, put_reset_line, put_unmended};
 pub use name_search::begins_unnamed;
+pub use new_record::refusal_of;
 pub use outcome::{Edits, GivenRecord, Mended, NonBlink, Reset, Unmended};
 pub use taking_out::{Excerpt, TakenOut, Told};

@@ -3,7 +3,7 @@ ghost use Rattle.std.specs.Prelude.{◌≡◌};
 ghost use Rattle.std.specs.List.{flat_map};
 ghost use Rattle.ans_mend.specs.MendedText.{all_given, at_text, end_mark_line, flag_line, front_line, has_least};
 ghost use Rattle.ans_mend.specs.MendedText.{help_text, lines_offered, mended_text, no_lines_help, offered};
-ghost use Rattle.ans_mend.specs.MendedText.{others_text, place_help, quoted_excerpt, record_help, record_line};
+ghost use Rattle.ans_mend.specs.MendedText.{others_text, place_help, quoted_excerpt, record_line};
 ghost use Rattle.ans_mend.specs.MendedText.{replaced_text, reset_line, rows_help, sequence_help, tail_line};
 ghost use Rattle.ans_mend.specs.MendedText.{taken_line, times_line, torn_help, unmended_text};
 ghost use Rattle.ans_write.specs.Puts.{Puts};
@@ -209,16 +209,6 @@ const LEAST_LINES: &[u8] = b"help: --least-lines states the least number of line
 /// What a drawing wants that has sequences which are refused.
 const TAKE_OUT: &[u8] = b"help: --take-out takes out what is known of such sequences\n";
 
-fn record_help(asked: &Mends) -> &'static [u8]
-    ensures { result.now ≡ record_help asked.now }
-{
-    if asked.width.is_some() {
-        NO_WIDTH
-    } else {
-        WIDTH
-    }
-}
-
 fn sequence_help(asked: &Mends) -> &'static [u8]
     ensures { result.now ≡ sequence_help asked.now }
 {
@@ -310,7 +300,7 @@ fn put_help<W: Write>(out: &mut Outbox<'_, W>, asked: &Mends, cause: &Cause)
     ensures { Puts W.contents out.old out.new (help_text asked.now cause.now) }
 {
     match cause {
-        Cause::NoRecord => out.put(record_help(asked)),
+        Cause::NoRecord => out.put(WIDTH),
         Cause::LinesUnstated => out.put(LEAST_LINES),
         Cause::BrokenSequence
         | Cause::NumberTooLarge
@@ -349,6 +339,10 @@ pub fn put_unmended<W: Write>(out: &mut Outbox<'_, W>, asked: &Mends, reason: &U
         Unmended::Refused(fault) => {
             put_fault_line(out, fault);
             put_help(out, asked, &fault.cause);
+        }
+        Unmended::TakesNoRecord(fault) => {
+            put_fault_line(out, fault);
+            out.put(NO_WIDTH);
         }
         Unmended::Torn => {
             out.put(b"the rows are torn\n");

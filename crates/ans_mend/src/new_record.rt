@@ -4,12 +4,13 @@ ghost use Rattle.std.specs.Prelude.{◌≡◌, ◌+◌, ◌<◌, IfOk, IfNone, I
 ghost use Rattle.ans_model.specs.File.Layout.{after_content, content};
 ghost use Rattle.ans_mend.specs.Drafts.{memory_of};
 ghost use Rattle.ans_mend.specs.NewRecord.{begins_sauce, holds_sauce, new_record, record_given};
-ghost use Rattle.ans_mend.specs.NewRecord.{takes_record, with_new_record};
+ghost use Rattle.ans_mend.specs.NewRecord.{refusal_of, takes_record, with_new_record};
 
 use crate::draft::{Draft, NoRoom, RECORD_SIZE};
 use crate::end_mark::END_MARK;
-use crate::outcome::GivenRecord;
+use crate::outcome::{GivenRecord, Unmended};
 use crate::tail::is_tail;
+use ans_model::fault::{Cause, Fault};
 use ans_sauce::{cut_content, cut_record};
 
 /// The record but for its width: version 00, blank texts, a date of eight zeros, Character/ANSi (SAUCE
@@ -62,6 +63,17 @@ fn cut_for_record(file: &[u8]) -> Option<(&[u8], &[u8])>
         return None;
     }
     Some((content, rest))
+}
+
+/// Why a file is not mended whose record or layout has this fault: whether a record could be put is part of
+/// it where there is none.
+pub fn refusal_of(file: &[u8], fault: Fault) -> Unmended
+    ensures { result ≡ refusal_of file.now fault }
+{
+    match fault.cause {
+        Cause::NoRecord if cut_for_record(file).is_none() => Unmended::TakesNoRecord(fault),
+        _ => Unmended::Refused(fault),
+    }
 }
 
 impl<'a> Draft<'a> {

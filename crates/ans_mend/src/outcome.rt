@@ -72,6 +72,9 @@ pub enum Unmended {
     /// Its record or its layout has this fault, or its content has it from the cleared start, when all that
     /// was asked for is done.
     Refused(Fault),
+    /// It has no record, which is this fault, F1, and none can be put: `SAUCE00` is in it, or more than end marks,
+    /// zero bytes and line ends follows its content.
+    TakesNoRecord(Fault),
     /// The least number of lines was asked for, and its rows are torn.
     Torn,
     /// It states no lines. The least number was asked for, and it passes with none up to 8192.

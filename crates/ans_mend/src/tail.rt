@@ -1,14 +1,14 @@
-//! What stands behind a record and is none of the drawing.
+//! What follows a record and is none of the drawing.
 
 ghost use Rattle.std.specs.Prelude.{◌≡◌, ◌-◌, ◌≤◌, length};
 ghost use Rattle.std.specs.List.{list_all};
 ghost use Rattle.ans_mend.specs.Drafts.{memory_of};
 ghost use Rattle.ans_mend.specs.LastEnds.{times_at};
-ghost use Rattle.ans_mend.specs.Tail.{IsTailCut, is_tail_byte};
+ghost use Rattle.ans_mend.specs.Tail.{IsTailCut, ends_in_ansi, is_tail_byte};
 
 use crate::draft::{Draft, RECORD_SIZE};
 use crate::last_ends::times_at;
-use ans_sauce::last_record_place;
+use ans_sauce::{cut_record, last_record_place};
 use ans_walks::Times;
 
 fn is_tail_byte(byte: u8) -> bool
@@ -23,10 +23,19 @@ pub(crate) fn is_tail(bytes: &[u8]) -> bool
     bytes.iter().all(|byte| is_tail_byte(*byte))
 }
 
+fn ends_in_ansi(file: &[u8]) -> bool
+    ensures { result ≡ ends_in_ansi file.now }
+{
+    match cut_record(file) {
+        Some((_, sauce)) => sauce.is_character_ansi(),
+        None => false,
+    }
+}
+
 impl<'a> Draft<'a> {
-    /// Cuts off what stands behind the last record of version 00, where that is nothing but zero bytes,
-    /// line feeds, returns and end marks. Returns how many bytes were cut, and where the first of them
-    /// stood, in bytes from the file's start.
+    /// Cuts off what follows the last record of version 00, if that is nothing but zero bytes, line feeds,
+    /// returns and end marks; but nothing of a file that ends in a record of type Character/ANSi. Returns how
+    /// many bytes were cut, and where the first of them was, in bytes from the file's start.
     pub fn cut_tail(&mut self) -> Option<Times>
         ensures cut { IsTailCut self.old.file self.new.file }
         ensures times { result
@@ -36,6 +45,9 @@ impl<'a> Draft<'a> {
     {
         let file = self.file();
         let length = file.len();
+        if ends_in_ansi(file) {
+            return None;
+        }
         match last_record_place(file) {
             Some(place) if is_tail(file.split_at(place + RECORD_SIZE).1) => {
                 self.cut(place + RECORD_SIZE);

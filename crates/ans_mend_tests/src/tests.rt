@@ -404,11 +404,23 @@ macro_rules! at_7 {
     };
 }
 
+/// There is no record, and none can be put.
+const TAKES_NONE: Unmended = Unmended::TakesNoRecord(Fault {
+    offset: 7,
+    cause: Cause::NoRecord,
+});
+
 /// What was asked for, why a file is not mended, and what is said.
-static HELP: [(Mends, Unmended, &str); 12] = [
+static HELP: [(Mends, Unmended, &str); 13] = [
     (
         ALL,
-        at_7!(NoRecord),
+        TAKES_NONE,
+        "at 7: F1 no SAUCE record\n\
+        help: no record is put where SAUCE00 stands, or more follows 1Ah: see anscheck help F1\n",
+    ),
+    (
+        Mends::NONE,
+        TAKES_NONE,
         "at 7: F1 no SAUCE record\n\
         help: no record is put where SAUCE00 stands, or more follows 1Ah: see anscheck help F1\n",
     ),

@@ -8,9 +8,15 @@ returns-in-Refused g c =
     Puts-same (sym (ap (unmended_text c.args.asked.now) c.in-Refused.is))
     (Puts-then c.put_fault_line.ensures c.put_help.ensures)
 
+pub returns-in-TakesNoRecord : goal.returns-in-TakesNoRecord
+returns-in-TakesNoRecord g c =
+    Puts-same (sym (ap (unmended_text c.args.asked.now) c.in-TakesNoRecord.is))
+    (Puts-then c.put_fault_line-in-TakesNoRecord.ensures c.put.ensures)
+
 pub returns-in-Torn : goal.returns-in-Torn
 returns-in-Torn g c =
-    Puts-same (sym (ap (unmended_text c.args.asked.now) c.in-Torn.is)) (Puts-then c.put.ensures c.put_torn_help.ensures)
+    Puts-same (sym (ap (unmended_text c.args.asked.now) c.in-Torn.is))
+    (Puts-then c.put-in-Torn.ensures c.put_torn_help.ensures)
 
 pub returns-in-NoLines : goal.returns-in-NoLines
 returns-in-NoLines g c =
