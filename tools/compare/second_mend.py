@@ -13,7 +13,8 @@ It mends by itself, step by step, from the words of the rules:
   named, by what is printed before the first 0 too.
 
 The files are those of `mend_files.py`. Each is mended by itself, with each flag alone, and with some at random.
-Standard output, the status, and standard error are compared; of standard error the first line where nothing is written.
+Standard output, the status, and standard error are compared; if nothing is written, of standard error the first line,
+and of a file without a record what may help.
 Of each file that is written it plays the content from eight starts of any kind: there is no fault, and the picture is
 the one that the changed content has from the cleared start, before its colours were named. From none of them arise
 other kinds than those that the changed content has from there, and from there the same, but that `own-colours` may be
@@ -47,7 +48,8 @@ from pens import MOST_LINES, Pen, first_fault, least_lines, passes, tokens_of
 from second_machine import CONTROLS, REFUSED, Machine, Refused, answer, play, read_sequence
 from second_players import OF_TOKENS, spelled, walk
 from second_why import (
-    MENDING, Hints, Rows, body_of, cleared, fault_line, many, quoted, record_fault, record_of, rows_printed,
+    MENDING, Hints, Rows, body_of, cleared, fault_line, last_record, many, quoted, record_fault, record_of,
+    rows_printed,
 )
 
 MOST_BYTES = 16777216
@@ -122,7 +124,10 @@ def without(text, places):
 
 def without_tail(file, said):
     """The file, without what stands behind its last record and is none of the drawing."""
-    place = file.rfind(b"SAUCE00", 0, max(0, len(file) - 121))
+    end = file[-128:]
+    if len(end) == 128 and end[:5] == b"SAUCE" and end[94:96] == b"\x01\x01":
+        return file
+    place = last_record(file)
     behind = file[place + 128:] if place >= 0 else b""
     if not behind or behind.strip(TAIL):
         return file
@@ -143,6 +148,13 @@ def with_record(file, width, said):
     return content + b"\x1aSAUCE00" + b" " * 75 + b"0" * 8 + fields + bytes(22)
 
 
+def record_help(file):
+    """What may help a file without a record: one, if it takes one."""
+    if with_record(file, 80, []) is None:
+        return "help: no record is put where SAUCE00 stands, or more follows 1Ah: see anscheck help F1"
+    return "help: --width N gives a drawing without a record one for N columns"
+
+
 def draft_of(file, are_lines_asked, said):
     """The file taken apart, if its record is accepted. One that states no lines may get some."""
     stated = file
@@ -150,7 +162,7 @@ def draft_of(file, are_lines_asked, said):
         stated = file[:-30] + MOST_LINES.to_bytes(2, "little") + file[-28:]
     fault = record_fault(stated)
     if fault:
-        raise NotMended(fault_line(*fault[:2]))
+        raise NotMended(fault_line(*fault[:2]) + (f"\n{record_help(file)}" if fault[1] == 1 else ""))
     content = body_of(file, record_of(file)).partition(b"\x1a")[0]
     return Draft(content, file[len(content):-128], file[-128:], said)
 
@@ -388,7 +400,7 @@ def expected_of(found):
     """The status, standard output, the lines of standard error, and what each of them is."""
     if isinstance(found, str):
         what = found.split()[2] if found.startswith("at ") else found
-        return (1, b"", [found]), [f"reason {what}"]
+        return (1, b"", found.split("\n")), [f"reason {what}"]
     after, _, said = found
     return (0, after, [line for _, line in said]), [what for what, _ in said] or ["as it is"]
 
@@ -449,10 +461,11 @@ def words_of(asked):
 
 
 def written_by(words, file):
-    """The status, standard output, and the lines of standard error, or the first where nothing is written."""
+    """The status, standard output, and the lines of standard error; if nothing is written the first, of F1 its help."""
     run = subprocess.run(words, input=file, capture_output=True)
     lines = run.stderr.decode(errors="replace").splitlines()
-    return run.returncode, run.stdout, lines if run.returncode == 0 else lines[:1]
+    shown = 2 if lines and ": F1 " in lines[0] else 1
+    return run.returncode, run.stdout, lines if run.returncode == 0 else lines[:shown]
 
 
 def printed_of(program, asked, file):

@@ -84,8 +84,15 @@ def finding(file):
 
 
 def expected_of(found):
-    """The status, standard output, and the lines of standard error."""
-    return (1, b"", [found]) if isinstance(found, str) else (0, found.file, [line for _, line in found.said])
+    """The status, standard output, and the lines of standard error; the first if nothing is written."""
+    if isinstance(found, str):
+        return 1, b"", found.split("\n")[:1]
+    return 0, found.file, [line for _, line in found.said]
+
+
+def printed_of(program, file):
+    status, output, lines = written_by([program, "redraw"], file)
+    return status, output, lines if status == 0 else lines[:1]
 
 
 def kinds_of(rows):
@@ -196,11 +203,11 @@ def differences(program, file, found, chance):
     is_refused = isinstance(found, str)
     wrong = [None if is_refused else broken_promise(found, chance)]
     if program:
-        expected, printed = expected_of(found), written_by([program, "redraw"], file)
+        expected, printed = expected_of(found), printed_of(program, file)
         if printed != expected:
             wrong.append(f"expected {shown_answer(expected)}\n  not {shown_answer(printed)}")
         elif not is_refused:
-            again = written_by([program, "redraw"], found.file)
+            again = printed_of(program, found.file)
             is_kept = again == (0, found.file, [line for _, line in kept(found)])
             wrong.append(None if is_kept else f"once more gives {shown_answer(again)}")
     return [what for what in wrong if what]

@@ -66,7 +66,7 @@ too_many_names mends file memory P long (asked, (new, times, named, more), few) 
 module _ (mends : Mends) (z : Size) (file returned_file out joined ended : List ℕ) (returns row_ends last_ends : Option
     Times) (told : Told) (put : TellsReturns mends file returns) (returned_is : returned_file ≡ returned mends file)
     (sequences : AreSequencesOut mends returned_file out told) (rows : AreRowsJoined mends z out joined row_ends)
-    (ends : AreLastEndsGone mends z joined ended last_ends) where
+    (ends : AreLastEndsGone mends z joined ended last_ends) (fits : length returned_file ≤ longest_file) where
   pub edited_so : (new : List ℕ) (named : Option Times) → AreNamed mends ended new named
       → IsEdited mends z file new (record {
         returns = returns;
@@ -77,6 +77,7 @@ module _ (mends : Mends) (z : Size) (file returned_file out joined ended : List 
       })
   edited_so new named are_named = record {
     returns = put;
+    fits = subst (λ (v : List ℕ). length v ≤ longest_file) returned_is fits;
     out = out;
     sequences = subst (λ (v : List ℕ). AreSequencesOut mends v out told) returned_is sequences;
     joined = joined;

@@ -2,7 +2,7 @@
 use Rattle.std.proofs.Common.{◌≡◌, inl, inr, ℕ, Bool, true, false, List, length, refl, sym, ap, ◌∙◌}
 use Rattle.std.proofs.Common.{Option, Some, None, true≢false}
 use Rattle.std.proofs.Common.{subst₂, ap₂, Result, Ok, Err, ◌+◌, ◌==◌}
-use Rattle.std.specs.Prelude.{is_some, not, ◌||◌, IsTrue, ◌↔◌, IfOk, IfErr, IfSome, IfNone, if◌then◌else◌}
+use Rattle.std.specs.Prelude.{is_some, not, ◌||◌, IsTrue, ◌↔◌, IfOk, IfErr, IfSome, IfNone, OnOk, if◌then◌else◌}
 use mir.Val.{bool_byte}
 use Rattle.ans_model.specs.Screen.State.{Size}
 use Rattle.ans_model.specs.Sequence.TokenKind.{TokenKind}
@@ -36,7 +36,7 @@ use Rattle.ans_sauce.proofs.LaidParts.{laid_body, laid_record}
 use Rattle.ans_mend.specs.Contents.{content_in}
 use Rattle.ans_mend.specs.declared.outcome.Unmended.{Unmended}
 use Rattle.ans_options.specs.declared.command.Mends.{Mends}
-use Rattle.ans_check.specs.Mending.{IsFaulty, IsReasonOfEdited, IsReasonOfLines}
+use Rattle.ans_check.specs.Mending.{IsFaulty, IsRead, IsReasonOfEdited, IsReasonOfLines}
 use Rattle.ans_check.specs.FileVerdict.{Deserves}
 
 -- a file's parts have its record and its content
@@ -201,3 +201,7 @@ module _ (mends : Mends) (lacks : Bool) (file : List ℕ) (parts : Parts) (h : I
       → IfErr r (IsReasonOfEdited mends lacks file)
   lines_refused (Ok n) is = is
   lines_refused (Err reason) is = split_reason mends lacks file parts reason h is
+
+  pub lines_read : (r : Result (Option ℕ) Unmended) → OnOk r (IsRead file)
+  lines_read (Ok lines) = (h.apart, h.accepts)
+  lines_read (Err reason) = tt

@@ -34,7 +34,7 @@ use Rattle.ans_mend.proofs.SameLength.{overwritten_length, recorded_length}
 use Rattle.ans_options.specs.declared.command.Mends.{Mends}
 use Rattle.std.specs.Prelude.{IsTrue, ◌↔◌}
 use Rattle.ans_check.specs.Mending.{IsEditedAsStated, IsSettled, WantsMending, asked_for, recorded}
-use Rattle.ans_check.specs.Mending.{IsFaulty, IsMended, IsReason, IsReasonFor}
+use Rattle.ans_check.specs.Mending.{IsFaulty, IsMended, IsRead, IsReason, IsReasonFor}
 use Rattle.ans_check.specs.MendingSteps.{IsEditedTooLong, IsFinished, IsJudgement, IsPrepared, IsSurvey, IsTooLong}
 use Rattle.ans_check.specs.Mending.{asks_for_lines, first_lines, front_bytes, gives_record, lacks_lines, lined, opened}
 use Rattle.ans_check.specs.Mending.{record_put}
@@ -259,13 +259,17 @@ mended mends file prepared settled judgement m draft prep judged done =
       asked_is = refl;
       based = recorded mends prep.cut;
       based_is = refl;
+      based_fits = prep.fits;
+      opened_read = (prep.done.survey.apart, prep.done.survey.accepts);
       settled = settled;
       edited = prep.done.edited;
       is_edited = subst (IsEditedAsStated (asked_for mends prep.cut) (opened (asked_for mends prep.cut) (recorded mends
           prep.cut)) prep.done.edited) (sym done.edits) prep.done.is_edited;
+      edited_sound = prep.done.edited_sound;
       lines = prepared.done.lines;
       are_lines = prep.done.lines;
       settled_is = prep.done.settled_is;
+      settled_sound = ((apart, accepts), prep.done.settled_fits);
       draft_is = done.draft_is;
       apart = resized_parts front n apart;
       accepts = accepted;
@@ -315,9 +319,11 @@ was_settled : (mends : Mends) (file : List ℕ) (prepared : Prepared) (settled :
     → (prep : IsPrepared mends file prepared settled)
     → IsSettled (asked_for mends prep.cut) (recorded mends prep.cut) settled
 was_settled mends file prepared settled prep = record {
+  opened_read = (prep.done.survey.apart, prep.done.survey.accepts);
   edited = prep.done.edited;
   edits = prepared.done.edits;
   is_edited = prep.done.is_edited;
+  edited_read = prep.done.edited_sound.0;
   lines = prepared.done.lines;
   are_lines = prep.done.lines;
   settled_is = prep.done.settled_is;
@@ -370,10 +376,10 @@ module _ (mends : Mends) (file : List ℕ) (prepared : Prepared) (settled : List
   unfinished (Err reason) is = too_long mends file prepared settled judgement reason prep judged is
 
 -- a file that is too long with its returns, or with its content changed, is not mended for that
-pub too_long_edited : (asked : Mends) (based : List ℕ) (reason : Unmended)
+pub too_long_edited : (asked : Mends) (based : List ℕ) (reason : Unmended) → IsRead (opened asked based)
     → IsEditedTooLong asked (stated_size (record_in (opened asked based))) (opened asked based) reason
     → IsReasonFor asked based reason
-too_long_edited asked based reason (is, why) = elim why [
+too_long_edited asked based reason read (is, why) = elim why [
   | inl long ↦ inl (is, inr long)
-  | inr (edited, edits, is_edited, long) ↦ inr (inr (inl (edited, edits, is_edited, inl (is, long))))
+  | inr (edited, edits, is_edited, long) ↦ inr (inr (inl (read, edited, edits, is_edited, inl (is, long))))
 ]

@@ -31,7 +31,7 @@ use Rattle.ans_mend.specs.LastEnds.{HasFewerEnds, times_at}
 use Rattle.ans_mend.specs.LineEnds.{ArePut, with_line_ends}
 use Rattle.ans_mend.specs.FullRows.{HasFullRows}
 use Rattle.ans_mend.specs.NamedColours.{HasNamedColours, begins_unnamed}
-use Rattle.ans_mend.specs.NewRecord.{record_given, takes_record, with_new_record}
+use Rattle.ans_mend.specs.NewRecord.{record_given, refusal_of, takes_record, with_new_record}
 use Rattle.std.specs.Option.{option_map_or}
 use Rattle.ans_mend.specs.Tail.{IsTailCut}
 use Rattle.ans_mend.specs.TakingOut.{AreTakenOut, nothing_told}
@@ -43,6 +43,14 @@ use Rattle.ans_mend.specs.declared.outcome.Unmended.{Unmended}
 use Rattle.ans_mend.specs.declared.outcome.Unmended.TheVariants.{Refused, Torn, NoLines, TooLong}
 use Rattle.ans_options.specs.declared.command.Mends.{Mends}
 use Rattle.ans_check.specs.FileVerdict.{Deserves}
+
+-- its record and its layout are accepted
+abbrev pub IsRead : List ℕ → Type 0
+IsRead file = (apart : FileParts) × Accepts file apart
+
+-- and it is not too long
+abbrev pub IsSound : List ℕ → Type 0
+IsSound file = IsRead file × (length file ≤ longest_file)
 
 -- ---- the file of which the tail was cut
 
@@ -109,9 +117,11 @@ abbrev pub AreNamed : Mends → List ℕ → List ℕ → Option Times → Type 
 AreNamed mends file new times =
     MatchBool mends.name_colours (HasNamedColours file new times) ((new ≡ file) × (times ≡ None))
 
--- The file with its content changed as it is asked for, on a screen of this size, and what is told of that.
+-- The file with its content changed as it is asked for, on a screen of this size, and what is told of that. With its
+-- returns it is not too long.
 pub record IsEdited (mends : Mends) (z : Size) (file edited : List ℕ) (edits : Edits) : Type 0 where
   pub returns : TellsReturns mends file edits.returns
+  pub fits : length (returned mends file) ≤ longest_file
   pub out : List ℕ
   pub sequences : AreSequencesOut mends (returned mends file) out edits.told
   pub joined : List ℕ
@@ -131,10 +141,11 @@ abbrev pub TellsTorn : Bool → List ℕ → List ℕ → ℕ → Type 0
 TellsTorn torn sauce content lines = (hints : Hints)
     × AreHintsOf (sized (stated_width sauce) lines) (is_non_blink sauce) content [] hints × (are_torn hints ≡ torn)
 
--- the least number of lines with which the content passes from the cleared start, and whether its rows are torn on them
+-- the least number of lines with which the content passes from the cleared start, up to the most, and whether its rows
+-- are torn on them
 abbrev pub HasLeast : Bool → List ℕ → List ℕ → ℕ → Type 0
 HasLeast torn sauce content lines =
-    IsLeastLines (stated_width sauce) content lines × TellsTorn torn sauce content lines
+    (lines ≤ most_lines) × IsLeastLines (stated_width sauce) content lines × TellsTorn torn sauce content lines
 
 -- the least number is asked for, and no other
 abbrev pub AsksForLeast : Mends → Type 0
@@ -177,11 +188,14 @@ abbrev pub AreLinesFor : Mends → Bool → List ℕ → Option ℕ → Type 0
 AreLinesFor mends lacks file lines = MatchOption lines (KeepsLines mends lacks (record_in file) (content_in file))
     (TakesLines mends lacks (record_in file) (content_in file))
 
--- The file with its content changed, its lines settled, and with an end mark behind its content.
+-- The file with its content changed, its lines settled, and with an end mark after its content. On the way each was
+-- read.
 pub record IsSettled (asked : Mends) (based settled : List ℕ) : Type 0 where
+  pub opened_read : IsRead (opened asked based)
   pub edited : List ℕ
   pub edits : Edits
   pub is_edited : IsEditedAsStated asked (opened asked based) edited edits
+  pub edited_read : IsRead edited
   pub lines : Option ℕ
   pub are_lines : AreLinesFor asked (lacks_lines asked based) edited lines
   pub settled_is : settled ≡ with_end_mark (lined lines edited)
@@ -207,7 +221,8 @@ abbrev pub end_mark_counted : List ℕ → ℕ
 end_mark_counted file = if file_size (record_in file) == length (content_in file) + 1 then 1 else 0
 
 -- The bytes in front and those of the draft are a file that passes from every start, and shows what the changed content
--- shows from the cleared one. Its record is that of the file but for the lines and the FileSize, which fits.
+-- shows from the cleared one. Its record is that of the file except for the lines and the FileSize, which fits. On the
+-- way no file was too long, and each was read.
 pub record IsMended (mends : Mends) (file : List ℕ) (mended : Mended) (draft : List ℕ) : Type 0 where
   pub cut : List ℕ
   pub is_cut : IsTailCut file cut
@@ -216,11 +231,15 @@ pub record IsMended (mends : Mends) (file : List ℕ) (mended : Mended) (draft :
   pub asked_is : asked ≡ asked_for mends cut
   pub based : List ℕ
   pub based_is : based ≡ recorded mends cut
+  pub based_fits : length based ≤ longest_file
+  pub opened_read : IsRead (opened asked based)
   pub edited : List ℕ
   pub is_edited : IsEditedAsStated asked (opened asked based) edited mended.edits
+  pub edited_sound : IsSound edited
   pub lines : Option ℕ
   pub are_lines : AreLinesFor asked (lacks_lines asked based) edited lines
   pub settled_is : settled ≡ with_end_mark (lined lines edited)
+  pub settled_sound : IsSound settled
   pub draft_is : draft ≡ with_record (with_file_size mended.file_size.is (record_in settled)) settled
   pub apart : FileParts
   pub accepts : Accepts (front_bytes mended.front ++ draft) apart
@@ -262,7 +281,7 @@ IsFaulty file fault =
 
 -- its record or its layout has the fault for which it is refused
 abbrev pub HasRecordFault : List ℕ → Unmended → Type 0
-HasRecordFault file reason = (fault : Fault) × (reason ≡ Refused fault) × IsRecordFault file fault
+HasRecordFault file reason = (fault : Fault) × (reason ≡ refusal_of file fault) × IsRecordFault file fault
 
 -- Of the file with its content changed: it is too long, or has a fault of its own, or the number of lines is why.
 abbrev pub IsReasonOfEdited : Mends → Bool → List ℕ → Unmended → Type 0
@@ -280,16 +299,16 @@ IsReasonOfContent mends settled TooLong =
     × PassesAsStated (record_in settled) (content_in settled))
 IsReasonOfContent mends settled _ = ⊥
 
--- what is true of a file whose content is changed is true of one to which this one may come
+-- The file is read; and what is true of a file whose content is changed is true of one to which this one may come.
 abbrev pub HasEdited : Mends → List ℕ → (List ℕ → Type 0) → Type 0
-HasEdited asked based holds = (edited : List ℕ) × (edits : Edits)
+HasEdited asked based holds = IsRead (opened asked based) × (edited : List ℕ) × (edits : Edits)
     × IsEditedAsStated asked (opened asked based) edited edits × holds edited
 
 -- and so it is with a settled file
 abbrev pub HasSettled : Mends → List ℕ → (List ℕ → Type 0) → Type 0
 HasSettled asked based holds = (settled : List ℕ) × IsSettled asked based settled × holds settled
 
--- The file, with a record where one was given, is too long, or it is with its returns.
+-- The file, with a record if one was given, is too long, or it is with its returns.
 abbrev pub IsTooLongFor : Mends → List ℕ → Unmended → Type 0
 IsTooLongFor asked based reason = (reason ≡ TooLong)
     × ((longest_file < length based) ⊎ (longest_file < length (returned asked (opened asked based))))

@@ -18,7 +18,8 @@ use Rattle.ans_mend.specs.declared.outcome.Mended.{Mended}
 use Rattle.ans_mend.specs.declared.outcome.Unmended.{Unmended}
 use Rattle.ans_mend.specs.declared.outcome.Unmended.TheVariants.{TooLong}
 use Rattle.std.specs.Prelude.{IsTrue, ◌↔◌, ◌⊎◌, Option}
-use Rattle.ans_check.specs.Mending.{AreNamed, IsEdited, WantsMending, asked_for, record_put, recorded, returned}
+use Rattle.ans_check.specs.Mending.{AreNamed, IsEdited, IsSound, WantsMending, asked_for, record_put, recorded}
+use Rattle.ans_check.specs.Mending.{returned}
 use Rattle.ans_model.specs.Screen.State.{Size}
 use Rattle.ans_walks.specs.declared.times.Times.{Times}
 use Rattle.ans_mend.specs.Drafts.{DraftView, memory_of}
@@ -75,7 +76,9 @@ pub record IsDone (asked : Mends) (based : List ℕ) (done : Done) (settled : Li
   pub edited : List ℕ
   pub is_edited : IsEditedAsStated asked (opened asked based) edited done.edits
   pub lines : AreLinesFor asked (lacks_lines asked based) edited done.lines
+  pub edited_sound : IsSound edited
   pub settled_is : settled ≡ with_end_mark (lined done.lines edited)
+  pub settled_fits : length settled ≤ longest_file
   pub end_mark : done.end_mark ≡ end_mark_put (lined done.lines edited)
   pub stated : done.survey.stated ≡ stated_lines (record_in based)
 
@@ -85,6 +88,7 @@ pub record IsPrepared (mends : Mends) (file : List ℕ) (prepared : Prepared) (s
   pub is_cut : IsTailCut file cut
   pub tail : prepared.tail ≡ times_at (length file - length cut) (length cut)
   pub given_record : prepared.given_record ≡ record_put mends cut
+  pub fits : length (recorded mends cut) ≤ longest_file
   pub done : IsDone (asked_for mends cut) (recorded mends cut) prepared.done settled
 
 -- the FileSize that counts the mending, where it is wanted

@@ -6,9 +6,9 @@ ghost use Rattle.ans_walks.specs.Lines.{IsNeverGood};
 ghost use Rattle.ans_mend.specs.Drafts.{draft_of};
 ghost use Rattle.ans_check.specs.Mending.{AreLinesFor, HasLeast, IsReasonOfEdited, IsReasonOfLines, IsWithoutNumber};
 ghost use Rattle.ans_check.specs.Mending.{KeepsLines, PassesAsStated, TakesLines, WantsLines, asks_for_lines};
-ghost use Rattle.ans_check.specs.Mending.{lacks_lines, lined, opened};
+ghost use Rattle.ans_check.specs.Mending.{IsRead, lacks_lines, lined, opened};
 
-use ans_mend::{Draft, Unmended};
+use ans_mend::{Draft, Unmended, refusal_of};
 use ans_model::limits::MAX_LINES;
 use ans_model::size::Size;
 use ans_options::Mends;
@@ -109,11 +109,12 @@ pub(crate) fn lines_for(file: &[u8], mends: &Mends, lacks: bool) -> Result<Optio
     requires asked { lacks ≡ true → asks_for_lines mends.now ≡ true }
     ensures lines { IfOk result (AreLinesFor mends.now lacks file.now) }
     ensures record { OnOk result (128 ≤ length file.now) }
+    ensures read { OnOk result (IsRead file.now) }
     ensures reason { IfErr result (IsReasonOfEdited mends.now lacks file.now) }
 {
     let parts = match split(file) {
         Ok(parts) => parts,
-        Err(fault) => return Err(Unmended::Refused(fault)),
+        Err(fault) => return Err(refusal_of(file, fault)),
     };
     number_wanted(&parts, mends, lacks)
 }

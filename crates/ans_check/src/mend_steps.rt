@@ -11,7 +11,7 @@ use crate::mend_edits::edit;
 use crate::mend_judge::{Judgement, Survey, judge, survey_of};
 use crate::mend_lines::{lines_for, open_lines, take_lines};
 use crate::screens::Screens;
-use ans_mend::{Draft, Edits, GivenRecord, Mended, NoRoom, NonBlink, Reset, Unmended};
+use ans_mend::{Draft, Edits, GivenRecord, Mended, NoRoom, NonBlink, Reset, Unmended, refusal_of};
 use ans_model::limits::MAX_FILE;
 use ans_options::Mends;
 use ans_walks::{SAFE_BEGINNING, Times};
@@ -63,7 +63,7 @@ fn settle(draft: &mut Draft<'_>, asked: &Mends) -> Result<Result<Done, Unmended>
     let lacks = open_lines(draft, asked);
     let survey = match survey_of(draft.file(), lacks) {
         Ok(survey) => survey,
-        Err(fault) => return Ok(Err(Unmended::Refused(fault))),
+        Err(fault) => return Ok(Err(refusal_of(draft.file(), fault))),
     };
     let edits = match edit(draft, asked, survey.size)? {
         Ok(edits) => edits,

@@ -11,8 +11,9 @@ use Rattle.ans_report.specs.Counted.{counted_text, times_text}
 use Rattle.ans_report.specs.Quoted.{quoted_byte}
 use Rattle.ans_walks.specs.declared.times.Times.{Times}
 use Rattle.ans_mend.specs.MendedText.{added_text, all_given, at_text, end_mark_line, flag_line, front_line, has_least}
-use Rattle.ans_mend.specs.MendedText.{help_text, lines_offered, look_text, mended_text, no_lines_help, offered}
-use Rattle.ans_mend.specs.MendedText.{others_text, place_help, quoted_excerpt, record_help, record_line}
+use Rattle.ans_mend.specs.MendedText.{help_text, lines_offered, look_text, mended_text, no_lines_help}
+use Rattle.ans_mend.specs.MendedText.{no_record_help, offered, others_text, place_help, quoted_excerpt, record_help}
+use Rattle.ans_mend.specs.MendedText.{record_line}
 use Rattle.ans_mend.specs.MendedText.{replaced_text, reset_line, rows_help, sequence_help, tail_line}
 use Rattle.ans_mend.specs.MendedText.{taken_line, times_line, torn_help, unmended_text}
 use Rattle.ans_mend.specs.declared.outcome.GivenRecord.{GivenRecord}
@@ -200,12 +201,6 @@ mended_clean m bytes =
 look_clean : IsCleanText look_text
 look_clean = plain_text look_text refl
 
-record_help_clean : (asked : Mends) → IsCleanText (record_help asked)
-record_help_clean asked =
-    clean_if (is_some asked.width) _ _
-    (plain_text (codes "help: no record is put where SAUCE00 stands, or more follows 1Ah: see anscheck help F1\n") refl)
-    (plain_text (codes "help: --width N gives a drawing without a record one for N columns\n") refl)
-
 sequence_help_clean : (asked : Mends) → IsCleanText (sequence_help asked)
 sequence_help_clean asked =
     clean_if asked.take_out look_text (codes "help: --take-out takes out what is known of such sequences\n") look_clean
@@ -252,7 +247,7 @@ place_help_clean asked =
     (added_clean (lines_offered asked ++ codes "\n") (lines_end_clean asked))
 
 help_clean : (asked : Mends) (why : Cause) → IsCleanText (help_text asked why)
-help_clean asked cause.NoRecord = record_help_clean asked
+help_clean asked cause.NoRecord = plain_text record_help refl
 help_clean asked cause.LinesUnstated =
     plain_text (codes "help: --least-lines states the least number of lines that is enough\n") refl
 help_clean asked cause.BrokenSequence = sequence_help_clean asked
@@ -283,6 +278,8 @@ pub unmended_clean : (asked : Mends) (reason : Unmended) → IsCleanText (unmend
 unmended_clean asked (unmended.Refused fault) =
     clean_append (fault_line fault) (help_text asked fault.cause) (fault_line_clean fault)
     (help_clean asked fault.cause)
+unmended_clean asked (unmended.TakesNoRecord fault) =
+    clean_append (fault_line fault) no_record_help (fault_line_clean fault) (plain_text no_record_help refl)
 unmended_clean asked unmended.Torn =
     clean_append (codes "the rows are torn\n") (torn_help asked) (plain_text (codes "the rows are torn\n") refl)
     (torn_help_clean asked)

@@ -25,6 +25,9 @@ pub mod MarkedContents
 pub mod CutFiles
 pub mod NothingGone
 pub mod MendedItself
+pub mod EditedOnce
+pub mod MendedOrNot
+pub mod ReasonsItself
 pub mod MendedAgain
 pub mod MendedTwice
 pub mod NamedItself

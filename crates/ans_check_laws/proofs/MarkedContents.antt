@@ -45,10 +45,10 @@ module _ (file : List ℕ) (apart : FileParts) (laid : Laid file apart) where
   abbrev behind_body : List ℕ
   behind_body = comment_block (comment_count apart.record_bytes) apart.comment_bytes ++ apart.record_bytes
 
-  abbrev marked_file : List ℕ
+  abbrev pub marked_file : List ℕ
   marked_file = with_byte (length (body_in file)) end_mark file
 
-  abbrev marked_parts : FileParts
+  abbrev pub marked_parts : FileParts
   marked_parts = file_parts (apart.body ++ end_mark ∷ []) apart.comment_bytes apart.record_bytes
 
   marked_whole : marked_file ≡ laid_file marked_parts
@@ -58,7 +58,7 @@ module _ (file : List ℕ) (apart : FileParts) (laid : Laid file apart) where
       (drop-append_seam apart.body behind_body)
       ∙ sym (append_assoc apart.body (end_mark ∷ []) behind_body)
 
-  marked_laid : Laid marked_file marked_parts
+  pub marked_laid : Laid marked_file marked_parts
   marked_laid = record { size = laid.size; id = laid.id; comments = laid.comments; whole = marked_whole }
 
   -- the file with an end mark, where it lacks one

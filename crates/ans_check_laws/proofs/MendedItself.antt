@@ -43,7 +43,7 @@ not_opened file =
     ap (λ (lacks : Bool). if lacks then with_record (with_lines most_lines (record_in file)) file else file)
     (nothing_lacks file)
 
-not_edited : (z : Size) (file edited : List ℕ) (edits : Edits) → IsEdited no_mends.NONE z file edited edits
+pub not_edited : (z : Size) (file edited : List ℕ) (edits : Edits) → IsEdited no_mends.NONE z file edited edits
     → edited ≡ file
 not_edited z file edited edits h = h.named.0 ∙ h.ends.0 ∙ h.rows.0 ∙ h.sequences.0
 

@@ -21,7 +21,7 @@ use Rattle.ans_check_laws.proofs.Covering.{same_truth}
 
 -- ---- the last record
 
-one_last : (file : List ℕ) (a b : Option ℕ) → IsLastRecord file a → IsLastRecord file b → a ≡ b
+pub one_last : (file : List ℕ) (a b : Option ℕ) → IsLastRecord file a → IsLastRecord file b → a ≡ b
 one_last file None None h g = refl
 one_last file None (Some k) h g = absurd (h k g.0.low g.0.high g.1)
 one_last file (Some j) None h g = absurd (g j h.0.low h.0.high h.1)

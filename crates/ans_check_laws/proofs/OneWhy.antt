@@ -33,6 +33,7 @@ use Rattle.ans_sauce.specs.Split.{IsSplit}
 use Rattle.ans_model.specs.Verdict.LastFault.{IsDeserved}
 use Rattle.ans_walks.specs.Hints.{are_torn}
 use Rattle.ans_walks.specs.Lines.{IsGoodOn, IsLeastLines}
+use Rattle.ans_check_laws.proofs.EditedOnce.{one_least}
 use Rattle.ans_walks.specs.Taller.{IsTaller}
 use Rattle.ans_why.specs.HintsText.{hints_text}
 use Rattle.ans_walks.specs.declared.hints.Hints.{Hints}
@@ -112,15 +113,6 @@ least_is_good : (z : Size) (bytes : List ℕ) (class : Start) → IsLeast z byte
 least_is_good z bytes class least = (least all_known).1 (covers_all_known class)
 
 -- ---- refusals
-
-one_least : (width : ℕ) (bytes : List ℕ) (n m : ℕ) → IsLeastLines width bytes n → IsLeastLines width bytes m → n ≡ m
-one_least width bytes n m h g = elim (cases_lt n m) [
-  | inl fewer ↦ absurd (g.fewer n fewer h.enough)
-  | inr up ↦ elim (cases_lt m n) [
-    | inl fewer ↦ absurd (h.fewer m fewer g.enough)
-    | inr down ↦ omega (arith, up, down)
-  ]
-]
 
 module _ (width : ℕ) (bytes : List ℕ) (cause : Cause) where
   one_lines : (a b : Option ℕ) → AreLines width bytes cause a → AreLines width bytes cause b → a ≡ b

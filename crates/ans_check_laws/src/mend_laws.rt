@@ -1,19 +1,24 @@
 //! Laws of mending: by itself, and with what is asked for. Where colours are named, a body calls the laws of
 //! naming on which its own law stands.
 
-ghost use Rattle.std.specs.Prelude.{◌≡◌, ℕ, true, false, IsTrue, List, ◌++◌};
+ghost use Rattle.std.specs.Prelude.{◌≡◌, ℕ, ◌+◌, ◌<◌, true, false, IsTrue, List, ◌++◌, length};
+ghost use Rattle.ans_model.specs.Bytes.{longest_file};
 ghost use Rattle.ans_model.specs.File.Layout.{FileParts};
 ghost use Rattle.ans_model.specs.File.Record.{stated_size};
 ghost use Rattle.ans_model.specs.Screen.State.{Size, State};
 ghost use Rattle.ans_model.specs.Screen.StartClass.{all_known, none_known};
 ghost use Rattle.ans_model.specs.Verdict.Good.{Picture};
 ghost use Rattle.ans_players.specs.Situations.{spelled};
+ghost use Rattle.ans_walks.specs.Mend.{mending};
+ghost use Rattle.ans_mend.specs.EndMark.{with_end_mark};
 ghost use Rattle.ans_mend.specs.declared.outcome.Mended.{Mended};
+ghost use Rattle.ans_mend.specs.declared.outcome.Unmended.{Unmended};
+ghost use Rattle.ans_mend.specs.declared.outcome.Unmended.TheVariants.{TooLong};
 ghost use Rattle.ans_options.specs.declared.command.Mends.{Mends};
 ghost use Rattle.ans_options.specs.declared.command.TheConstants.Mends as no_mends;
 ghost use Rattle.ans_names_laws.specs.NameLaws.{NeverOwn};
 ghost use Rattle.ans_check.specs.FileVerdict.{Passes};
-ghost use Rattle.ans_check.specs.Mending.{IsMended, front_bytes};
+ghost use Rattle.ans_check.specs.Mending.{IsMended, IsReason, front_bytes};
 ghost use Rattle.ans_check_laws.specs.KeptReturns.{KeepsReturns};
 
 use ans_names_laws::{
@@ -39,6 +44,20 @@ pub fn naming_keeps_the_picture()
 {
     cells_stay();
 }
+
+/// No file is both mended and left for a reason, whatever is asked for.
+pub fn mended_or_not()
+    ensures { (mends : Mends) (file draft : List ℕ) (mended : Mended) (reason : Unmended)
+        → IsMended mends file mended draft → ¬ IsReason mends file reason }
+{}
+
+/// A file that passes from the cleared start is left, by itself, for one reason alone: it would be too long with
+/// an end mark and the safe beginning.
+pub fn what_passes_is_mended()
+    ensures { (file : List ℕ) (apart : FileParts) (picture : Picture) (reason : Unmended)
+        → Passes file all_known apart picture → IsReason no_mends.NONE file reason
+        → (reason ≡ TooLong) × (longest_file < length (with_end_mark file) + length mending) }
+{}
 
 /// To mend once is enough: of what is written, mended again in the same way, the same bytes are written.
 /// That is so whatever is asked for, names of colours too, except two things. No line ends behind full rows

@@ -67,6 +67,16 @@ macro_rules! refused {
     };
 }
 
+/// There is no record, and none can be put.
+macro_rules! takes_none {
+    ($offset:literal) => {
+        Unmended::TakesNoRecord(Fault {
+            offset: $offset,
+            cause: Cause::NoRecord,
+        })
+    };
+}
+
 /// What stands before a record, the fields of the plain record that are changed, and what stands behind it.
 type Sample = (
     &'static [u8],
@@ -78,7 +88,7 @@ type Sample = (
 type Row = (Sample, Mends, bool, Sample);
 
 /// The plain record states 2 columns, 1 line and a file size of 2.
-static MENDED: [Row; 22] = [
+static MENDED: [Row; 24] = [
     // from every start already: nothing is changed
     (
         (
@@ -225,6 +235,24 @@ static MENDED: [Row; 22] = [
         ITSELF,
         true,
         (b"Hi\x1a", &[(90, b"\x1b")], b""),
+    ),
+    // the same, of a record whose title looks like one
+    (
+        (
+            b"Hi\x1a",
+            &[(7, b"SAUCE00")],
+            b"\x00\x00\x00\x00\x00\x00\x00",
+        ),
+        ITSELF,
+        true,
+        (b"Hi\x1a", &[(7, b"SAUCE00"), (90, b"\x1b")], b""),
+    ),
+    // and what looks like one in front of the record
+    (
+        (b"HiSAUCE00\x1a", &[(98, b"\x05")], b""),
+        ITSELF,
+        true,
+        (b"HiSAUCE00\x1a", &[(90, b"\x22"), (98, b"\x05")], b""),
     ),
     // too few lines
     (
@@ -672,7 +700,7 @@ fn files_without_a_record_are_given_one(rt: HostRuntime) -> Result<(), AllocErro
 
 /// Files, what is asked for, and why they are not mended so.
 static REFUSED: [(Sample, Mends, Unmended); 23] = [
-    ((b"Hi\x1a", &[], b"\r\n "), LEAST, refused!(134, NoRecord)),
+    ((b"Hi\x1a", &[], b"\r\n "), LEAST, takes_none!(134)),
     (
         (b"Hi\x1a", &[(5, b"01")], b""),
         ITSELF,
@@ -798,9 +826,9 @@ static REFUSED: [(Sample, Mends, Unmended); 23] = [
         refused!(101, LinesUnstated),
     ),
     // and what stands behind an end mark may be the drawing
-    ((b"Hi\x1a", &[], b"?"), WIDTH, refused!(132, NoRecord)),
+    ((b"Hi\x1a", &[], b"?"), WIDTH, takes_none!(132)),
     // a record before it is none of the drawing
-    ((b"Hi", &[], b"?"), WIDTH, refused!(131, NoRecord)),
+    ((b"Hi", &[], b"?"), WIDTH, takes_none!(131)),
 ];
 
 #[test]

@@ -9,7 +9,8 @@ returns-in-Ok-clause-edits c =
     c.take_out_last_ends-last_ends.new.draft.file c.in_ok-returns.returns c.join_rows-row_ends.result
     c.take_out_last_ends-last_ends.result c.take_out_sequences-told.result c.in_ok-returns.ensures.returns
     c.in_ok-returns.ensures.file c.take_out_sequences-told.ensures.file c.join_rows-row_ends.ensures.file
-    c.take_out_last_ends-last_ends.ensures.file c.name_within.new.draft.file c.in-Ok.named_colours
+    c.take_out_last_ends-last_ends.ensures.file (rw c.file.ensures at c.if-file-gt-MAX_FILE.false)
+    c.name_within.new.draft.file c.in-Ok.named_colours
     (rw c.in-Ok.is at c.in_ok-named_colours.ensures.named)
 
 pub returns-in-Err-clause-reason : goal.returns-in-Err-clause-reason
@@ -19,7 +20,7 @@ returns-in-Err-clause-reason c =
     c.take_out_last_ends-last_ends.new.draft.file c.in_ok-returns.returns c.join_rows-row_ends.result
     c.take_out_last_ends-last_ends.result c.take_out_sequences-told.result c.in_ok-returns.ensures.returns
     c.in_ok-returns.ensures.file c.take_out_sequences-told.ensures.file c.join_rows-row_ends.ensures.file
-    c.take_out_last_ends-last_ends.ensures.file c.in-Err.reason
+    c.take_out_last_ends-last_ends.ensures.file (rw c.file.ensures at c.if-file-gt-MAX_FILE.false) c.in-Err.reason
     (rw c.in-Err.is at c.in_ok-named_colours.ensures.reason)
 
 pub returns-in-Ok-clause-longer : goal.returns-in-Ok-clause-longer

@@ -29,5 +29,11 @@ returns-then-are_torn-clause-reason c =
             c.sauce.ensures,
           ) at c.of-hints.ensures),
       rw c.are_torn.ensures at c.if-are_torn.true,
-    ) in
-    (c.in-Some.lines, (rw (c.width.ensures.width, c.content-content.ensures) at c.in-Some.ensures.least, told))
+    ) in (
+      c.in-Some.lines,
+      (
+        c.in-Some.ensures.within,
+        rw (c.width.ensures.width, c.content-content.ensures) at c.in-Some.ensures.least,
+        told,
+      ),
+    )

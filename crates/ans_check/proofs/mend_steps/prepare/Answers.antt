@@ -1,4 +1,5 @@
-use Rattle.std.proofs.Common.{◌≡◌, List, ℕ}
+use Rattle.std.proofs.Common.{◌≡◌, ◌≤◌, List, ℕ, length, subst}
+use Rattle.ans_model.specs.Bytes.{longest_file}
 use Rattle.ans_check.specs.Mending.{IsReasonFor, asked_for, recorded}
 use Rattle.ans_check.specs.MendingSteps.{IsDone}
 use Rattle.ans_check.proofs.DraftRoomLemmas.{grows_so, lacks_record, lacks_rest, of_error}
@@ -47,6 +48,8 @@ returns-in-Ok-clause-prepared c =
       is_cut = c.cut_tail-tail.ensures.cut;
       tail = c.cut_tail-tail.ensures.times;
       given_record = c.in_ok-given_record.ensures.given;
+      fits = subst (λ (v : List ℕ). length v ≤ longest_file) c.in_ok-given_record.ensures.file
+          (rw c.file.ensures at c.if-file-gt-MAX_FILE.false);
       done = done;
     }
 

@@ -1,8 +1,9 @@
-use Rattle.std.proofs.Common.{◌≡◌, inl, inr, ℕ, ◌<◌, List, length, arith, ◌∙◌, sym, subst, refl}
+use Rattle.std.proofs.Common.{◌≡◌, inl, inr, ℕ, ◌<◌, List, length, arith, ◌∙◌, sym, subst, ap}
 use Rattle.ans_model.specs.Bytes.{longest_file}
 use Rattle.ans_model.specs.Screen.State.{Size}
 use Rattle.ans_sauce.specs.Judged.{IsRecordFault}
 use Rattle.ans_mend.specs.EndMark.{with_end_mark}
+use Rattle.ans_mend.specs.NewRecord.{refusal_of}
 use Rattle.ans_check.specs.Mending.{AreLinesFor, IsEdited, IsEditedAsStated, IsReasonOfEdited, IsSettled, lacks_lines}
 use Rattle.ans_check.specs.Mending.{lined, opened}
 use Rattle.ans_check.specs.MendingSteps.{IsEditedTooLong, IsSurvey}
@@ -22,7 +23,13 @@ returns-in-Err-clause-reason c =
     let cut : List ℕ = c.args.draft.now.file in
     let fault : IsRecordFault (opened c.args.asked.now cut) c.in-Err.fault =
     rw (c.file.ensures, c.open_lines-lacks.ensures.draft) at c.in-Err.ensures.fault in
-    inr (inl (c.in-Err.fault, refl, fault))
+    let file_is : c.file-in-Err.result.now ≡ opened c.args.asked.now cut =
+    c.file-in-Err.ensures ∙ ap (λ d. d.file) c.open_lines-lacks.ensures.draft in
+    inr (inl (
+      c.in-Err.fault,
+      c.refusal_of.ensures ∙ ap (λ (v : List ℕ). refusal_of v c.in-Err.fault) file_is,
+      fault,
+    ))
 
 pub lines_for-requires-clause-asked : goal.lines_for-requires-clause-asked
 lines_for-requires-clause-asked c is =
@@ -40,7 +47,7 @@ returns-in-Err-lines_for-clause-reason c =
     (rw c.open_lines-lacks.ensures.draft at (rw c.in-Ok-2.is at c.in_ok-edits.ensures.edits)) in
     let reason : IsReasonOfEdited mends (lacks_lines mends cut) c.edit.new.draft.file c.in-Err-lines_for.reason =
     rw (c.open_lines-lacks.ensures.lacks, c.file-2.ensures) at c.in-Err-lines_for.ensures.reason in
-    inr (inr (inl (c.edit.new.draft.file, c.in-Ok-2.edits, is_edited, reason)))
+    inr (inr (inl ((survey.apart, survey.accepts), c.edit.new.draft.file, c.in-Ok-2.edits, is_edited, reason)))
 
 -- the file is too long with its returns, or with its content changed
 pub returns-in-Err-2-clause-reason : goal.returns-in-Err-2-clause-reason
@@ -49,7 +56,7 @@ returns-in-Err-2-clause-reason c =
     let cut : List ℕ = c.args.draft.now.file in
     let survey : IsSurvey (lacks_lines mends cut) (opened mends cut) c.in-Ok.survey =
     rw (c.open_lines-lacks.ensures.lacks, c.file.ensures, c.open_lines-lacks.ensures.draft) at c.in-Ok.ensures.survey in
-    too_long_edited mends cut c.in-Err-2.reason
+    too_long_edited mends cut c.in-Err-2.reason (survey.apart, survey.accepts)
     (subst (λ (z : Size). IsEditedTooLong mends z (opened mends cut) c.in-Err-2.reason) survey.screen
     (rw c.open_lines-lacks.ensures.draft at (rw c.in-Err-2.is at c.in_ok-edits.ensures.reason)))
 
@@ -73,9 +80,11 @@ returns-then-file-gt-MAX_FILE-clause-reason c =
     let long : longest_file < length c.put_end_mark.new.self.file =
     rw c.file-3.ensures at c.if-file-gt-MAX_FILE.true in
     let settled : IsSettled mends cut c.put_end_mark.new.self.file = record {
+      opened_read = (survey.apart, survey.accepts);
       edited = c.edit.new.draft.file;
       edits = c.in-Ok-2.edits;
       is_edited = is_edited;
+      edited_read = rw c.file-2.ensures at c.in-Ok-lines_for.ensures.read;
       lines = c.in-Ok-lines_for.lines;
       are_lines = lines;
       settled_is = settled_is;
@@ -94,8 +103,13 @@ returns-clause-done c =
       is_edited = subst (λ (z : Size). IsEdited mends z (opened mends cut) c.edit.new.draft.file c.in-Ok-2.edits)
           survey.screen
           (rw c.open_lines-lacks.ensures.draft at (rw c.in-Ok-2.is at c.in_ok-edits.ensures.edits));
+      edited_sound = (
+        rw c.file-2.ensures at c.in-Ok-lines_for.ensures.read,
+        rw c.in-Ok-2.is at c.in_ok-edits.ensures.length,
+      );
       lines = rw (c.open_lines-lacks.ensures.lacks, c.file-2.ensures) at c.in-Ok-lines_for.ensures.lines;
       settled_is = rw c.take_lines.ensures at c.in_ok-end_mark.ensures.file;
+      settled_fits = rw c.file-3.ensures at c.if-file-gt-MAX_FILE.false;
       end_mark = rw c.take_lines.ensures at c.in_ok-end_mark.ensures.offset;
       stated = opened_stated mends cut c.in-Ok.survey.stated survey.stated;
     }
