@@ -1,5 +1,5 @@
 -- What is asked for changes a file in one way.
-use Rattle.std.proofs.Common.{◌≡◌, inl, inr, ℕ, ◌+◌, ◌≤◌, ◌<◌, Bool, true, false, List, [], ◌∷◌, ◌++◌, length, take}
+use Rattle.std.proofs.Common.{◌≡◌, inl, inr, ℕ, ◌+◌, Bool, true, false, List, [], ◌∷◌, ◌++◌, length, take}
 use Rattle.std.proofs.Common.{refl, sym, ap, ap₂, ◌∙◌, arith, subst, subst₂, true≢false, Option, None, Some}
 use Rattle.std.specs.Prelude.{MatchBool, is_some, unwrap_or, ◌||◌}
 use Rattle.std.specs.List.{AllZip, concat}
@@ -11,7 +11,6 @@ use Rattle.ans_model.specs.Screen.State.{Size, sized}
 use Rattle.ans_model.specs.Sequence.TokenKind.{TokenKind}
 use Rattle.ans_model.specs.Sequence.Reads.{SpellsToken}
 use Rattle.ans_model.proofs.Reading.{one_token_in_front, token_nonempty}
-use Rattle.ans_players.specs.Situations.{Spelled}
 use Rattle.ans_players.proofs.OneSpelling.{one_spelling}
 use Rattle.ans_sauce.specs.Found.{record_in}
 use Rattle.ans_forms.specs.declared.kinds.Before.{Before}
@@ -24,18 +23,17 @@ use Rattle.ans_walks.specs.Lines.{IsLeastLines}
 use Rattle.ans_walks.specs.declared.hints.Hints.{Hints}
 use Rattle.ans_walks.specs.declared.times.Times.{Times}
 use Rattle.ans_mend.specs.Contents.{content_in, with_content}
-use Rattle.ans_mend.specs.EndMark.{with_end_mark}
-use Rattle.ans_mend.specs.FullRows.{AreRowEndsOut, HasFullRows, TakesRowEnds}
-use Rattle.ans_mend.specs.LastEnds.{AreLastEndsOut, HasFewerEnds, TakesLastEnds}
-use Rattle.ans_mend.specs.NamedColours.{AreColoursNamed, HasNamedColours, NamesColours, named_content}
+use Rattle.ans_mend.specs.FullRows.{AreRowEndsOut, HasFullRows}
+use Rattle.ans_mend.specs.LastEnds.{AreLastEndsOut, HasFewerEnds}
+use Rattle.ans_mend.specs.NamedColours.{AreColoursNamed, HasNamedColours, named_content}
 use Rattle.ans_mend.specs.Tail.{IsTailCut}
 use Rattle.ans_mend.specs.TakingOut.{AreTakenOut, Gone, TakesOut, TakesOutOf, flagged, nothing_told, told_of}
 use Rattle.ans_mend.specs.declared.outcome.Edits.{Edits}
 use Rattle.ans_mend.specs.declared.taking_out.Told.{Told}
 use Rattle.ans_options.specs.declared.command.Mends.{Mends}
-use Rattle.ans_check.specs.Mending.{AreLastEndsGone, AreLinesFor, AreNamed, AreRowsJoined, AreSequencesOut}
+use Rattle.ans_check.specs.Mending.{AreLastEndsGone, AreLinesFor, AreNamed, AreRowsJoined}
 use Rattle.ans_check.specs.Mending.{AsksForLeast, HasLeast, IsAskedNumber, IsEdited, KeepsLines, TakesLines}
-use Rattle.ans_check.specs.Mending.{asks_for_lines, lined, returned}
+use Rattle.ans_check.specs.Mending.{asks_for_lines, returned}
 use Rattle.ans_check_laws.proofs.OneFound.{one_last}
 use Rattle.ans_check_laws.proofs.OneHints.{one_hints}
 

@@ -1,11 +1,10 @@
 -- A file that is mended has no reason not to be.
-use Rattle.std.proofs.Common.{◌≡◌, ◌⊎◌, inl, inr, ℕ, ◌+◌, ◌-◌, ◌≤◌, ◌<◌, Bool, true, false, List, [], ◌++◌, length}
+use Rattle.std.proofs.Common.{◌≡◌, inl, inr, ℕ, ◌+◌, ◌-◌, ◌≤◌, ◌<◌, Bool, true, false, List, [], ◌++◌, length}
 use Rattle.std.proofs.Common.{refl, sym, ap, ap₂, ◌∙◌, arith, subst, subst₂, true≢false, Option, None, Some}
 use Rattle.std.specs.Prelude.{IsTrue, ◌↔◌}
 use Rattle.std.proofs.lemmas.List.{length-append, length-take-le}
-use Rattle.ans_model.specs.Bytes.{longest_file, most_lines}
+use Rattle.ans_model.specs.Bytes.{longest_file}
 use Rattle.ans_model.specs.File.Record.{stated_size}
-use Rattle.ans_model.specs.File.Refusals.{record_fault}
 use Rattle.ans_model.specs.Screen.State.{Size}
 use Rattle.ans_model.specs.Screen.StartClass.{all_known}
 use Rattle.ans_model.specs.Verdict.Good.{IsGood}
@@ -19,15 +18,14 @@ use Rattle.ans_walks.specs.MendedFile.{with_file_size}
 use Rattle.ans_walks.proofs.MendedFiles.{resized_accepted, resized_size}
 use Rattle.ans_mend.specs.Contents.{content_in}
 use Rattle.ans_mend.specs.EndMark.{with_end_mark}
-use Rattle.ans_mend.specs.declared.outcome.Edits.{Edits}
 use Rattle.ans_mend.specs.declared.outcome.Mended.{Mended}
 use Rattle.ans_mend.specs.declared.outcome.Unmended.{Unmended}
 use Rattle.ans_mend.specs.declared.outcome.Unmended.TheVariants.{Refused, TakesNoRecord, Torn, NoLines, TooLong}
 use Rattle.ans_options.specs.declared.command.Mends.{Mends}
-use Rattle.ans_check.specs.Mending.{AreLinesFor, AsksForLeast, IsEditedAsStated, IsMended, IsRead, IsReason}
+use Rattle.ans_check.specs.Mending.{AreLinesFor, AsksForLeast, IsMended, IsRead, IsReason}
 use Rattle.ans_check.specs.Mending.{IsReasonFor, IsReasonOfContent, IsReasonOfEdited, IsReasonOfLines, IsSettled}
 use Rattle.ans_check.specs.Mending.{IsWithoutNumber, KeepsLines, TakesLines, WantsLines, WantsMending, asked_for}
-use Rattle.ans_check.specs.Mending.{asks_for_lines, front_bytes, lacks_lines, lined, opened, recorded}
+use Rattle.ans_check.specs.Mending.{front_bytes, lacks_lines, lined, opened, recorded}
 use Rattle.ans_check.proofs.VerdictLemmas.{not_good}
 use Rattle.ans_check_laws.proofs.EditedOnce.{least_asks, none_or_some, one_cut, one_edited, one_lines, one_torn}
 use Rattle.ans_check_laws.proofs.MendedTwice.{its_record}

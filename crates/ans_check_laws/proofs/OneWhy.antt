@@ -1,8 +1,7 @@
 -- What is true of a file has one text.
 use Rattle.std.proofs.Common.{◌≡◌, ◌≢◌, inl, inr, ℕ, Bool, List, [], ◌++◌, length, drop, codes, refl, sym, ap}
-use Rattle.std.proofs.Common.{ap₂, ◌∙◌, subst, subst₂, Option, Some, None, arith}
+use Rattle.std.proofs.Common.{ap₂, ◌∙◌, subst, subst₂, Option, Some, None}
 use Rattle.std.specs.Prelude.{◌↔◌, IsTrue, IfSome, IfNone, is_some, flat_map, if◌then◌else◌}
-use Rattle.std.proofs.lemmas.Bool.{cases_lt}
 use Rattle.std.proofs.lemmas.Option.{same_Some}
 use Rattle.ans_model.specs.declared.fault.Cause.{Cause}
 use Rattle.ans_model.specs.declared.fault.Fault.{Fault}
@@ -32,7 +31,7 @@ use Rattle.ans_sauce.specs.Parts.{content_of, notes_of, record_of}
 use Rattle.ans_sauce.specs.Split.{IsSplit}
 use Rattle.ans_model.specs.Verdict.LastFault.{IsDeserved}
 use Rattle.ans_walks.specs.Hints.{are_torn}
-use Rattle.ans_walks.specs.Lines.{IsGoodOn, IsLeastLines}
+use Rattle.ans_walks.specs.Lines.{IsGoodOn}
 use Rattle.ans_check_laws.proofs.EditedOnce.{one_least}
 use Rattle.ans_walks.specs.Taller.{IsTaller}
 use Rattle.ans_why.specs.HintsText.{hints_text}

@@ -1,16 +1,15 @@
 -- Why a file that passes from the cleared start is not mended by itself.
 use Rattle.std.proofs.Common.{◌≡◌, inl, inr, ℕ, suc, ◌+◌, ◌≤◌, ◌<◌, Bool, true, false, List, [], ◌∷◌, ◌++◌, length}
-use Rattle.std.proofs.Common.{take, drop, refl, sym, ap, ap₂, ◌∙◌, arith, subst, subst₂, true≢false, Option, None, Some}
-use Rattle.std.specs.Prelude.{if◌then◌else◌, not, ◌&&◌, IsTrue}
+use Rattle.std.proofs.Common.{take, drop, refl, sym, ap, ◌∙◌, arith, subst, subst₂, true≢false}
+use Rattle.std.specs.Prelude.{if◌then◌else◌, not, IsTrue}
 use Rattle.std.specs.List.{list_all, list_any, position_or_len}
 use Rattle.std.proofs.Math.Seq.{drop-append_seam}
 use Rattle.ans_model.specs.Bytes.{end_mark, longest_file}
-use Rattle.ans_model.specs.File.Layout.{FileParts, after_content, content, is_clean_end, is_end_mark}
+use Rattle.ans_model.specs.File.Layout.{FileParts, content, is_clean_end, is_end_mark}
 use Rattle.ans_model.specs.File.Record.{stated_size}
 use Rattle.ans_model.specs.File.Refusals.{Accepts}
 use Rattle.ans_model.specs.Screen.StartClass.{all_known}
-use Rattle.ans_model.specs.Verdict.Good.{GoodWith, IsGood, Picture}
-use Rattle.ans_model.specs.declared.fault.Fault.{Fault}
+use Rattle.ans_model.specs.Verdict.Good.{IsGood, Picture}
 use Rattle.ans_sauce.specs.Found.{body_in, record_in}
 use Rattle.ans_sauce.proofs.LaidParts.{laid_body}
 use Rattle.ans_walks.specs.Mend.{mending}
@@ -21,8 +20,8 @@ use Rattle.ans_mend.specs.declared.outcome.Unmended.{Unmended}
 use Rattle.ans_mend.specs.declared.outcome.Unmended.TheVariants.{Refused, TakesNoRecord, Torn, NoLines, TooLong}
 use Rattle.ans_options.specs.declared.command.TheConstants.Mends as no_mends
 use Rattle.ans_check.specs.FileVerdict.{Passes}
-use Rattle.ans_check.specs.Mending.{AreLinesFor, IsEditedAsStated, IsRead, IsReason, IsReasonFor, IsReasonOfContent}
-use Rattle.ans_check.specs.Mending.{IsReasonOfEdited, IsSettled, lacks_lines, lined, opened, recorded}
+use Rattle.ans_check.specs.Mending.{IsEditedAsStated, IsRead, IsReason, IsReasonFor, IsReasonOfContent}
+use Rattle.ans_check.specs.Mending.{IsReasonOfEdited, IsSettled, lacks_lines, opened}
 use Rattle.ans_check.proofs.VerdictLemmas.{not_good}
 use Rattle.ans_check_laws.proofs.MarkedContents.{content_marked, marked_content, marked_laid, marked_parts}
 use Rattle.ans_check_laws.proofs.MarkedContents.{marked_file, marked_record, unmarked}
