@@ -4,12 +4,17 @@
 Run it in `crates/anscheck`, after `rt run -- check --cleared data/hi.ans` has built the program and
 `rt test` the tests of the crates that allocate (each leaves `out/NAME_tests` in its crate):
 
-    python3 ../../tools/hostile/refused_calls.py out/anscheck [NAME..]
+    python3 ../../tools/hostile/refused_calls.py out/anscheck [--tests FOLDER] [NAME..]
+
+With `--tests` the tests are taken from that folder, as `FOLDER/NAME_tests`. So those serve that are built without
+proofs: `python3 tools/bench/unproved.py --test NAME FOLDER/NAME_tests`. With `-` in the program's place the tests
+alone are tried, so that a long run can be made in parts.
 
 `rt try --fail-alloc N` refuses an allocation too, but it builds for each N anew, and the kit's `rt try`
 takes one number alone there, and refuses no read or write of a program that is built. So this script builds
 `refuse.c` with cc, which stands before the C library and refuses the call of one number; it counts upwards
-until a run meets no refusal. It needs a program that is linked with the C library dynamically, on Linux.
+until a run meets no refusal. Of a test it makes one run, in which a copy of the process meets each refusal. It needs
+a program that is linked with the C library dynamically, on Linux.
 
 What has to come of a run of the program in which one call is refused:
 
@@ -37,6 +42,7 @@ something did, where tests are not built, or where a kind of call was never met.
 """
 import collections
 import concurrent.futures
+import itertools
 import json
 import os
 import subprocess
@@ -75,6 +81,7 @@ OF_REJECTED_WORDS = {
     "tests::mends::wrong_words_of_mending_have_their_kind",
     "tests::tables::wrong_words_of_a_table_have_their_kind",
     "tests::texts::rejected_words_have_their_texts",
+    "tests::topics::other_words_ask_for_no_topic",
 }
 KINDS = ["alloc", "alloc-from", "open", "read", "write", "short-read", "short-write"]
 
@@ -238,6 +245,25 @@ def try_program(pool, program, library, room):
     return wrong + sum(refusals[kind] == 0 for kind in KINDS)
 
 
+def copies_of(executable, library, test):
+    """The copies of one run of a test, each of which met one refusal: its number, its status and its standard error.
+    The run itself meets none, and has to pass."""
+    with tempfile.TemporaryDirectory() as room:
+        told = os.path.join(room, "told")
+        env = {"LD_PRELOAD": library, "REFUSE": "alloc-each:1", "REFUSED": told}
+        whole = subprocess.run([executable, test], stdin=subprocess.DEVNULL, capture_output=True, env=env)
+        if whole.returncode:
+            raise SystemExit(f"{executable} {test}: status {whole.returncode} without a refusal: {whole.stderr[:200]}")
+        if os.path.exists(told):
+            with open(told, "rb") as file:
+                for n in itertools.count(1):
+                    line = file.readline()
+                    if not line:
+                        return
+                    status, length = map(int, line.split())
+                    yield n, Ran(status, b"", file.read(length), 0)
+
+
 def tests_of(executable):
     listed = subprocess.run([executable, "--list"], capture_output=True, check=True).stdout.decode()
     return [line.removesuffix(": test") for line in listed.splitlines() if line.endswith(": test")]
@@ -248,15 +274,15 @@ def hands_on(test, ran):
     return ran.status > 0 and ran.err.startswith(TEST_ERRORS) or ran.status == 0 and test in OF_REJECTED_WORDS
 
 
-def try_tests(pool, name, library):
+def try_tests(pool, name, folder, library):
     """How many allocations of a crate's tests came out otherwise, each refused in turn."""
-    executable = os.path.join(CRATES, name, "out", f"{name}_tests")
+    executable = os.path.join(folder or os.path.join(CRATES, name, "out"), f"{name}_tests")
     if not os.path.exists(executable):
         print(f"{name}: no {executable}; run rt test there")
         return 1
     tests, refusals, passed, wrong = tests_of(executable), 0, 0, 0
-    for test in tests:
-        for n, ran in each_refusal(pool, [executable, test], os.devnull, library, "alloc"):
+    for test, copies in zip(tests, pool.map(lambda test: list(copies_of(executable, library, test)), tests)):
+        for n, ran in copies:
             refusals += 1
             passed += ran.status == 0
             if not hands_on(test, ran):
@@ -268,12 +294,15 @@ def try_tests(pool, name, library):
 
 
 def main(program, *names):
+    folder = None
+    if names[:1] == ("--tests",):
+        folder, names = os.path.abspath(names[1]), names[2:]
     with tempfile.TemporaryDirectory() as room, concurrent.futures.ThreadPoolExecutor(WORKERS) as pool:
         library = os.path.join(room, "refuse.so")
         source = os.path.join(HERE, "refuse.c")
         subprocess.run(["cc", "-shared", "-fPIC", "-O1", "-Wall", "-o", library, source], check=True)
-        wrong = try_program(pool, os.path.abspath(program), library, room)
-        wrong += sum(try_tests(pool, name, library) for name in names or TESTED)
+        wrong = 0 if program == "-" else try_program(pool, os.path.abspath(program), library, room)
+        wrong += sum(try_tests(pool, name, folder, library) for name in names or TESTED)
     return 1 if wrong else 0
 
 
