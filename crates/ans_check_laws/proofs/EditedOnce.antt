@@ -9,10 +9,10 @@ use Rattle.ans_model.specs.File.Record.{is_non_blink, stated_width}
 use Rattle.ans_model.specs.File.Refusals.{has_record}
 use Rattle.ans_model.specs.Screen.State.{Size, sized}
 use Rattle.ans_model.specs.Sequence.TokenKind.{TokenKind}
-use Rattle.ans_model.specs.Sequence.Reads.{SpellsToken}
+use Rattle.ans_model.specs.Sequence.Reads.{Reads, SpellsToken}
 use Rattle.ans_model.proofs.Reading.{one_token_in_front, token_nonempty}
 use Rattle.ans_players.proofs.OneSpelling.{one_spelling}
-use Rattle.ans_sauce.specs.Found.{record_in}
+use Rattle.ans_sauce.specs.Found.{IsLastRecord, record_in}
 use Rattle.ans_forms.specs.declared.kinds.Before.{Before}
 use Rattle.ans_forms.specs.declared.kinds.TheConstants.Before as before
 use Rattle.ans_forms.proofs.OneGoing.{goes_or_not, one_goes_first}
@@ -31,16 +31,29 @@ use Rattle.ans_mend.specs.TakingOut.{AreTakenOut, Gone, TakesOut, TakesOutOf, fl
 use Rattle.ans_mend.specs.declared.outcome.Edits.{Edits}
 use Rattle.ans_mend.specs.declared.taking_out.Told.{Told}
 use Rattle.ans_options.specs.declared.command.Mends.{Mends}
+use Rattle.ans_why.specs.Explained.{AreHintsOf}
 use Rattle.ans_check.specs.Mending.{AreLastEndsGone, AreLinesFor, AreNamed, AreRowsJoined}
 use Rattle.ans_check.specs.Mending.{AsksForLeast, HasLeast, IsAskedNumber, IsEdited, KeepsLines, TakesLines}
 use Rattle.ans_check.specs.Mending.{asks_for_lines, returned}
-use Rattle.ans_check_laws.proofs.OneFound.{one_last}
-use Rattle.ans_check_laws.proofs.OneHints.{one_hints}
 
 -- ---- the tail
 
 same_some : (m n : ℕ) → ◌≡◌ {A = Option ℕ} (Some m) (Some n) → m ≡ n
 same_some m n e = ap (λ (v : Option ℕ). unwrap_or v 0) e
+
+one_last : (file : List ℕ) (a b : Option ℕ) → IsLastRecord file a → IsLastRecord file b → a ≡ b
+one_last file None None h g = refl
+one_last file None (Some k) h g = absurd (h k g.0.low g.0.high g.1)
+one_last file (Some j) None h g = absurd (g j h.0.low h.0.high h.1)
+one_last file (Some j) (Some k) h g = elim (cases_lt j k) [
+  | inl before ↦ absurd (h.0.after k (omega (arith, before)) g.0.high g.1)
+  | inr down ↦ elim (cases_lt k j) [
+    | inl behind ↦ absurd (g.0.after j (omega (arith, behind)) h.0.high h.1)
+    | inr up ↦
+        let same : j ≡ k = omega (arith, down, up) in
+        ap (λ (n : ℕ). Some n) same
+  ]
+]
 
 pub one_cut : (file a b : List ℕ) → IsTailCut file a → IsTailCut file b → a ≡ b
 one_cut file a b (inl (p, h, a_is)) (inl (q, g, b_is)) =
@@ -219,7 +232,7 @@ module _ (mends : Mends) (z : Size) (file a b : List ℕ) (x y : Edits) (h : IsE
 
 -- ---- the lines
 
-pub one_least : (width : ℕ) (bytes : List ℕ) (n m : ℕ) → IsLeastLines width bytes n → IsLeastLines width bytes m → n ≡ m
+one_least : (width : ℕ) (bytes : List ℕ) (n m : ℕ) → IsLeastLines width bytes n → IsLeastLines width bytes m → n ≡ m
 one_least width bytes n m h g = elim (cases_lt n m) [
   | inl fewer ↦ absurd (g.fewer n fewer h.enough)
   | inr up ↦ elim (cases_lt m n) [
@@ -228,16 +241,29 @@ one_least width bytes n m h g = elim (cases_lt n m) [
   ]
 ]
 
+-- hints of what is read as these tokens tell alike whether the rows are torn
+torn_alike : (z : Size) (flag : Bool) (bytes behind : List ℕ) (tokens : List TokenKind) (a b : Hints)
+    → Reads bytes tokens → AreHintsOf z flag bytes behind a → AreHintsOf z flag bytes behind b
+    → are_torn a ≡ are_torn b
+torn_alike z flag bytes behind tokens a b reads of_a of_b =
+    let h = of_a tokens reads.0 reads.1 in
+    let g = of_b tokens reads.0 reads.1 in
+    λ i. are_torn (record a {
+      loose_line_feeds = (h.loose_line_feeds ∙ sym g.loose_line_feeds) i;
+      row_ends = (h.row_ends ∙ sym g.row_ends) i;
+      wide_characters = (h.wide_characters ∙ sym g.wide_characters) i;
+    })
+
 -- the rows are torn on them, or they are not
 pub one_torn : (sauce bytes : List ℕ) (n m : ℕ) → HasLeast true sauce bytes n → HasLeast false sauce bytes m → ⊥
 one_torn sauce bytes n m (within, least, (a, a_of, torn)) (within_too, least_too, (b, b_of, whole)) =
     let same : n ≡ m = one_least (stated_width sauce) bytes n m least least_too in
     let moved =
     subst (λ (v : ℕ). HasLeast false sauce bytes v) (sym same) (within_too, least_too, (b, b_of, whole)) in
-    let hints : a ≡ moved.2.0 =
-    one_hints (sized (stated_width sauce) n) (is_non_blink sauce) bytes [] least.enough.1.tokens a moved.2.0
+    let alike : are_torn a ≡ are_torn moved.2.0 =
+    torn_alike (sized (stated_width sauce) n) (is_non_blink sauce) bytes [] least.enough.1.tokens a moved.2.0
     least.enough.1.reads a_of moved.2.1 in
-    true≢false (sym torn ∙ ap (λ (v : Hints). are_torn v) hints ∙ moved.2.2)
+    true≢false (sym torn ∙ alike ∙ moved.2.2)
 
 given_asks : (mends : Mends) (n : ℕ) → mends.lines ≡ Some n → asks_for_lines mends ≡ true
 given_asks mends n is = ap (λ (v : Option ℕ). is_some v || mends.least_lines) is

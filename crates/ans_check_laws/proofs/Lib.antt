@@ -1,12 +1,5 @@
 pub mod Covering
 pub mod NeedsAndChecks
-pub mod OneReport
-pub mod OneBlamed
-pub mod OneEvidence
-pub mod OneFound
-pub mod OneHints
-pub mod OnePlayers
-pub mod OneWhy
 pub mod CleanPieces
 pub mod CleanPictures
 pub mod CleanLines
@@ -37,3 +30,4 @@ pub mod MendedRedrawn
 pub mod RedrawnPictures
 pub mod RedrawnShown
 pub mod UnredrawnFiles
+pub mod OnePicture

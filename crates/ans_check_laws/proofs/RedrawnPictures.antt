@@ -19,7 +19,7 @@ use Rattle.ans_redraw_file.proofs.RedrawnContents.{content_tells_the_picture}
 use Rattle.ans_redraw_file.proofs.RedrawnFiles.{redrawn_files_pass}
 use Rattle.ans_check.specs.FileVerdict.{Passes}
 use Rattle.ans_check.specs.Redrawing.{IsRedrawn}
-use Rattle.ans_check_laws.proofs.OneReport.{same_picture}
+use Rattle.ans_check_laws.proofs.OnePicture.{same_picture}
 
 -- The file passes with this picture and has room for its form, and the new file is the redrawn one.
 pub record IsNew (file : List ℕ) (apart : FileParts) (picture : Picture) (new : List ℕ) : Type 0 where

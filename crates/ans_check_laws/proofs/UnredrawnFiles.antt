@@ -3,18 +3,25 @@ use Rattle.std.proofs.Common.{◌≡◌, inl, inr, ℕ, List, subst, None}
 use Rattle.ans_model.specs.File.Layout.{FileParts, content}
 use Rattle.ans_model.specs.File.Record.{stated_size}
 use Rattle.ans_model.specs.File.Refusals.{record_fault}
+use Rattle.ans_model.specs.Screen.State.{Size}
 use Rattle.ans_model.specs.Screen.StartClass.{all_known}
-use Rattle.ans_model.specs.Verdict.Good.{Picture}
+use Rattle.ans_model.specs.Verdict.Good.{IsGood, Picture}
 use Rattle.ans_model.specs.Verdict.LastFault.{IsDeserved}
 use Rattle.ans_model.specs.declared.fault.Fault.{Fault}
+use Rattle.ans_model.specs.declared.start.Start.{Start}
 use Rattle.ans_model.proofs.AcceptedFiles.{no_fault}
+use Rattle.ans_model.proofs.OneAnswer.{good_or_first, good_or_last}
 use Rattle.ans_redraw_file.specs.RedrawnFile.{IsTooLong}
 use Rattle.ans_redraw_file.specs.declared.outcome.Unredrawn.{Unredrawn}
 use Rattle.ans_redraw_file.specs.declared.outcome.Unredrawn.TheVariants.{Refused, TooLong}
 use Rattle.ans_check.specs.FileVerdict.{Passes}
 use Rattle.ans_check.specs.Redrawing.{IsReasonNot, IsRefusedFromCleared}
-use Rattle.ans_check_laws.proofs.OneReport.{same_apart, same_picture}
-use Rattle.ans_check_laws.proofs.OneWhy.{good_deserves_none}
+use Rattle.ans_check_laws.proofs.OnePicture.{same_apart, same_picture}
+
+good_deserves_none : (z : Size) (class : Start) (bytes : List ℕ) (f : Fault) → IsGood z class bytes
+    → IsDeserved z class bytes f → ⊥
+good_deserves_none z class bytes f good (inl h) = good_or_first z class bytes f good h
+good_deserves_none z class bytes f good (inr h) = good_or_last z class bytes f good h
 
 -- a file that passes is not refused, neither for its record nor from the cleared start
 not_refused : (file : List ℕ) (apart : FileParts) (picture : Picture) (fault : Fault)

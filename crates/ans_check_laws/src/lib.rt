@@ -4,11 +4,11 @@
 //! Each law is the contract of a function that does nothing; what a body names are laws that it rests
 //! on. [`class_laws`] say which classes of starts cover which. [`text_laws`] say that the texts are
 //! clean: of the control characters only line feeds are in them, and no byte of a file is shown by one.
-//! [`report_laws`] say that a file and its options have one report, and that what `needs` finds is what
-//! each check finds. [`mend_laws`] say that mending by itself keeps the picture, that once is enough,
-//! and that no own colours are left where they are named. [`redraw_laws`] say that redrawing keeps the
-//! picture, that once is enough, that only its length keeps a drawing that passes from being redrawn,
-//! and that drawings of one picture get one content. [`player_laws`] say what shows on which players.
+//! [`report_laws`] say that what `needs` finds is what each check finds. [`mend_laws`] say that mending by
+//! itself keeps the picture, that once is enough, and that no own colours are left where they are named.
+//! [`redraw_laws`] say that redrawing keeps the picture, that once is enough, that only its length keeps a
+//! drawing that passes from being redrawn, and that drawings of one picture get one content.
+//! [`player_laws`] say what shows on which players.
 #![tactic(auto)]
 
 pub mod class_laws;

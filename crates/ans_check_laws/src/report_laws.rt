@@ -1,13 +1,12 @@
 //! Laws of what is answered of a file.
 
-ghost use Rattle.std.specs.Prelude.{◌≡◌, ◌↔◌, ℕ, Bool, true, false, List, IsTrue};
+ghost use Rattle.std.specs.Prelude.{◌≡◌, ◌↔◌, ℕ, Bool, false, List, IsTrue};
 ghost use Rattle.ans_model.specs.File.Layout.{FileParts};
 ghost use Rattle.ans_model.specs.Screen.StartClass.{Covers};
 ghost use Rattle.ans_model.specs.declared.start.Start.{Start};
-ghost use Rattle.ans_check.specs.CommandText.{Reports, ReportsCheck, ReportsNeeds};
+ghost use Rattle.ans_check.specs.CommandText.{ReportsCheck, ReportsNeeds};
 ghost use Rattle.ans_check.specs.FileNeeds.{NeedsClass};
 ghost use Rattle.ans_check.specs.FileVerdict.{IsGoodFile};
-ghost use Rattle.ans_options.specs.declared.command.Options.{Options};
 
 /// Where the parts that a file needs are found, it is good for exactly those classes that know each
 /// of them, and a check passes from exactly those. Where a file is refused instead, it is good for no
@@ -24,11 +23,4 @@ pub fn needs_agree_with_checks()
     ensures never_passes { (file text other : List ℕ) (start : Start) (cells passed : Bool)
         → ReportsNeeds file false other → ReportsCheck file start cells passed text
         → passed ≡ false }
-{}
-
-/// A file and its options have one answer and one text.
-pub fn one_report()
-    ensures { (options : Options) (file text other : List ℕ) (passed again : Bool)
-        → Reports options file passed text → Reports options file again other
-        → (passed ≡ again) × (text ≡ other) }
 {}
