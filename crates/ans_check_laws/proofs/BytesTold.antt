@@ -28,7 +28,7 @@ use Rattle.ans_mend.specs.declared.taking_out.Told.{Told}
 use Rattle.ans_options.specs.declared.command.Mends.{Mends}
 use Rattle.ans_check.specs.Mending.{IsMended, first_lines, lacks_lines, opened, returned}
 use Rattle.ans_check_laws.specs.CleanTexts.{IsCleanText}
-use Rattle.ans_check_laws.proofs.CleanLines.{all_left, all_right}
+use Rattle.ans_check_laws.proofs.CleanPieces.{all_left, all_right}
 use Rattle.ans_check_laws.proofs.CleanMended.{QuotesBytes, mended_clean}
 use Rattle.ans_check_laws.proofs.ReturnsPut.{put_bytes}
 

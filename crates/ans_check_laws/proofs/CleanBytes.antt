@@ -48,8 +48,7 @@ module _ (P : ℕ → Type 0) (high : (b : ℕ) → 0x80 ≤ b → P b) where
 
 -- ---- control bytes
 high_is_no_control : (b : ℕ) → 0x80 ≤ b → ¬ IsControlByte b
-high_is_no_control b from (inl low) = omega (arith, from, low)
-high_is_no_control b from (inr e) = omega (arith, from, e)
+high_is_no_control b from control = grind arith
 
 -- a byte of C0, and DEL, is a control character
 control_byte : (b : ℕ) → IsControlByte b → IsControl b
@@ -81,10 +80,5 @@ named_line_is_one name bytes named h = record {
 }
   where
     colon : All (λ b. ¬ IsControlByte b) (codes ": ")
-    colon = All-cons (λ b. ¬ IsControlByte b) 0x3A (0x20 ∷ []) (λ control. elim control [
-      | inl low ↦ omega (arith, low)
-      | inr e ↦ omega (arith, e)
-    ]) (All-cons (λ b. ¬ IsControlByte b) 0x20 [] (λ control. elim control [
-      | inl low ↦ omega (arith, low)
-      | inr e ↦ omega (arith, e)
-    ]) (All-nil (λ b. ¬ IsControlByte b)))
+    colon = All-cons (λ b. ¬ IsControlByte b) 0x3A (0x20 ∷ []) (λ control. grind arith)
+        (All-cons (λ b. ¬ IsControlByte b) 0x20 [] (λ control. grind arith) (All-nil (λ b. ¬ IsControlByte b)))

@@ -1,20 +1,25 @@
 -- Pieces of clean texts.
 use Rattle.std.proofs.Common.{◌≡◌, inl, inr, ℕ, zero, suc, ◌/◌, ◌%◌, ◌<◌, Bool, true, false, refl, ◌∙◌}
-use Rattle.std.proofs.Common.{ap, ap₂, subst, arith, List, [], ◌∷◌, ◌++◌, map, append-nil, lit<, All}
+use Rattle.std.proofs.Common.{ap, ap₂, subst, arith, List, [], ◌∷◌, ◌++◌, length, map, take, drop, get_or}
+use Rattle.std.proofs.Common.{append-nil, lit<, All}
 use Rattle.std.specs.Prelude.{◌&&◌, ◌||◌, not, ◌==◌, nat_lt, nat_le, if◌then◌else◌, decimal, flat_map, encode_utf8}
 use Rattle.std.specs.Fmt.{digits, digits_onto, digit_glyph}
 use Rattle.std.specs.List.{list_all, join_with_byte}
 use Rattle.std.specs.Str.{all_scalars}
 use Rattle.std.proofs.Math.Nat.{mod-lt}
+use Rattle.std.proofs.Math.Seq.{take-append_seam, drop-append_seam}
 use Rattle.std.proofs.Math.Utf8.{scalar, low_scalar}
 use Rattle.std.proofs.lemmas.Bool.{and_parts, cases_eq}
 use Rattle.std.proofs.lemmas.Bool.Decides.{nat_tests}
 use Rattle.std.proofs.lemmas.List.Elements.{All-head, All-tail, All-nil, All-cons, All-append, All-weaker, All-map}
+use Rattle.std.proofs.lemmas.List.Elements.{All-take, All-drop}
 use Rattle.std.proofs.lemmas.Str.{encode_ascii, encodes-append}
 use Rattle.ans_model.specs.Bytes.{IsByte, semicolon}
 use Rattle.ans_model.specs.Text.Characters.{glyph_text, shown_bytes}
-use Rattle.ans_model.specs.Text.FaultText.{line_of}
-use Rattle.ans_model.specs.Text.Hexadecimal.{hex_byte, hex_digit}
+use Rattle.ans_model.specs.Text.Hexadecimal.{hex_byte}
+use Rattle.ans_model.specs.Text.ReportText.{rows}
+use Rattle.ans_model.specs.Screen.State.{IsByteCell}
+use Rattle.ans_model.specs.declared.cell.Cell.{Cell}
 use Rattle.ans_check_laws.specs.CleanTexts.{IsControl, IsCleanCharacter, IsCleanText, HasNoControls}
 
 -- two truths are true together
@@ -49,6 +54,23 @@ pub clean_flat_map : {A : Type 0} (f : A → List ℕ) (xs : List A) → ((x : A
 clean_flat_map f [] h = clean_nil
 clean_flat_map f (x ∷ xs) h = clean_append (f x) (flat_map f xs) (h x) (clean_flat_map f xs h)
 
+-- what is so of no text, and of two texts where it is so of each
+module _ (Q : List ℕ → Type 0) (none : Q []) (both : (a b : List ℕ) → Q a → Q b → Q (a ++ b)) where
+  pub of_each : {A : Type 0} (P : A → Type 0) (f : A → List ℕ) (xs : List A) → All P xs → ((x : A) → P x → Q (f x))
+      → Q (flat_map f xs)
+  of_each P f [] all each = none
+  of_each P f (x ∷ xs) all each =
+      both (f x) (flat_map f xs) (each x (All-head P x xs all)) (of_each P f xs (All-tail P x xs all) each)
+
+  -- is so of the lines of rows, where it is so of the line of each row of byte cells
+  pub of_rows : (line : List Cell → List ℕ) → ((row : List Cell) → All IsByteCell row → Q (line row))
+      → (width lines : ℕ) (cells : List Cell) → All IsByteCell cells → Q (flat_map line (rows width lines cells))
+  of_rows line each width zero cells h = none
+  of_rows line each width (suc lines) cells h =
+      both (line (take width cells)) (flat_map line (rows width lines (drop width cells)))
+      (each (take width cells) (All-take IsByteCell width cells h))
+      (of_rows line each width lines (drop width cells) (All-drop IsByteCell width cells h))
+
 -- ---- one character
 
 clean_character : (c : ℕ) → scalar c ≡ true → IsCleanCharacter c → IsCleanText (encode_utf8 c)
@@ -66,12 +88,8 @@ is_plain b = (nat_le 0x20 b && nat_lt b 0x7F) || b == 0x0A
 plain_below : (b : ℕ) → is_plain b ≡ true → b < 0x7F
 plain_below b h = grind (arith, nat_tests)
 
-plain_low : (b : ℕ) → is_plain b ≡ true → b < 0x20 → b ≡ 0x0A
-plain_low b h low = grind (arith, nat_tests)
-
 plain_is_clean : (b : ℕ) → is_plain b ≡ true → IsCleanCharacter b
-plain_is_clean b h (inl low) = plain_low b h low
-plain_is_clean b h (inr high) = absurd (omega (arith, plain_below b h, high.0))
+plain_is_clean b h control = grind (arith, nat_tests)
 
 plain_byte : (b : ℕ) → is_plain b ≡ true → IsCleanText (b ∷ [])
 plain_byte b h =
@@ -84,9 +102,6 @@ plain_text [] h = clean_nil
 plain_text (b ∷ bytes) h =
     let parts = and_parts (is_plain b) (list_all is_plain bytes) h in
     clean_append (b ∷ []) bytes (plain_byte b parts.0) (plain_text bytes parts.1)
-
-pub clean_line : (text : List ℕ) → IsCleanText text → IsCleanText (line_of text)
-clean_line text h = clean_append text (0x0A ∷ []) h (plain_text (0x0A ∷ []) refl)
 
 -- ---- numbers
 
@@ -118,35 +133,6 @@ digit_plain d below = grind (arith, nat_tests)
 pub clean_decimal : (n : ℕ) → IsCleanText (decimal n)
 clean_decimal n = plain_text (decimal n) (decimal_is is_plain digit_plain n)
 
-hex_digit_plain : (d : ℕ) → d < 16 → is_plain (hex_digit d) ≡ true
-hex_digit_plain d below = grind (arith, nat_tests)
-
-pub clean_hex_byte : (b : ℕ) → IsByte b → IsCleanText (hex_byte b)
-clean_hex_byte b byte =
-    let high : b / 16 < 16 = omega (arith, byte) in
-    let low : b % 16 < 16 = mod-lt b (lit< tt) in
-    plain_text (hex_byte b) (both_true (is_plain (hex_digit (b / 16))) (is_plain (hex_digit (b % 16)) && true)
-    (hex_digit_plain (b / 16) high)
-    (both_true (is_plain (hex_digit (b % 16))) true (hex_digit_plain (b % 16) low) refl))
-
--- numbers with a `;` between each two
-pub clean_numbers : (numbers : List ℕ) → IsCleanText (join_with_byte semicolon (map decimal numbers))
-clean_numbers [] = clean_nil
-clean_numbers (n ∷ []) = clean_decimal n
-clean_numbers (n ∷ m ∷ numbers) =
-    clean_append (decimal n) (semicolon ∷ join_with_byte semicolon (map decimal (m ∷ numbers))) (clean_decimal n)
-    (clean_append (semicolon ∷ []) (join_with_byte semicolon (map decimal (m ∷ numbers)))
-    (plain_text (semicolon ∷ []) refl)
-    (clean_numbers (m ∷ numbers)))
-
--- ---- bytes as they are shown
-
--- whether a byte is shown by a character that is no control character
-is_shown_clean : ℕ → Bool
-is_shown_clean b =
-    scalar (glyph_text b)
-    && not (nat_lt (glyph_text b) 0x20 || (nat_le 0x7F (glyph_text b) && nat_lt (glyph_text b) 0xA0))
-
 -- the test of each number below n
 abbrev all_below : (ℕ → Bool) → ℕ → Bool
 all_below p zero = true
@@ -159,14 +145,44 @@ below_at p (suc n) b h l = elim (cases_eq b n) [
   | inr ne ↦ below_at p n b (and_parts (p n) (all_below p n) h).1 (omega arith)
 ]
 
+all_hex_plain : all_below (λ b. list_all is_plain (hex_byte b)) 256 ≡ true
+all_hex_plain = refl
+
+pub clean_hex_byte : (b : ℕ) → IsByte b → IsCleanText (hex_byte b)
+clean_hex_byte b byte =
+    plain_text (hex_byte b) (below_at (λ n. list_all is_plain (hex_byte n)) 256 b all_hex_plain byte)
+
+-- texts with a plain byte between each two
+pub clean_joined : (byte : ℕ) → is_plain byte ≡ true → (texts : List (List ℕ)) → All IsCleanText texts
+    → IsCleanText (join_with_byte byte texts)
+clean_joined byte plain [] all = clean_nil
+clean_joined byte plain (text ∷ []) all = All-head IsCleanText text [] all
+clean_joined byte plain (text ∷ next ∷ more) all =
+    clean_append text (byte ∷ join_with_byte byte (next ∷ more)) (All-head IsCleanText text (next ∷ more) all)
+    (clean_append (byte ∷ []) (join_with_byte byte (next ∷ more)) (plain_byte byte plain)
+    (clean_joined byte plain (next ∷ more) (All-tail IsCleanText text (next ∷ more) all)))
+
+-- numbers with a `;` between each two
+pub clean_numbers : (numbers : List ℕ) → IsCleanText (join_with_byte semicolon (map decimal numbers))
+clean_numbers numbers =
+    clean_joined semicolon refl (map decimal numbers)
+    (All-map IsCleanText decimal numbers (λ k d within. clean_decimal (get_or numbers k d)))
+
+-- ---- bytes as they are shown
+
+-- whether a byte is shown by a character that is no control character
+is_shown_clean : ℕ → Bool
+is_shown_clean b =
+    scalar (glyph_text b)
+    && not (nat_lt (glyph_text b) 0x20 || (nat_le 0x7F (glyph_text b) && nat_lt (glyph_text b) 0xA0))
+
 -- so it is for all bytes
 all_shown_clean : all_below is_shown_clean 256 ≡ true
 unfolding is_shown_clean
 all_shown_clean = refl
 
 no_control : (c : ℕ) → not (nat_lt c 0x20 || (nat_le 0x7F c && nat_lt c 0xA0)) ≡ true → IsControl c → ⊥
-no_control c h (inl low) = grind (arith, nat_tests)
-no_control c h (inr (from, below)) = grind (arith, nat_tests)
+no_control c h control = grind (arith, nat_tests)
 
 -- what a byte's character is
 record ShownBy (c : ℕ) : Type 0 where
@@ -209,5 +225,41 @@ without_controls_clean text h = record {
       h.none;
 }
 
-pub clean_shown : (bytes : List ℕ) → All IsByte bytes → IsCleanText (shown_bytes bytes)
-clean_shown bytes h = without_controls_clean (shown_bytes bytes) (shown_has_no_controls bytes h)
+-- of two lists of which all are so, all of each are
+pub all_left : {X : Type 0} (P : X → Type 0) (xs ys : List X) → All P (xs ++ ys) → All P xs
+all_left P xs ys h = subst (All P) (take-append_seam xs ys) (All-take P (length xs) (xs ++ ys) h)
+
+pub all_right : {X : Type 0} (P : X → Type 0) (xs ys : List X) → All P (xs ++ ys) → All P ys
+all_right P xs ys h = subst (All P) (drop-append_seam xs ys) (All-drop P (length xs) (xs ++ ys) h)
+
+-- Each of the list is a byte. It is a record, so that a search takes it as one fact.
+pub record AreBytes (bytes : List ℕ) : Type 0 where
+  pub each : All IsByte bytes
+
+pub bytes_one : (b : ℕ) → IsByte b → AreBytes (b ∷ [])
+bytes_one b byte = record { each = All-cons IsByte b [] byte (All-nil IsByte) }
+
+pub bytes_take : (n : ℕ) (bytes : List ℕ) → AreBytes bytes → AreBytes (take n bytes)
+bytes_take n bytes h = record { each = All-take IsByte n bytes h.each }
+
+pub bytes_drop : (n : ℕ) (bytes : List ℕ) → AreBytes bytes → AreBytes (drop n bytes)
+bytes_drop n bytes h = record { each = All-drop IsByte n bytes h.each }
+
+pub bytes_left : (xs ys : List ℕ) → AreBytes (xs ++ ys) → AreBytes xs
+bytes_left xs ys h = record { each = all_left IsByte xs ys h.each }
+
+pub bytes_right : (xs ys : List ℕ) → AreBytes (xs ++ ys) → AreBytes ys
+bytes_right xs ys h = record { each = all_right IsByte xs ys h.each }
+
+pub clean_shown : (bytes : List ℕ) → AreBytes bytes → IsCleanText (shown_bytes bytes)
+clean_shown bytes h = without_controls_clean (shown_bytes bytes) (shown_has_no_controls bytes h.each)
+
+-- ---- a text by its pieces
+
+pub ruleset clean_forms = (plain_text, clean_append, clean_if, clean_flat_map)
+
+pub ruleset clean_values = (clean_decimal, clean_hex_byte, clean_numbers, clean_shown)
+
+pub ruleset bytes_of_bytes = (bytes_take, bytes_drop, bytes_one)
+
+pub ruleset clean_pieces = (clean_forms, clean_values, bytes_of_bytes)
