@@ -1,6 +1,6 @@
 -- The bytes of clean texts.
-use Rattle.std.proofs.Common.{inl, inr, ℕ, ◌+◌, ◌/◌, ◌≤◌, Bool, true, false, refl, subst, arith, All}
-use Rattle.std.proofs.Common.{List, [], ◌∷◌, ◌++◌}
+use Rattle.std.proofs.Common.{inl, inr, ℕ, ◌+◌, ◌/◌, ◌≤◌, Bool, true, false, refl, subst, arith, All, List, [], ◌∷◌}
+use Rattle.std.proofs.Common.{◌++◌}
 use Rattle.std.specs.Prelude.{cond, codes, encode_utf8, encode_utf8_all}
 use Rattle.std.proofs.Math.Utf8.{encode, next}
 use Rattle.std.proofs.Math.Dec.{ltb}
@@ -8,8 +8,8 @@ use Rattle.std.proofs.lemmas.List.Elements.{All-head, All-tail, All-nil, All-con
 use Rattle.ans_model.specs.Bytes.{IsByte}
 use Rattle.ans_model.specs.Text.Characters.{shown_bytes}
 use Rattle.ans_model.specs.Text.RecordText.{named_line}
-use Rattle.ans_check_laws.specs.CleanTexts.{IsCleanByte, IsCleanCharacter, IsCleanText, HasNoControls}
-use Rattle.ans_check_laws.specs.CleanTexts.{IsControl, IsControlByte, IsOneLine}
+use Rattle.ans_check_laws.specs.CleanTexts.{IsCleanByte, IsCleanCharacter, IsCleanText, HasNoControls, IsControl}
+use Rattle.ans_check_laws.specs.CleanTexts.{IsControlByte, IsOneLine}
 use Rattle.ans_check_laws.proofs.CleanPieces.{shown_has_no_controls}
 
 -- ---- what is so of each byte from 80h on, and of each character

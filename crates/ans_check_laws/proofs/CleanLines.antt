@@ -1,6 +1,5 @@
 -- Lines that several reports have are clean.
-use Rattle.std.proofs.Common.{◌≡◌, ℕ, Bool, true, false, refl}
-use Rattle.std.proofs.Common.{arith, List, [], ◌++◌, length, codes, Option, Some, None, All}
+use Rattle.std.proofs.Common.{◌≡◌, ℕ, Bool, true, false, refl, arith, List, [], ◌++◌, length, codes, All}
 use Rattle.std.specs.Prelude.{◌==◌, flat_map, if◌then◌else◌}
 use Rattle.std.proofs.lemmas.Bool.Decides.{nat_tests}
 use Rattle.std.proofs.lemmas.List.Elements.{All-nil, All-cons}
@@ -15,13 +14,12 @@ use Rattle.ans_model.specs.File.Layout.{FileParts, comment_block}
 use Rattle.ans_model.specs.File.Record.{comment_count}
 use Rattle.ans_model.specs.File.Refusals.{Accepts}
 use Rattle.ans_model.specs.Text.FaultText.{fault_text, position_text, fault_line, note_line}
-use Rattle.ans_model.specs.Text.ReportText.{Heading, start_line}
+use Rattle.ans_model.specs.Text.ReportText.{Heading, start_line, heading_text}
 use Rattle.ans_model.specs.Text.Words.{part_if, part_names, words_text}
-use Rattle.ans_model.specs.Text.ReportText.{heading_text}
 use Rattle.ans_report.specs.Quoted.{quoted_byte}
 use Rattle.ans_check_laws.specs.CleanTexts.{IsCleanText}
-use Rattle.ans_check_laws.proofs.CleanPieces.{AreBytes, bytes_left, bytes_right, clean_append, clean_joined}
-use Rattle.ans_check_laws.proofs.CleanPieces.{clean_nil, clean_pieces, of_each, plain_text}
+use Rattle.ans_check_laws.proofs.CleanPieces.{clean_option, AreBytes, bytes_left, bytes_right, clean_append}
+use Rattle.ans_check_laws.proofs.CleanPieces.{clean_joined, clean_nil, clean_pieces, of_each, plain_text}
 
 -- ---- faults and notes
 
@@ -56,12 +54,8 @@ parts_clean s =
     (part_clean s.colours (codes "colours") _ (plain_text (codes "colours") refl)
     (part_clean s.wrap (codes "wrap") [] (plain_text (codes "wrap") refl) (All-nil IsCleanText))))))
 
-start_line_clean : (start : Option Start) → IsCleanText (start_line start)
-start_line_clean None = clean_nil
-start_line_clean (Some s) = search (clean_pieces, parts_clean) depth 20
-
 pub heading_clean : (h : Heading) → IsCleanText (heading_text h)
-heading_clean h = search (clean_pieces, start_line_clean, note_line_clean) depth 20
+heading_clean h = search (clean_option start_line, parts_clean, note_line_clean, clean_pieces) depth 20
 
 -- ---- bytes as they are quoted
 

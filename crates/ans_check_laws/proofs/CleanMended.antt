@@ -7,7 +7,6 @@ use Rattle.ans_model.specs.declared.fault.Cause.TheVariants as cause
 use Rattle.ans_walks.specs.declared.times.Times.{Times}
 use Rattle.ans_mend.specs.MendedText.{end_mark_line, flag_line, front_line, help_text, mended_text, record_line}
 use Rattle.ans_mend.specs.MendedText.{tail_line, taken_line, times_line, unmended_text}
-use Rattle.ans_mend.specs.declared.outcome.GivenRecord.{GivenRecord}
 use Rattle.ans_mend.specs.declared.outcome.Mended.{Mended}
 use Rattle.ans_mend.specs.declared.outcome.Unmended.{Unmended}
 use Rattle.ans_mend.specs.declared.outcome.Unmended.TheVariants as unmended
@@ -15,7 +14,7 @@ use Rattle.ans_mend.specs.declared.taking_out.TakenOut.{TakenOut}
 use Rattle.ans_options.specs.declared.command.Mends.{Mends}
 use Rattle.ans_check_laws.specs.CleanTexts.{IsCleanText}
 use Rattle.ans_check_laws.proofs.CleanLines.{clean_lines}
-use Rattle.ans_check_laws.proofs.CleanPieces.{AreBytes, clean_append, clean_nil, of_each}
+use Rattle.ans_check_laws.proofs.CleanPieces.{AreBytes, clean_append, clean_bool, clean_nil, clean_option, of_each}
 
 -- ---- what was changed
 
@@ -33,33 +32,24 @@ taken_line_clean (Some taken) bytes =
     let of_bytes : AreBytes taken.text.bytes = record { each = bytes } in
     search clean_lines depth 20
 
-tail_clean : (tail : Option Times) → IsCleanText (tail_line tail)
-tail_clean None = clean_nil
-tail_clean (Some cut) = search clean_lines depth 20
-
-record_clean : (given : Option GivenRecord) → IsCleanText (record_line given)
-record_clean None = clean_nil
-record_clean (Some given) = search clean_lines depth 20
-
 flag_clean : (was is : Bool) → IsCleanText (flag_line was is)
 flag_clean false true = search clean_lines
 flag_clean true false = search clean_lines
-flag_clean false false = clean_nil
-flag_clean true true = clean_nil
-
-pub end_mark_clean : (at : Option ℕ) → IsCleanText (end_mark_line at)
-end_mark_clean None = clean_nil
-end_mark_clean (Some at) = search clean_lines depth 20
-
-front_clean : (front : Bool) → IsCleanText (front_line front)
-front_clean true = search clean_lines
-front_clean false = clean_nil
+flag_clean was is = clean_nil
 
 pub mended_clean : (mended : Mended) → All QuotesBytes mended.edits.told.kinds → IsCleanText (mended_text mended)
 mended_clean m bytes =
     let taken : IsCleanText (flat_map taken_line m.edits.told.kinds) =
     of_each IsCleanText clean_nil clean_append QuotesBytes taken_line m.edits.told.kinds bytes taken_line_clean in
-    search (tail_clean, record_clean, times_line_clean, flag_clean, end_mark_clean, front_clean, clean_lines) depth 30
+    search (
+      clean_option tail_line,
+      clean_option record_line,
+      clean_option end_mark_line,
+      clean_bool front_line,
+      times_line_clean,
+      flag_clean,
+      clean_lines,
+    ) depth 30 fits 5000
 
 -- ---- why there is none
 

@@ -1,10 +1,11 @@
 -- Pictures in colour are clean: a page as it stands, and a text for a terminal between its sequences.
-use Rattle.std.proofs.Common.{◌≡◌, ◌⊎◌, inl, inr, ℕ, ◌<◌, Bool, true, false, refl, sym, ap, subst, ◌∙◌}
-use Rattle.std.proofs.Common.{append_assoc, append-nil, arith, List, [], ◌∷◌, ◌++◌, codes, All}
+use Rattle.std.proofs.Common.{◌≡◌, ◌⊎◌, inl, inr, ℕ, ◌<◌, Bool, true, false, refl, sym, ap, subst, ◌∙◌, append_assoc}
+use Rattle.std.proofs.Common.{append-nil, arith, List, [], ◌∷◌, ◌++◌, codes, All}
 use Rattle.std.specs.Prelude.{if◌then◌else◌, encode_utf8, flat_map}
 use Rattle.std.specs.Fmt.{digit_glyph}
 use Rattle.std.specs.List.{list_all}
 use Rattle.std.proofs.lemmas.Bool.Decides.{nat_tests}
+use Rattle.std.proofs.lemmas.Grind.{flat_map-append}
 use Rattle.std.proofs.lemmas.List.Folds.{list_all-append}
 use Rattle.std.proofs.lemmas.List.Elements.{All-nil, All-cons, All-append}
 use Rattle.ans_model.specs.declared.cell.Cell.{Cell}
@@ -93,18 +94,11 @@ coloured_where_clean text h = one_piece text (inl h)
 coloured_nil : IsColouredText []
 coloured_nil = record { pieces = []; whole = refl; each = All-nil IsPiece }
 
-joined_pieces : (a b : List (List ℕ))
-    → flat_map (λ piece. piece) a ++ flat_map (λ piece. piece) b ≡ flat_map (λ piece. piece) (a ++ b)
-joined_pieces [] b = refl
-joined_pieces (piece ∷ a) b =
-    append_assoc piece (flat_map (λ p. p) a) (flat_map (λ p. p) b)
-    ∙ ap (λ (v : List ℕ). piece ++ v) (joined_pieces a b)
-
 coloured_append : (a b : List ℕ) → IsColouredText a → IsColouredText b → IsColouredText (a ++ b)
 coloured_append a b h g = record {
   pieces = h.pieces ++ g.pieces;
   whole = ap (λ (v : List ℕ). v ++ b) h.whole ∙ ap (λ (v : List ℕ). flat_map (λ p. p) h.pieces ++ v) g.whole
-      ∙ joined_pieces h.pieces g.pieces;
+      ∙ sym (flat_map-append (λ (p : List ℕ). p) h.pieces g.pieces);
   each = All-append IsPiece h.pieces g.pieces h.each g.each;
 }
 
@@ -146,8 +140,7 @@ colours_are_a_sequence vga l =
     let back = background_text vga l.background in
     record {
       parameters = codes "0" ++ (blink ++ (front ++ back));
-      are_parameters = parameters_append blink (front ++ back) (of_blink l.blinks)
-          (parameters_append front back (of_foreground vga l.foreground) (of_background vga l.background));
+      are_parameters = search (parameters_append, of_blink, of_foreground, of_background);
       whole = ap (λ (v : List ℕ). escape ∷ 0x5B ∷ 0x30 ∷ v)
           (ap (λ (v : List ℕ). blink ++ v) (sym (append_assoc front back (codes "m")))
           ∙ sym (append_assoc blink (front ++ back) (codes "m")));

@@ -1,6 +1,6 @@
 -- Pieces of clean texts.
-use Rattle.std.proofs.Common.{◌≡◌, inl, inr, ℕ, zero, suc, ◌/◌, ◌%◌, ◌<◌, Bool, true, false, refl, ◌∙◌}
-use Rattle.std.proofs.Common.{ap, ap₂, subst, arith, List, [], ◌∷◌, ◌++◌, length, map, take, drop, get_or}
+use Rattle.std.proofs.Common.{◌≡◌, inl, inr, ℕ, zero, suc, ◌/◌, ◌%◌, ◌<◌, Bool, true, false, refl, ◌∙◌, ap, ap₂, subst}
+use Rattle.std.proofs.Common.{arith, List, [], ◌∷◌, ◌++◌, length, map, take, drop, get_or, Option, Some, None}
 use Rattle.std.proofs.Common.{append-nil, lit<, All}
 use Rattle.std.specs.Prelude.{◌&&◌, ◌||◌, not, ◌==◌, nat_lt, nat_le, if◌then◌else◌, decimal, flat_map, encode_utf8}
 use Rattle.std.specs.Fmt.{digits, digits_onto, digit_glyph}
@@ -53,6 +53,16 @@ pub clean_flat_map : {A : Type 0} (f : A → List ℕ) (xs : List A) → ((x : A
     → IsCleanText (flat_map f xs)
 clean_flat_map f [] h = clean_nil
 clean_flat_map f (x ∷ xs) h = clean_append (f x) (flat_map f xs) (h x) (clean_flat_map f xs h)
+
+-- a text of what there may be, and one of a test
+pub clean_option : {A : Type 0} (f : Option A → List ℕ) → IsCleanText (f None) → ((x : A) → IsCleanText (f (Some x)))
+    → (o : Option A) → IsCleanText (f o)
+clean_option f h g None = h
+clean_option f h g (Some x) = g x
+
+pub clean_bool : (f : Bool → List ℕ) → IsCleanText (f true) → IsCleanText (f false) → (b : Bool) → IsCleanText (f b)
+clean_bool f h g true = h
+clean_bool f h g false = g
 
 -- what is so of no text, and of two texts where it is so of each
 module _ (Q : List ℕ → Type 0) (none : Q []) (both : (a b : List ℕ) → Q a → Q b → Q (a ++ b)) where

@@ -1,14 +1,15 @@
 -- What redrawing says is clean.
+use Rattle.ans_mend.specs.MendedText.{end_mark_line}
 use Rattle.ans_redraw_file.specs.RedrawnText.{redrawn_text, unredrawn_text}
 use Rattle.ans_redraw_file.specs.declared.outcome.Redrawn.{Redrawn}
 use Rattle.ans_redraw_file.specs.declared.outcome.Unredrawn.{Unredrawn}
 use Rattle.ans_redraw_file.specs.declared.outcome.Unredrawn.TheVariants as unredrawn
 use Rattle.ans_check_laws.specs.CleanTexts.{IsCleanText}
 use Rattle.ans_check_laws.proofs.CleanLines.{clean_lines}
-use Rattle.ans_check_laws.proofs.CleanMended.{end_mark_clean}
+use Rattle.ans_check_laws.proofs.CleanPieces.{clean_option}
 
 pub redrawn_clean : (redrawn : Redrawn) → IsCleanText (redrawn_text redrawn)
-redrawn_clean redrawn = search (clean_lines, end_mark_clean) depth 20
+redrawn_clean redrawn = search (clean_option end_mark_line, clean_lines) depth 20
 
 pub unredrawn_clean : (reason : Unredrawn) → IsCleanText (unredrawn_text reason)
 unredrawn_clean (unredrawn.Refused fault) = search clean_lines depth 20

@@ -1,6 +1,6 @@
 -- What is written of a file is clean.
-use Rattle.std.proofs.Common.{◌≡◌, inl, inr, ℕ, zero, suc, ◌+◌, ◌≤◌, Bool, true, false, refl, subst}
-use Rattle.std.proofs.Common.{arith, List, [], ◌∷◌, length, map, drop, codes, Option, Some, None, All}
+use Rattle.std.proofs.Common.{◌≡◌, inl, inr, ℕ, zero, suc, ◌+◌, ◌≤◌, Bool, true, false, refl, subst, arith, List, []}
+use Rattle.std.proofs.Common.{◌∷◌, length, map, drop, codes, Option, Some, None, All}
 use Rattle.std.specs.Prelude.{◌&&◌, flat_map, IfSome, Ok, Err}
 use Rattle.std.proofs.lemmas.List.{length-take}
 use Rattle.std.proofs.lemmas.List.Elements.{All-head, All-tail, All-map, All-weaker}
@@ -9,15 +9,11 @@ use Rattle.ans_model.specs.declared.fault.Fault.{Fault}
 use Rattle.ans_model.specs.declared.start.Start.{Start}
 use Rattle.ans_model.specs.Bytes.{IsByte}
 use Rattle.ans_model.specs.File.Layout.{FileParts, content}
-use Rattle.ans_model.specs.File.Record.{number, field, title_field}
-use Rattle.ans_model.specs.File.Record.{comment_count, trimmed}
-use Rattle.ans_model.specs.File.Record.{is_non_blink}
+use Rattle.ans_model.specs.File.Record.{number, field, title_field, comment_count, trimmed, is_non_blink}
 use Rattle.ans_model.specs.Screen.State.{IsByteCell}
-use Rattle.ans_model.specs.Sequence.TokenKind.{TokenKind, PrintsByte}
-use Rattle.ans_model.specs.Sequence.TokenKind.{Wrap}
+use Rattle.ans_model.specs.Sequence.TokenKind.{TokenKind, PrintsByte, Wrap}
 use Rattle.ans_model.specs.Text.RecordText.{comment_lines, record_text}
-use Rattle.ans_model.specs.Text.ReportText.{Heading, Passed, RefusedFor, rows_of, picture_line}
-use Rattle.ans_model.specs.Text.ReportText.{cell_digits, cells_line}
+use Rattle.ans_model.specs.Text.ReportText.{Heading, Passed, rows_of, picture_line, cell_digits, cells_line}
 use Rattle.ans_model.specs.Text.ReportText.{report_text}
 use Rattle.ans_model.specs.Text.TokensText.{token_name, token_lines, fault_end, TokensText}
 use Rattle.ans_model.specs.Verdict.Good.{Picture}
@@ -28,8 +24,8 @@ use Rattle.ans_options.specs.declared.command.Form.{Form}
 use Rattle.ans_options.specs.declared.command.Form.TheVariants.{Terminal, Vga, Page}
 use Rattle.ans_options.specs.declared.command.Options.{Options}
 use Rattle.ans_report.specs.Message.{message_line}
-use Rattle.ans_check.specs.CommandText.{Reports, ReportsBy, ReportsCheck, ReportsNeeds}
-use Rattle.ans_check.specs.CommandText.{ReportsRecordFault, ReportsSauce, ReportsShow, ReportsTokens, heading}
+use Rattle.ans_check.specs.CommandText.{Reports, ReportsBy, ReportsCheck, ReportsNeeds, ReportsRecordFault}
+use Rattle.ans_check.specs.CommandText.{ReportsSauce, ReportsShow, ReportsTokens, heading}
 use Rattle.ans_check.specs.Ending.{ending_message}
 use Rattle.ans_check.specs.declared.errors.RunError.{RunError}
 use Rattle.ans_check.specs.declared.errors.RunError.TheVariants as error
@@ -38,11 +34,11 @@ use Rattle.ans_check.specs.declared.exit_status.Ending.TheVariants as ended
 use Rattle.ans_check.specs.declared.exit_status.Ending.TheVariants.{Run, UnreadableWords, UnopenedFile}
 use Rattle.ans_check.specs.Run.{run_error_text}
 use Rattle.ans_check_laws.specs.CleanTexts.{IsCleanText, IsColouredText, is_for_terminal}
-use Rattle.ans_check_laws.proofs.CleanLines.{OfBytes, clean_lines, fault_line_clean, parts_are_bytes}
+use Rattle.ans_check_laws.proofs.CleanLines.{OfBytes, clean_lines, parts_are_bytes}
 use Rattle.ans_check_laws.proofs.CleanWhy.{why_clean}
 use Rattle.ans_check_laws.proofs.CleanPictures.{coloured_where_clean, page_clean, terminal_coloured}
-use Rattle.ans_check_laws.proofs.CleanPieces.{AreBytes, bytes_drop, bytes_take, clean_append, clean_nil, clean_pieces}
-use Rattle.ans_check_laws.proofs.CleanPieces.{of_each, of_rows, plain_text}
+use Rattle.ans_check_laws.proofs.CleanPieces.{clean_option, AreBytes, bytes_drop, bytes_take, clean_append, clean_nil}
+use Rattle.ans_check_laws.proofs.CleanPieces.{clean_pieces, of_each, of_rows, plain_text}
 
 -- ---- pictures
 
@@ -74,9 +70,6 @@ pass_clean heading picture with_cells h =
     let lines = rows_clean picture_line picture_line_clean picture h in
     let cells = rows_clean cells_line cells_line_clean picture h in
     search clean_lines depth 20
-
-refused_clean : (heading : Heading) (fault : Fault) → IsCleanText (report_text heading (RefusedFor fault))
-refused_clean heading fault = search clean_lines depth 20
 
 -- ---- records
 
@@ -117,15 +110,10 @@ token_lines_clean start (t ∷ tokens) (text ∷ texts) h =
     let more = token_lines_clean (start + length text) tokens texts (All-tail PrintsByte t tokens h) in
     search clean_pieces depth 20
 
-fault_end_clean : (fault : Option Fault) → IsCleanText (fault_end fault)
-fault_end_clean None = clean_nil
-fault_end_clean (Some fault) = fault_line_clean fault
-
 tokens_clean : (bytes : List ℕ) (fault : Option Fault) (text : List ℕ) → TokensText bytes fault text → IsCleanText text
 tokens_clean bytes fault text h =
-    rw h.text_is (clean_append (token_lines 0 h.tokens h.texts) (fault_end fault)
-    (token_lines_clean 0 h.tokens h.texts (reads_bytes h.front h.tokens (h.texts, h.reads)))
-    (fault_end_clean fault))
+    let lines = token_lines_clean 0 h.tokens h.texts (reads_bytes h.front h.tokens (h.texts, h.reads)) in
+    rw h.text_is (search (clean_option fault_end, clean_lines) depth 20)
 
 -- ---- each command
 
@@ -136,8 +124,7 @@ check_clean : (file : List ℕ) (start : Start) (cells passed : Bool) (text : Li
     → ReportsCheck file start cells passed text → IsCleanText text
 check_clean file start cells true text h =
     rw h.text_is (pass_clean (heading h.apart (Some start)) h.picture cells h.passes.good.shows.is_picture.bytes)
-check_clean file start cells false text (not_good, inl h) =
-    rw h.text_is (refused_clean (heading h.apart (Some start)) h.fault)
+check_clean file start cells false text (not_good, inl h) = rw h.text_is (search clean_lines depth 20)
 check_clean file start cells false text (not_good, inr h) = record_fault_clean file text h
 
 sauce_clean : (file : List ℕ) (passed : Bool) (text : List ℕ) → AreBytes file → ReportsSauce file passed text
@@ -154,7 +141,7 @@ tokens_report_clean file false text (inr h) = record_fault_clean file text h
 
 needs_clean : (file : List ℕ) (passed : Bool) (text : List ℕ) → ReportsNeeds file passed text → IsCleanText text
 needs_clean file true text h = rw h.text_is (search clean_lines depth 20)
-needs_clean file false text (not_good, inl h) = rw h.text_is (refused_clean (heading h.apart None) h.fault)
+needs_clean file false text (not_good, inl h) = rw h.text_is (search clean_lines depth 20)
 needs_clean file false text (not_good, inr h) = record_fault_clean file text h
 
 -- a picture as a page, and any refusal

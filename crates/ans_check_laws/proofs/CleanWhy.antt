@@ -1,6 +1,5 @@
 -- What `why` says of a file is clean.
-use Rattle.std.proofs.Common.{◌≡◌, inl, inr, ℕ, Bool, true, false, refl, subst, List, [], ◌∷◌, ◌++◌, length}
-use Rattle.std.proofs.Common.{codes, Option, Some, None}
+use Rattle.std.proofs.Common.{◌≡◌, inl, inr, ℕ, Bool, refl, subst, List, [], ◌∷◌, ◌++◌, length, Option, Some, None}
 use Rattle.std.specs.Prelude.{IfSome}
 use Rattle.std.proofs.lemmas.Option.{slice_get_within, get_or_from_slice_get}
 use Rattle.std.proofs.lemmas.List.Elements.{All-nil, All-get_or}
@@ -27,18 +26,14 @@ use Rattle.ans_sauce.specs.Parts.{content_of, record_of, size_of}
 use Rattle.ans_sauce.specs.Split.{IsSplit}
 use Rattle.ans_model.specs.Verdict.LastFault.{IsDeserved}
 use Rattle.ans_walks.specs.Evidence.{ShowsNamed}
-use Rattle.ans_why.specs.HintsText.{times_line, hints_text}
-use Rattle.ans_why.specs.HintsText.{colour_hints, foreign_hints, row_hints, wider_line}
-use Rattle.ans_walks.specs.declared.row_ends.WiderRows.{WiderRows}
+use Rattle.ans_why.specs.HintsText.{times_line, hints_text, wider_line}
 use Rattle.ans_walks.specs.declared.hints.Hints.{Hints}
 use Rattle.ans_walks.specs.declared.times.Times.{Times}
 use Rattle.ans_why.specs.Blamed.{AreToBlame}
 use Rattle.ans_why.specs.Explained.{IsShown, IsReliance, IsSaidOfLines, IsTrueOf, Why}
-use Rattle.ans_why.specs.WhyText.{bytes_line, shown_lines, mend_line}
-use Rattle.ans_why.specs.WhyText.{reliance_lines, lines_line, enough_lines}
-use Rattle.ans_why.specs.WhyText.{known_line}
+use Rattle.ans_why.specs.WhyText.{after_end_mark_text, bytes_line, shown_lines, mend_line, reliance_lines, lines_line}
+use Rattle.ans_why.specs.WhyText.{enough_lines, known_line, found_line, why_text}
 use Rattle.ans_model.specs.Text.Words.{answer_text}
-use Rattle.ans_why.specs.WhyText.{found_line, why_text}
 use Rattle.ans_why.specs.declared.known_bytes.Known.{Known}
 use Rattle.ans_why.specs.declared.known_bytes.Known.TheVariants.{Music}
 use Rattle.ans_why.specs.declared.why.Enough.{Enough}
@@ -49,7 +44,8 @@ use Rattle.ans_sauce.specs.declared.judged.Judged.TheVariants.{NoContent, Refuse
 use Rattle.ans_check_laws.specs.CleanTexts.{IsCleanText}
 use Rattle.ans_check_laws.proofs.CleanLines.{clean_lines, parts_are_bytes}
 use Rattle.ans_check_laws.proofs.CleanPlayers.{players_clean}
-use Rattle.ans_check_laws.proofs.CleanPieces.{AreBytes, bytes_left, bytes_right, clean_nil, clean_pieces, plain_text}
+use Rattle.ans_check_laws.proofs.CleanPieces.{clean_bool, clean_option, AreBytes, bytes_left, bytes_right, clean_nil}
+use Rattle.ans_check_laws.proofs.CleanPieces.{clean_pieces, plain_text}
 
 -- ---- bytes of a file
 
@@ -115,10 +111,6 @@ deserved_size z class content fault (inl h) = h.size
 deserved_size z class content fault (inr (inl h)) = h.size
 deserved_size z class content fault (inr (inr h)) = h.size
 
-mend_clean : (mends : Bool) → IsCleanText (mend_line mends)
-mend_clean true = plain_text (mend_line true) refl
-mend_clean false = clean_nil
-
 relied_clean : (P : Type 0) (z : Size) (file_length : ℕ) (content : List ℕ) (r : Option Reliance) → AreBytes content
     → IfSome r (λ r. P × IsReliance z file_length content r) → IsCleanText (reliance_lines r)
 relied_clean P z file_length content None bytes h = clean_nil
@@ -127,7 +119,7 @@ relied_clean P z file_length content (Some r) bytes (p, h) =
     let shown = shown_clean z none_known content r.fault r.shown size h.shown in
     let blamed = bytes_line_clean r.bytes.now (blamed_is_bytes z none_known content r.fault r.bytes.now bytes h.bytes)
     in
-    search (clean_lines, mend_clean) depth 20
+    search (clean_bool mend_line, clean_lines) depth 20
 
 -- ---- hints
 
@@ -136,22 +128,8 @@ times_clean : (what : List ℕ) (times : Option Times) (advice : List ℕ) → I
 times_clean what None advice h g = clean_nil
 times_clean what (Some times) advice h g = search clean_lines depth 20
 
-wider_clean : (rows : Option WiderRows) → IsCleanText (wider_line rows)
-wider_clean None = clean_nil
-wider_clean (Some rows) = search clean_lines depth 20
-
-row_hints_clean : (hints : Hints) → IsCleanText (row_hints hints)
-row_hints_clean hints = search (clean_lines, times_clean, wider_clean) depth 20
-
-foreign_hints_clean : (hints : Hints) → IsCleanText (foreign_hints hints)
-foreign_hints_clean hints = search (clean_lines, times_clean) depth 20
-
-colour_hints_clean : (hints : Hints) → IsCleanText (colour_hints hints)
-colour_hints_clean hints = search (clean_lines, times_clean) depth 20
-
 hints_clean : (hints : Hints) (font : List ℕ) → AreBytes font → IsCleanText (hints_text hints font)
-hints_clean hints font bytes =
-    search (clean_lines, row_hints_clean, foreign_hints_clean, colour_hints_clean) depth 20
+hints_clean hints font bytes = search (times_clean, clean_option wider_line, clean_lines) depth 30 fits 5000
 
 -- ---- what is found
 
@@ -160,15 +138,9 @@ found_clean : (file : List ℕ) (found : Found) (cause : Cause) → AreBytes fil
 found_clean file (found.Version version) cause bytes h =
     let of_file : AreBytes version.now = rw h.1 (search clean_pieces) in
     search clean_lines depth 20
-found_clean file (found.AfterEndMark after true) cause bytes h = search clean_lines depth 20
-found_clean file (found.AfterEndMark after false) cause bytes h = search clean_lines depth 20
-found_clean file found cause bytes h = search clean_lines depth 20
+found_clean file found cause bytes h = search (clean_bool after_end_mark_text, clean_lines) depth 20
 
 -- ---- the text
-
-answer_clean : (answer : Bool) → IsCleanText (answer_text answer)
-answer_clean true = plain_text (codes "yes") refl
-answer_clean false = plain_text (codes "no") refl
 
 lines_clean : (lines : Option ℕ) (torn : Bool) → IsCleanText (lines_line lines torn)
 lines_clean None torn = clean_nil
@@ -179,7 +151,7 @@ known_clean None = clean_nil
 known_clean (Some Music) = plain_text (known_line (Some Music)) refl
 known_clean (Some known) = plain_text (known_line (Some known)) refl
 
-ruleset clean_answers = (clean_lines, answer_clean, hints_clean, known_clean, lines_clean, players_clean)
+ruleset clean_answers = (hints_clean, known_clean, lines_clean, players_clean, clean_lines)
 
 enough_clean : (file : List ℕ) (cause : Cause) (enough : Option Enough) → AreBytes file
     → IsSaidOfLines file cause enough → IsCleanText (enough_lines enough)
@@ -203,4 +175,4 @@ why_clean file (Passes parts pass) bytes (split, h) =
     let sauce = sauce_is_bytes file parts split bytes in
     let relied = relied_clean _ (size_of parts) (length file) (content_of parts) pass.reliance
     (content_is_bytes file parts split bytes) h.relies in
-    search clean_answers depth 20
+    search (clean_bool answer_text, clean_answers) depth 20
