@@ -67,9 +67,9 @@ quoted_bytes_clean bytes h =
     of_each IsCleanText clean_nil clean_append IsByte quoted_byte bytes h.each quoted_byte_clean
 
 -- the lines that several reports have
-pub ruleset clean_line = (fault_line_clean, note_line_clean, parts_clean, heading_clean, quoted_bytes_clean)
+pub ruleset whole_lines = (fault_line_clean, note_line_clean, parts_clean, heading_clean, quoted_bytes_clean)
 
-pub ruleset clean_lines = (clean_line, clean_pieces)
+pub ruleset clean_lines = (whole_lines, clean_pieces)
 
 -- ---- bytes of a file
 

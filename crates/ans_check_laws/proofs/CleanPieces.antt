@@ -266,10 +266,11 @@ clean_shown bytes h = without_controls_clean (shown_bytes bytes) (shown_has_no_c
 
 -- ---- a text by its pieces
 
+-- it is plain, or of two texts, or by a test, or of one text for each
 pub ruleset clean_forms = (plain_text, clean_append, clean_if, clean_flat_map)
 
 pub ruleset clean_values = (clean_decimal, clean_hex_byte, clean_numbers, clean_shown)
 
-pub ruleset bytes_of_bytes = (bytes_take, bytes_drop, bytes_one)
+pub ruleset byte_lists = (bytes_take, bytes_drop, bytes_one)
 
-pub ruleset clean_pieces = (clean_forms, clean_values, bytes_of_bytes)
+pub ruleset clean_pieces = (clean_forms, clean_values, byte_lists)

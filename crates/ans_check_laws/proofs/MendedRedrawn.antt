@@ -1,5 +1,5 @@
 -- A mended file is redrawn.
-use Rattle.std.proofs.Common.{◌≡◌, ℕ, List, ◌++◌}
+use Rattle.std.proofs.Common.{ℕ, List, ◌++◌}
 use Rattle.ans_model.specs.File.Layout.{content}
 use Rattle.ans_model.specs.File.Record.{stated_size}
 use Rattle.ans_model.specs.Screen.StartClass.{all_known, none_known}

@@ -1,7 +1,7 @@
 -- Why a file that passes from the cleared start is not mended by itself.
 use Rattle.std.proofs.Common.{◌≡◌, inl, inr, ℕ, suc, ◌+◌, ◌≤◌, ◌<◌, Bool, true, false, List, [], ◌∷◌, ◌++◌, length}
 use Rattle.std.proofs.Common.{take, drop, refl, sym, ap, ◌∙◌, arith, subst, subst₂, true≢false}
-use Rattle.std.specs.Prelude.{if◌then◌else◌, not, IsTrue}
+use Rattle.std.specs.Prelude.{if◌then◌else◌, IsTrue}
 use Rattle.std.specs.List.{list_all, list_any, position_or_len}
 use Rattle.std.proofs.Math.Seq.{drop-append_seam}
 use Rattle.ans_model.specs.Bytes.{end_mark, longest_file}
