@@ -10,5 +10,4 @@ pub mod TextFront
 pub mod Scanning
 mod WalkSteps
 pub mod Walked
-pub mod Cleared
 pub mod TakenSoFar

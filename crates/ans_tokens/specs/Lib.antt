@@ -9,4 +9,3 @@ pub mod ScannerInside
 pub mod WholeToken
 pub mod Scanning
 pub mod Walk
-pub mod Clearing
