@@ -1,15 +1,16 @@
 #!/usr/bin/env python3
-"""Tries the edits that stand in this folder: each makes a mistake in a definition of `ans_model`, some of them in the
-function that follows that definition too, and the laws have to refuse it.
+"""Tries the edits that stand in this folder: each makes a mistake in a definition of `ans_model` or `ans_players`, some
+of them in the function that follows that definition too, and the laws have to refuse it.
 
 Run it anywhere, with the names of edits or with none for all:
 
     python3 tools/definitions/try_all.py [EDIT..]
 
 An edit is written as those in `must-fail/`, but its files are named from the folder `crates` on. It is tried on a copy
-of `ans_model` and of `ans_laws` without the examples of texts, which are read by the scanner, so that no third crate
-has to be proved again. For each edit the script prints which of the two crates refuses it, and why; or that it does not
-fit, and goes on. It ends with 0 if each edit fits and is refused. It takes a minute or two for each.
+of `ans_model`, of `ans_laws` without the examples of texts, which are read by the scanner, and of `ans_players` and
+`ans_players_laws`, so that no other crate has to be proved again. For each edit the script prints which of these crates
+refuses it, and why; or that it does not fit, and goes on. It ends with 0 if each edit fits and is refused. It takes a
+minute or two for each.
 """
 import os
 import re
@@ -20,8 +21,9 @@ import tempfile
 
 EDITS = os.path.dirname(os.path.abspath(__file__))
 CRATES = os.path.abspath(f"{EDITS}/../../crates")
-TRIED = ["ans_model", "ans_laws"]
-DEPENDENCIES = "ans_model: arrayvec\nans_laws: ans_model\n"
+TRIED = ["ans_model", "ans_laws", "ans_players", "ans_players_laws"]
+DEPENDENCIES = ("ans_model: arrayvec\nans_laws: ans_model\n"
+                "ans_players: ans_model\nans_players_laws: ans_model ans_players\n")
 # the examples of texts, which are read by the scanner
 ABOVE = {
     "src/lib.rt": "pub mod text_examples;",
@@ -44,7 +46,7 @@ def without_what_stands_above(laws):
 
 
 def copy_crates(room):
-    """Makes a repository of the two crates, with what is built of them."""
+    """Makes a repository of these crates, with what is built of them."""
     os.makedirs(room)
     with open(f"{room}/crates.txt", "w", encoding="utf-8") as it:
         it.write(DEPENDENCIES)

@@ -21,7 +21,7 @@ use Rattle.ans_show.specs.Runs.{Run, runs}
 use Rattle.ans_show.specs.TerminalText.{background_parameter, background_text, colours_text, foreground_parameter}
 use Rattle.ans_show.specs.TerminalText.{Triple, foreground_text, line_end, line_text, mixed, parameter, run_text}
 use Rattle.ans_show.specs.TerminalText.{terminal_text, vga_colour}
-use Rattle.ans_show.proofs.SeenRuns.{IsByteRun, runs_bytes}
+use Rattle.ans_picture_laws.proofs.SeenRuns.{IsByteRun, runs_bytes}
 use Rattle.ans_check_laws.specs.CleanTexts.{IsCleanText, IsColouredText, IsColourSequence, is_parameter_byte}
 use Rattle.ans_check_laws.proofs.CleanPieces.{AreBytes, both_true, bytes_one, clean_append, clean_nil, clean_pieces}
 use Rattle.ans_check_laws.proofs.CleanPieces.{clean_shown, decimal_is, of_each, of_rows, plain_text}

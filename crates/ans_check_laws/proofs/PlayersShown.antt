@@ -17,7 +17,7 @@ use Rattle.ans_players.specs.declared.kind.Kind.{Kind}
 use Rattle.ans_players.specs.declared.kind.Kind.TheVariants.{OwnColours}
 use Rattle.ans_players.specs.Kinds.{is_kind}
 use Rattle.ans_players.proofs.NamedKinds.{same_kind}
-use Rattle.ans_players.proofs.Everywhere.{good_is_shown}
+use Rattle.ans_players_laws.proofs.Everywhere.{good_is_shown}
 use Rattle.ans_players.proofs.OneSpelling.{one_spelling}
 use Rattle.ans_walks.specs.SaidOfPlayers.{IsSameWhereCleared}
 use Rattle.ans_mend.specs.declared.outcome.Mended.{Mended}

@@ -6,7 +6,7 @@ use Rattle.ans_model.specs.Screen.StartClass.{all_known}
 use Rattle.ans_model.specs.Verdict.Good.{GoodWith}
 use Rattle.ans_redraw_file.specs.RedrawnFile.{redrawn_file}
 use Rattle.ans_redraw_file.specs.declared.outcome.Redrawn.{Redrawn}
-use Rattle.ans_redraw_file.proofs.RedrawnTwice.{once_is_enough}
+use Rattle.ans_picture_laws.proofs.RedrawnTwice.{once_is_enough}
 use Rattle.ans_redraw_file.specs.declared.outcome.Unredrawn.{Unredrawn}
 use Rattle.ans_check.specs.Redrawing.{IsReasonNot, IsRedrawn}
 use Rattle.ans_check_laws.proofs.OnePicture.{same_apart}

@@ -12,9 +12,9 @@ use Rattle.ans_players.specs.Classes.{IsLeastSame, IsSame}
 use Rattle.ans_players.specs.Players.{Behaviour, IsPlayer, IsShown}
 use Rattle.ans_players.specs.Situations.{spelled}
 use Rattle.ans_players.specs.declared.kind.Kind.{Kind}
-use Rattle.ans_redraw.specs.Drawable.{BytesAreAgreed}
+use Rattle.ans_picture_laws.specs.Drawable.{BytesAreAgreed}
 use Rattle.ans_redraw_file.specs.declared.outcome.Redrawn.{Redrawn}
-use Rattle.ans_redraw_file.proofs.RedrawnContents.{only_its_bytes_part}
+use Rattle.ans_picture_laws.proofs.RedrawnContents.{only_its_bytes_part}
 use Rattle.ans_walks.specs.SaidOfPlayers.{IsSaidOfPlayers}
 use Rattle.ans_walks.specs.declared.players.Players.TheVariants.{Any}
 use Rattle.ans_check.specs.FileVerdict.{Passes}

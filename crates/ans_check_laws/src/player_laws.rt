@@ -17,7 +17,7 @@ ghost use Rattle.ans_walks.specs.declared.times.Times.{Times};
 ghost use Rattle.ans_players.specs.declared.kind.Kind.TheVariants.{OwnColours};
 ghost use Rattle.ans_mend.specs.declared.outcome.Mended.{Mended};
 ghost use Rattle.ans_options.specs.declared.command.Mends.{Mends};
-ghost use Rattle.ans_redraw.specs.Drawable.{BytesAreAgreed};
+ghost use Rattle.ans_picture_laws.specs.Drawable.{BytesAreAgreed};
 ghost use Rattle.ans_redraw_file.specs.declared.outcome.Redrawn.{Redrawn};
 ghost use Rattle.ans_check.specs.FileVerdict.{Passes};
 ghost use Rattle.ans_check.specs.Mending.{IsMended};

@@ -11,7 +11,7 @@ ghost use Rattle.ans_model.specs.declared.start.Start.{Start};
 ghost use Rattle.ans_mend.specs.Contents.{content_in};
 ghost use Rattle.ans_mend.specs.declared.outcome.Mended.{Mended};
 ghost use Rattle.ans_options.specs.declared.command.Mends.{Mends};
-ghost use Rattle.ans_redraw_file.specs.Laws.{stays};
+ghost use Rattle.ans_picture_laws.specs.RedrawnFileLaws.{stays};
 ghost use Rattle.ans_redraw_file.specs.RedrawnFile.{IsTooLong};
 ghost use Rattle.ans_redraw_file.specs.declared.outcome.Redrawn.{Redrawn};
 ghost use Rattle.ans_redraw_file.specs.declared.outcome.Unredrawn.{Unredrawn};

@@ -9,7 +9,7 @@ use Rattle.ans_players.specs.declared.kind.Kind.{Kind}
 use Rattle.ans_players.specs.Mends.{mending_spelled}
 use Rattle.ans_players.specs.Players.{Behaviour, IsPlayer, IsShown}
 use Rattle.ans_players.specs.Situations.{AreAgreed, Spelled, spelled}
-use Rattle.ans_players.proofs.Everywhere.{good_is_shown}
+use Rattle.ans_players_laws.proofs.Everywhere.{good_is_shown}
 use Rattle.ans_players.proofs.OneSpelling.{one_spelling}
 use Rattle.ans_walks.specs.Mend.{mending, mending_tokens}
 use Rattle.ans_walks.proofs.KindsFound.{spelled_behind}

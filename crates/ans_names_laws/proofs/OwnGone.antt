@@ -17,11 +17,12 @@ use Rattle.ans_players.specs.declared.kind.Kind.TheVariants.{OwnColours}
 use Rattle.ans_players.specs.Grips.{Grip, Firm, Wrapped, BehindFeed, BehindReturn, Adrift, Stand, firmly, grip_after}
 use Rattle.ans_players.specs.Grips.{grip_behind, is_held, loose_kinds}
 use Rattle.ans_players.specs.Kinds.{is_kind}
-use Rattle.ans_players.specs.Mends.{mending_spelled, or_own}
+use Rattle.ans_players.specs.Mends.{mending_spelled}
+use Rattle.ans_players_laws.specs.Laws.{or_own}
 use Rattle.ans_players.specs.Names.{unnamed}
 use Rattle.ans_players.specs.Situations.{AreAgreed, Spelled, is_agreed, kind_if, name_kinds, spelled, spelling_kinds}
 use Rattle.ans_players.specs.Situations.{stand_behind, token_kinds}
-use Rattle.ans_players.proofs.MendedPlayers.{mended_is_agreed}
+use Rattle.ans_players_laws.proofs.MendedPlayers.{mended_is_agreed}
 use Rattle.ans_players.proofs.OneOfTwo.{grip_kinds, parts_agreed, from_parts}
 use Rattle.ans_names_laws.specs.NamedTokens.{named_tokens}
 use Rattle.ans_names_laws.specs.NameLaws.{NoKindIsAdded, OwnNeedNotBeAgreed}

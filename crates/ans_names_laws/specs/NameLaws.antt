@@ -6,7 +6,8 @@ use Rattle.ans_model.specs.Screen.State.{Size, State}
 use Rattle.ans_model.specs.Screen.StartClass.{all_known, none_known}
 use Rattle.ans_model.specs.declared.start.Start.{Start}
 use Rattle.ans_model.specs.Verdict.Good.{Picture, GoodWith}
-use Rattle.ans_players.specs.Mends.{mending_spelled, or_own}
+use Rattle.ans_players.specs.Mends.{mending_spelled}
+use Rattle.ans_players_laws.specs.Laws.{or_own}
 use Rattle.ans_players.specs.declared.kind.Kind.{Kind}
 use Rattle.ans_players.specs.Players.{Behaviour, IsShown}
 use Rattle.ans_players.specs.Situations.{AreAgreed, Spelled, name_kinds, spelled, stand_of}

@@ -1,5 +1,5 @@
--- Content in which no kinds but agreed ones arise is the same on every player for one least class of starts.
-use Rattle.std.proofs.Common.{◌≡◌, ◌⊎◌, inl, inr, refl, ap, ◌∙◌, sym, subst, ℕ, ◌<◌, Bool, true, false, List}
+-- The least class of starts for which content is the same on every player is found part by part.
+use Rattle.std.proofs.Common.{◌≡◌, inl, refl, ap, ◌∙◌, sym, subst, ℕ, ◌<◌, Bool, true, false, List}
 use Rattle.std.proofs.lemmas.Bool.{and_parts, and_from}
 use Rattle.std.specs.Prelude.{◌↔◌, IsTrue}
 use Rattle.ans_model.specs.Sequence.TokenKind.{TokenKind}
@@ -8,36 +8,19 @@ use Rattle.ans_model.specs.Screen.StartClass.{Covers, all_known, both_known, cle
 use Rattle.ans_model.specs.Screen.StartClass.{all_but_cursor, all_but_saved, all_but_colours, all_but_wrap}
 use Rattle.ans_model.specs.declared.start.Start.{Start}
 use Rattle.ans_model.specs.Verdict.Good.{GoodWith, IsGood, PlaysWell}
-use Rattle.ans_model.proofs.ClassLemmas.{covers_itself, covers_starts, covers_all_known, covers_good}
+use Rattle.ans_model.proofs.ClassLemmas.{covers_starts, covers_all_known, covers_good}
 use Rattle.ans_model.proofs.ClassLemmas.{covers_all_but_screen, covers_all_but_cursor, covers_all_but_saved}
 use Rattle.ans_model.proofs.ClassLemmas.{covers_all_but_colours, covers_all_but_wrap}
 use Rattle.ans_model.proofs.StartLemmas.{low_is_start}
 use Rattle.ans_players.specs.declared.kind.Kind.{Kind}
 use Rattle.ans_players.specs.Situations.{Spelled, AreAgreed, spelled}
 use Rattle.ans_players.specs.Classes.{IsSame, IsLeastSame, IsCalm, IsFoundBySame}
-use Rattle.ans_players.specs.Classes.{LeastSameExists, LeastSameIsOne, LeastSameIsFound}
-use Rattle.ans_players.proofs.Everywhere.{kinds_of, kinds_of_spelled}
+use Rattle.ans_players.specs.Classes.{LeastSameIsFound}
+use Rattle.ans_players.proofs.Along.{kinds_of, kinds_of_spelled}
 use Rattle.ans_players.proofs.Meets.{agreed_meet, agreed_of_two, firm_place}
 use Rattle.ans_players.proofs.OneSpelling.{one_spelling}
-use Rattle.ans_players.proofs.Search.{agreed_or_not}
 
 -- ---- classes
--- truths that say the same are the same
-same_truth : (p q : Bool) → (IsTrue p → IsTrue q) → (IsTrue q → IsTrue p) → p ≡ q
-same_truth true q there back = sym (there refl)
-same_truth false true there back = back refl
-same_truth false false there back = refl
-
--- classes that cover each other are the same
-covers_both_ways : (a b : Start) → Covers a b → Covers b a → a ≡ b
-covers_both_ways a b there back = λ i. record {
-  screen = same_truth a.screen b.screen there.screen back.screen i;
-  cursor = same_truth a.cursor b.cursor there.cursor back.cursor i;
-  saved = same_truth a.saved b.saved there.saved back.saved i;
-  colours = same_truth a.colours b.colours there.colours back.colours i;
-  wrap = same_truth a.wrap b.wrap there.wrap back.wrap i;
-}
-
 -- a class that both cover is covered by what both know
 both_covered : (a b c : Start) → Covers c a → Covers c b → Covers c (both_known a b)
 both_covered a b c of_a of_b = record {
@@ -47,13 +30,6 @@ both_covered a b c of_a of_b = record {
   colours = λ k. and_from _ _ (of_a.colours k) (of_b.colours k);
   wrap = λ k. and_from _ _ (of_a.wrap k) (of_b.wrap k);
 }
-
--- ---- the only one
-pub least_same_is_one : LeastSameIsOne
-least_same_is_one agreed z content a b least_a least_b =
-    covers_both_ways a b
-    ((least_a b).0 ((least_b b).1 (covers_itself b)))
-    ((least_b a).0 ((least_a a).1 (covers_itself a)))
 
 -- ---- content of which this is so
 -- what is the same for a class is so for each class that it covers
@@ -123,15 +99,6 @@ module _ (agreed : Kind → Bool) (z : Size) (content : List ℕ) (needs : Start
         names = refl;
       }) k x e there there)
 
-  -- it is the same for a class, or not
-  same_or_not : (class : Start) → IsGood z class content ⊎ ¬ IsGood z class content
-      → IsSame agreed z class content ⊎ ¬ IsSame agreed z class content
-  same_or_not class (inr not_good) = inr (λ same. not_good same.0)
-  same_or_not class (inl good) = elim (agreed_or_not agreed z class xs some_columns (plays_of class good)) [
-    | inl each ↦ inl (same_is class good each)
-    | inr not_each ↦ inr (λ same. not_each (agreed_is class same))
-  ]
-
   -- ---- part by part
   needed_part : (others : Start) (needed known : Bool) → (needed ≡ false) ↔ IsSame agreed z others content
       → (known ≡ false → IsSame agreed z others content) → IsTrue needed → IsTrue known
@@ -192,43 +159,3 @@ module _ (agreed : Kind → Bool) (z : Size) (content : List ℕ) (needs : Start
 
 pub least_same_is_found : LeastSameIsFound
 least_same_is_found agreed z content needs class calm found = least_by_parts agreed z content needs calm class found
-
--- ---- and there is one
--- what holds or not is told by a truth
-truth_of : {P : Type 0} → P ⊎ ¬ P → (needed : Bool) × ((needed ≡ false) ↔ P)
-truth_of (inl holds) = (false, (λ e. holds, λ p. refl))
-truth_of (inr not_so) = (true, (λ e. absurd (let none : ⊥ = cc in none), λ p. absurd (not_so p)))
-
--- content is good for the class of all parts but one, or not, as its least class has it
-good_or_not : {P : Type 0} (needed : Bool) → (needed ≡ false → P) → (P → needed ≡ false) → P ⊎ ¬ P
-good_or_not true there back = inr (λ p. let no : true ≡ false = back p in let none : ⊥ = cc in none)
-good_or_not false there back = inl (there refl)
-
-pub least_same_exists : LeastSameExists
-least_same_exists agreed z content needs calm =
-    let part : (c : Start) → IsGood z c content ⊎ ¬ IsGood z c content
-    → (needed : Bool) × ((needed ≡ false) ↔ IsSame agreed z c content) =
-    λ c known. truth_of (same_or_not agreed z content needs calm c known) in
-    let good : (c : Start) (needed : Bool) → (Covers needs c ↔ (needed ≡ false))
-    → IsGood z c content ⊎ ¬ IsGood z c content =
-    λ c needed covers. good_or_not needed (λ e. (calm.least c).1 (covers.1 e)) (λ g. covers.0 ((calm.least c).0 g)) in
-    let cursor = part all_but_cursor (good all_but_cursor needs.cursor (covers_all_but_cursor needs)) in
-    let saved = part all_but_saved (good all_but_saved needs.saved (covers_all_but_saved needs)) in
-    let colours = part all_but_colours (good all_but_colours needs.colours (covers_all_but_colours needs)) in
-    let wrap = part all_but_wrap (good all_but_wrap needs.wrap (covers_all_but_wrap needs)) in
-    let class : Start = record {
-      screen = needs.screen;
-      cursor = cursor.0;
-      saved = saved.0;
-      colours = colours.0;
-      wrap = wrap.0;
-    } in (
-      class,
-      least_same_is_found agreed z content needs class calm (record {
-        screen = refl;
-        cursor = cursor.1;
-        saved = saved.1;
-        colours = colours.1;
-        wrap = wrap.1;
-      }),
-    )

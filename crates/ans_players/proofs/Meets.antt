@@ -21,7 +21,7 @@ use Rattle.ans_players.specs.Grips.{Firm, firmly}
 use Rattle.ans_players.specs.Situations.{Spelled, is_agreed, stand_of}
 use Rattle.ans_players.specs.Players.{StaysAbove}
 use Rattle.ans_players.specs.Classes.{AgreedMeet}
-use Rattle.ans_players.proofs.Everywhere.{above_at, kinds_of, kind_at, state_is}
+use Rattle.ans_players.proofs.Along.{above_at, kinds_of, kind_at, state_is}
 use Rattle.ans_players.proofs.OneOfTwo.{IsOneOf, IsBeside, PrintsAtOne, GoTogether, beside_along, agreed_beside}
 use Rattle.ans_players.proofs.OneOfTwo.{Footing}
 

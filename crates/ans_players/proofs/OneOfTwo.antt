@@ -140,13 +140,6 @@ module _ (z : Size) where
     pub spelling : IsTrue (list_all agreed (spelling_kinds h.state x.token x.text))
     pub named : IsTrue (list_all agreed (name_kinds h.names x.token))
 
-  -- the kinds of the token itself are agreed
-  pub own_agreed : (agreed : Kind → Bool) (h : Stand) (x : Spelled) → IsTrue (is_agreed agreed z h x)
-      → IsTrue (list_all agreed (own_kinds z h.state x))
-  own_agreed agreed h x agrees = (and_parts _ _ (sym (list_all-append agreed (own_kinds z h.state x)
-      (name_kinds h.names x.token)) ∙ (and_parts _ _ (sym (list_all-append agreed (grip_kinds h.grip x.token)
-      (own_kinds z h.state x ++ name_kinds h.names x.token)) ∙ agrees)).1)).0
-
   pub parts_agreed : (agreed : Kind → Bool) (h : Stand) (x : Spelled) → IsTrue (is_agreed agreed z h x)
       → PartsAgreed agreed h x
   parts_agreed agreed h x agrees =

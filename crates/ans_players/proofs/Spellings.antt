@@ -1,5 +1,5 @@
 -- How bytes and sequences spell tokens.
-use Rattle.std.proofs.Common.{◌≡◌, ◌≢◌, inl, inr, ℕ, ◌<◌, ◌≤◌, true, false, List, [], ◌∷◌, ◌++◌, length, codes, refl}
+use Rattle.std.proofs.Common.{◌≡◌, ◌≢◌, inl, inr, ℕ, ◌<◌, ◌≤◌, true, List, [], ◌∷◌, ◌++◌, length, codes, refl}
 use Rattle.std.proofs.Common.{Ok, arith}
 use Rattle.std.specs.Prelude.{IsTrue}
 use Rattle.std.specs.List.{AllZip, AllByRecursion, join_with_byte}
@@ -7,8 +7,8 @@ use Rattle.std.specs.Char.{is_ascii_alphabetic}
 use Rattle.ans_model.specs.Bytes.{escape, bracket, semicolon, most_parameters}
 use Rattle.ans_model.specs.declared.mark.Mark.{Mark}
 use Rattle.ans_model.specs.declared.mark.Mark.TheVariants.{Unmarked, Question}
-use Rattle.ans_model.specs.Sequence.TokenKind.{TokenKind, Up, Down, Forward, Place, Clear, EraseLine, Save}
-use Rattle.ans_model.specs.Sequence.TokenKind.{Restore, Colours, Wrap}
+use Rattle.ans_model.specs.Sequence.TokenKind.{TokenKind, Up, Forward, Place, Clear, Save}
+use Rattle.ans_model.specs.Sequence.TokenKind.{Colours, Wrap}
 use Rattle.ans_model.specs.Sequence.Spelling.{Member, Number, Omitted, Raw, SpellsMember, IsInLimit, mark_bytes}
 use Rattle.ans_model.specs.Sequence.Meaning.{meaning}
 use Rattle.ans_model.specs.Sequence.Reads.{SpellsToken, kind_of_byte}
@@ -44,11 +44,6 @@ wrap_on =
     of_sequence (raw_of Question (Number 7 ∷ []) 0x68) (codes "7" ∷ []) ((omega arith, refl, refl), tt) (λ e. cc) refl
     (omega arith, tt) (omega arith) (Wrap true) refl
 
-pub wrap_off : SpellsToken (Wrap false) (escape ∷ codes "[?7l")
-wrap_off =
-    of_sequence (raw_of Question (Number 7 ∷ []) 0x6C) (codes "7" ∷ []) ((omega arith, refl, refl), tt) (λ e. cc) refl
-    (omega arith, tt) (omega arith) (Wrap false) refl
-
 pub reset_to_names : SpellsToken (Colours (0 ∷ 37 ∷ 40 ∷ [])) (escape ∷ codes "[0;37;40m")
 reset_to_names =
     of_sequence (raw_of Unmarked (Number 0 ∷ Number 37 ∷ Number 40 ∷ []) 0x6D)
@@ -56,45 +51,10 @@ reset_to_names =
     ((omega arith, refl, refl), ((omega arith, refl, refl), ((omega arith, refl, refl), tt))) (λ e. cc) refl
     (omega arith, (omega arith, (omega arith, tt))) (omega arith) (Colours (0 ∷ 37 ∷ 40 ∷ [])) refl
 
-pub named_colours : SpellsToken (Colours (37 ∷ 40 ∷ [])) (escape ∷ codes "[37;40m")
-named_colours =
-    of_sequence (raw_of Unmarked (Number 37 ∷ Number 40 ∷ []) 0x6D) (codes "37" ∷ codes "40" ∷ [])
-    ((omega arith, refl, refl), ((omega arith, refl, refl), tt)) (λ e. cc) refl
-    (omega arith, (omega arith, tt)) (omega arith) (Colours (37 ∷ 40 ∷ [])) refl
-
-pub bright : SpellsToken (Colours (1 ∷ [])) (escape ∷ codes "[1m")
-bright =
-    of_sequence (raw_of Unmarked (Number 1 ∷ []) 0x6D) (codes "1" ∷ []) ((omega arith, refl, refl), tt) (λ e. cc) refl
-    (omega arith, tt) (omega arith) (Colours (1 ∷ [])) refl
-
-pub on_red : SpellsToken (Colours (41 ∷ [])) (escape ∷ codes "[41m")
-on_red =
-    of_sequence (raw_of Unmarked (Number 41 ∷ []) 0x6D) (codes "41" ∷ []) ((omega arith, refl, refl), tt) (λ e. cc) refl
-    (omega arith, tt) (omega arith) (Colours (41 ∷ [])) refl
-
-pub underlined : SpellsToken (Colours (4 ∷ [])) (escape ∷ codes "[4m")
-underlined =
-    of_sequence (raw_of Unmarked (Number 4 ∷ []) 0x6D) (codes "4" ∷ []) ((omega arith, refl, refl), tt) (λ e. cc) refl
-    (omega arith, tt) (omega arith) (Colours (4 ∷ [])) refl
-
 pub clear : SpellsToken Clear (escape ∷ codes "[2J")
 clear =
     of_sequence (raw_of Unmarked (Number 2 ∷ []) 0x4A) (codes "2" ∷ []) ((omega arith, refl, refl), tt) (λ e. cc) refl
     (omega arith, tt) (omega arith) Clear refl
-
-pub seven_right : SpellsToken (Forward 7) (escape ∷ codes "[7C")
-seven_right =
-    of_sequence (raw_of Unmarked (Number 7 ∷ []) 0x43) (codes "7" ∷ []) ((omega arith, refl, refl), tt) (λ e. cc) refl
-    (omega arith, tt) (omega arith) (Forward 7) refl
-
-pub two_down : SpellsToken (Down 2) (escape ∷ codes "[2B")
-two_down =
-    of_sequence (raw_of Unmarked (Number 2 ∷ []) 0x42) (codes "2" ∷ []) ((omega arith, refl, refl), tt) (λ e. cc) refl
-    (omega arith, tt) (omega arith) (Down 2) refl
-
--- a sequence without numbers
-pub no_number : SpellsToken (Colours (0 ∷ [])) (escape ∷ codes "[m")
-no_number = of_sequence (raw_of Unmarked [] 0x6D) [] tt (λ e. cc) refl tt (omega arith) (Colours (0 ∷ [])) refl
 
 pub one_up : SpellsToken (Up 1) (escape ∷ codes "[A")
 one_up = of_sequence (raw_of Unmarked [] 0x41) [] tt (λ e. cc) refl tt (omega arith) (Up 1) refl
@@ -105,11 +65,5 @@ one_right = of_sequence (raw_of Unmarked [] 0x43) [] tt (λ e. cc) refl tt (omeg
 pub home : SpellsToken (Place 1 1) (escape ∷ codes "[H")
 home = of_sequence (raw_of Unmarked [] 0x48) [] tt (λ e. cc) refl tt (omega arith) (Place 1 1) refl
 
-pub line_erased : SpellsToken EraseLine (escape ∷ codes "[K")
-line_erased = of_sequence (raw_of Unmarked [] 0x4B) [] tt (λ e. cc) refl tt (omega arith) EraseLine refl
-
 pub save : SpellsToken Save (escape ∷ codes "[s")
 save = of_sequence (raw_of Unmarked [] 0x73) [] tt (λ e. cc) refl tt (omega arith) Save refl
-
-pub restore : SpellsToken Restore (escape ∷ codes "[u")
-restore = of_sequence (raw_of Unmarked [] 0x75) [] tt (λ e. cc) refl tt (omega arith) Restore refl

@@ -18,7 +18,7 @@ use Rattle.ans_players.specs.Grips.{Stand, firmly}
 use Rattle.ans_players.specs.Players.{StaysAbove}
 use Rattle.ans_players.specs.Situations.{Spelled, AreAgreed, spelled, stand_behind, stand_of}
 use Rattle.ans_players.proofs.Afters.{parts_after}
-use Rattle.ans_players.proofs.Everywhere.{above_at, kinds_of, kind_at}
+use Rattle.ans_players.proofs.Along.{above_at, kinds_of, kind_at}
 use Rattle.ans_players.proofs.LeastSame.{agreed_is, plays_of, same_is}
 use Rattle.ans_players.proofs.Meets.{agreed_of_two, firm_place, prints_at_one}
 use Rattle.ans_players.proofs.Under.{HasBitsBelow, IsBelow, IsPrintedAtOne, IsUnder, agreed_under, token_bits}

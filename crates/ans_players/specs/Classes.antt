@@ -39,17 +39,7 @@ pub record IsCalm (agreed : Kind → Bool) (z : Size) (content : List ℕ) (need
   pub same : IsSame agreed z all_known content
   pub least : IsLeast z content needs
 
--- Such content is the same for one least class.
-abbrev pub LeastSameExists : Type 0
-LeastSameExists = (agreed : Kind → Bool) (z : Size) (content : List ℕ) (needs : Start) → IsCalm agreed z content needs
-    → (class : Start) × IsLeastSame agreed z content class
-
--- A content has one such class at most.
-abbrev pub LeastSameIsOne : Type 0
-LeastSameIsOne = (agreed : Kind → Bool) (z : Size) (content : List ℕ) (a b : Start)
-    → IsLeastSame agreed z content a → IsLeastSame agreed z content b → a ≡ b
-
--- It is found part by part.
+-- The least class for which such content is the same is found part by part.
 abbrev pub LeastSameIsFound : Type 0
 LeastSameIsFound = (agreed : Kind → Bool) (z : Size) (content : List ℕ) (needs class : Start)
     → IsCalm agreed z content needs → IsFoundBySame agreed z content needs class → IsLeastSame agreed z content class

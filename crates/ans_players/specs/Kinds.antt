@@ -1,5 +1,5 @@
 -- The kinds in which players part: their order and their words.
-use Rattle.std.specs.Prelude.{ℕ, Bool, ◌==◌, List, [], ◌∷◌, codes}
+use Rattle.std.specs.Prelude.{ℕ, Bool, ◌==◌, not, List, [], ◌∷◌, codes}
 use Rattle.ans_players.specs.declared.kind.Kind.{Kind}
 use Rattle.ans_players.specs.declared.kind.Kind.TheVariants.{WrapAtOnce, LineEnds, HomeOnClear, ClearInColour}
 use Rattle.ans_players.specs.declared.kind.Kind.TheVariants.{SavePlaceOnly, DosColours, TabPrints, LineErased, WrapOff}
@@ -30,6 +30,10 @@ kind_number OwnColours = 12
 -- two kinds are one
 abbrev pub is_kind : Kind → Kind → Bool
 is_kind kind other = kind_number kind == kind_number other
+
+-- each kind but this one
+abbrev pub all_but : Kind → Kind → Bool
+all_but kind other = not (is_kind kind other)
 
 -- the word that names a kind
 abbrev pub kind_word : Kind → List ℕ

@@ -7,7 +7,3 @@ pub mod Players
 pub mod Named
 pub mod Classes
 pub mod Mends
-pub mod OwnKind
-pub mod Witnesses
-pub mod WitnessesByToken
-pub mod Examples

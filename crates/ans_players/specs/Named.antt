@@ -42,12 +42,6 @@ pub record IsNamed (z : Size) (content : List ℕ) (kind : Kind) (count offset :
   pub count_is : times_cleared kind z (spelled good.1.tokens good.1.reads.0) ≡ count
   pub first : 0 < count → ArisesFirst kind z (spelled good.1.tokens good.1.reads.0) offset
 
--- It is said in one way.
-abbrev pub NamedOneWay : Type 0
-NamedOneWay = (z : Size) (content : List ℕ) (kind : Kind) (count offset other_count other_offset : ℕ)
-    → IsNamed z content kind count offset → IsNamed z content kind other_count other_offset
-    → (count ≡ other_count) × (0 < count → offset ≡ other_offset)
-
 -- The named kinds are the least that can be agreed: from the cleared start no kinds but agreed ones arise exactly where
 -- each kind that arises is agreed.
 abbrev pub NamedAreLeast : Type 0

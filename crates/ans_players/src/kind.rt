@@ -1,7 +1,9 @@
 //! In what players part.
 
-ghost use Rattle.std.specs.Prelude.{◌≡◌};
-ghost use Rattle.ans_players.specs.Kinds.{kind_number, kind_word};
+ghost use Rattle.std.specs.Prelude.{◌≡◌, Some, slice_get};
+ghost use Rattle.ans_players.specs.declared.kind.Kind.{Kind};
+ghost use Rattle.ans_players.specs.declared.kind.TheConstants.Kind as kind_constants;
+ghost use Rattle.ans_players.specs.Kinds.{all_kinds, kind_number, kind_word};
 
 /// A kind of behaviour in which players part: what the profile does, and what some players do otherwise.
 #[derive(Debug, Clone, Copy, PartialEq, Eq)]
@@ -42,7 +44,7 @@ pub enum Kind {
 }
 
 impl Kind {
-    /// The kinds in their order, each once (`laws::kinds_are_listed`).
+    /// The kinds in their order, each once (`kinds_are_listed`).
     pub const ALL: [Kind; 13] = [
         Kind::WrapAtOnce,
         Kind::LineEnds,
@@ -101,3 +103,9 @@ impl Kind {
         }
     }
 }
+
+/// `Kind::ALL` has the kinds of the definitions in their order, and each kind stands at its number there.
+pub fn kinds_are_listed()
+    ensures list { kind_constants.ALL ≡ all_kinds }
+    ensures each { (kind : Kind) → slice_get kind_constants.ALL (kind_number kind) ≡ Some kind }
+{}

@@ -21,14 +21,9 @@
 //!
 //! `specs/Situations.antt` says at which tokens which kinds arise, `specs/Grips.antt` how firmly the players
 //! are where the profile is, `specs/Names.antt` which colours are named, and `specs/Players.antt` what a
-//! player is. `specs/Named.antt` and `specs/Classes.antt` say what is said of a drawing. Each law is the
-//! contract of a function without a body: in [`laws`] those of all players, in [`witnesses`] players that
-//! part in one kind alone, one or more for each but own colours, and in [`examples`] the kinds of short
-//! contents.
+//! player is. `specs/Named.antt` and `specs/Classes.antt` say what is said of a drawing. `proofs` has what the
+//! crates above rest on; the laws and examples stand in `ans_players_laws`.
 #![tactic(auto)]
 
-pub mod examples;
 pub mod kind;
-pub mod laws;
 pub mod player;
-pub mod witnesses;

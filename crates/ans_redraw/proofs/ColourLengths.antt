@@ -2,30 +2,20 @@
 use Rattle.std.proofs.Common.{◌≡◌, inl, inr, ℕ, ◌+◌, ◌<◌, ◌≤◌, Bool, true, false, not}
 use Rattle.std.proofs.Common.{◌&&◌, ◌==◌, refl, ◌∙◌, arith, List, [], ◌∷◌, ◌++◌, length, length-append}
 use Rattle.std.proofs.Common.{map}
-use Rattle.std.specs.Prelude.{All, decimal, ◌||◌, if◌then◌else◌}
+use Rattle.std.specs.Prelude.{decimal, ◌||◌, if◌then◌else◌}
 use Rattle.std.specs.Fmt.{digits}
 use Rattle.std.specs.List.{concat, join_with_byte}
 use Rattle.std.proofs.lemmas.Bool.{agree_below_at, eqb-true, and_cases}
-use Rattle.std.proofs.lemmas.List.Elements.{All-cons, All-nil}
 use Rattle.ans_model.specs.Bytes.{semicolon}
 use Rattle.ans_players.specs.Situations.{Spelled}
 use Rattle.ans_redraw.specs.Colours.{foreground, is_bright, background, blinks, colour_number, number_if, changes}
 use Rattle.ans_redraw.specs.Colours.{stays, anew, numbers_to, colours_text, colours, colours_to}
-use Rattle.ans_redraw.specs.Laws.{ColoursAreShort}
 use Rattle.ans_redraw.proofs.ColourParts.{foreground_lt, background_lt, bright_number, blink_number}
 use Rattle.ans_redraw.proofs.ColourParts.{front_number, back_number}
 
 -- how many bytes they are
 abbrev pub bytes_of : List Spelled → ℕ
 bytes_of xs = length (concat (map (λ x. x.text) xs))
-
-bytes_both : (xs ys : List Spelled) → bytes_of (xs ++ ys) ≡ bytes_of xs + bytes_of ys
-bytes_both [] ys = omega arith
-bytes_both (x ∷ xs) ys =
-    let a = length-append x.text (concat (map (λ (v : Spelled). v.text) (xs ++ ys))) in
-    let b = length-append x.text (concat (map (λ (v : Spelled). v.text) xs)) in
-    let c = bytes_both xs ys in
-    omega (arith, a, b, c)
 
 -- ---- numbers
 -- the digits of each, and what ends it
@@ -133,7 +123,7 @@ gone_light from to h =
           omega (arith, anew_weight to, one, two, one_digit)
     ]
 
-numbers_length : (from to : ℕ) → length (colours_text (numbers_to from to)) ≤ 12
+pub numbers_length : (from to : ℕ) → length (colours_text (numbers_to from to)) ≤ 12
 numbers_length from to = by_test (stays from to) refl
   where
     by_test : (a : Bool) → stays from to ≡ a
@@ -150,12 +140,3 @@ colours_to_length from to = by_test (from == to)
     by_test : (t : Bool) → bytes_of (if t then [] else colours (numbers_to from to) ∷ []) ≤ 12
     by_test true = omega arith
     by_test false = omega (arith, one_text (colours (numbers_to from to)), numbers_length from to)
-
-pub colours_are_short : ColoursAreShort
-colours_are_short from to = by_test (from == to)
-  where
-    by_test : (t : Bool) → All (λ x. length x.text ≤ 12) (if t then [] else colours (numbers_to from to) ∷ [])
-    by_test true = All-nil (λ x. length x.text ≤ 12)
-    by_test false =
-        All-cons (λ x. length x.text ≤ 12) (colours (numbers_to from to)) [] (numbers_length from to)
-        (All-nil (λ x. length x.text ≤ 12))

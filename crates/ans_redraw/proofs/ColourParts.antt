@@ -219,3 +219,8 @@ numbers_lead from to h g = by_test (stays from to) refl
         → attribute_after_all from (if a then changes from to else anew to) ≡ to
     by_test true e = changes_lead from to h g e
     by_test false e = anew_leads from to g
+
+-- there is a number, where the attributes are two
+pub some_number : (from to : ℕ) → IsByte from → IsByte to → (from ≡ to → ⊥) → numbers_to from to ≡ [] → ⊥
+some_number from to h g apart none =
+    apart (sym (ap (λ (ns : List ℕ). attribute_after_all from ns) none) ∙ numbers_lead from to h g)

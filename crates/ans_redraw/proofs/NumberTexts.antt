@@ -17,7 +17,7 @@ use Rattle.ans_redraw.specs.Colours.{foreground, is_bright, background, blinks, 
 use Rattle.ans_redraw.specs.Colours.{anew, numbers_to, colours_text, colours, colours_to}
 use Rattle.ans_redraw.specs.Form.{texts}
 use Rattle.ans_redraw.specs.Numbers.{listed}
-use Rattle.ans_redraw.proofs.ColourLaws.{some_number}
+use Rattle.ans_redraw.proofs.ColourParts.{some_number}
 
 -- ---- digits
 pub one_digit : (n : ℕ) → n < 10 → decimal n ≡ (0x30 + n) ∷ []

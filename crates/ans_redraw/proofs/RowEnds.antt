@@ -1,5 +1,5 @@
 -- The texts of what stands before and after a row, as they are given.
-use Rattle.std.proofs.Common.{◌≡◌, ℕ, ◌+◌, ◌-◌, ◌/◌, ◌%◌, ◌<◌, ◌≤◌, Bool, true, false, refl, ap, sym, ◌∙◌, arith}
+use Rattle.std.proofs.Common.{◌≡◌, ℕ, ◌+◌, ◌-◌, ◌/◌, ◌%◌, ◌<◌, Bool, true, false, refl, ap, sym, ◌∙◌, arith}
 use Rattle.std.proofs.Common.{List, [], ◌∷◌, ◌++◌, codes, replicate, append-nil}
 use Rattle.std.specs.Prelude.{decimal, nat_le}
 use Rattle.std.specs.Fmt.{digits}
@@ -15,10 +15,6 @@ pub before_opened : (opens : Bool) (a : ℕ) → opens ≡ true
 before_opened true a e = sym (texts_both (black a) down_and_up)
 before_opened false a e = absurd (let no : ⊥ = cc in no)
 
-pub before_closed : (opens : Bool) (a : ℕ) → opens ≡ false → [] ≡ texts (before_row opens a)
-before_closed false a e = refl
-before_closed true a e = absurd (let no : ⊥ = cc in no)
-
 -- down
 pub most_down : (down 255).text ≡ escape ∷ codes "[255B"
 unfolding digits
@@ -32,18 +28,7 @@ downward_more n m is some =
     (sym (append-nil (escape ∷ bracket ∷ (decimal m ++ 0x42 ∷ []))))
     ∙ sym (texts_both (replicate (n / 255) (down 255)) (down m ∷ [])) ∙ ap texts (sym more)
 
-pub downward_whole : (n : ℕ) → n % 255 ≡ 0 → texts (replicate (n / 255) (down 255)) ≡ texts (downward n)
-downward_whole n none =
-    let whole : downward n ≡ replicate (n / 255) (down 255) ++ [] = rw none refl in
-    sym (append-nil (texts (replicate (n / 255) (down 255))))
-    ∙ sym (texts_both (replicate (n / 255) (down 255)) []) ∙ ap texts (sym whole)
-
 -- the place of a row
-pub near_place : (r : ℕ) → r ≤ 255 → escape ∷ bracket ∷ (decimal r ++ 0x48 ∷ []) ≡ texts (row_place r)
-near_place r few =
-    let near : nat_le r 255 ≡ true = grind (arith, nat_tests) in
-    sym (append-nil (escape ∷ bracket ∷ (decimal r ++ 0x48 ∷ []))) ∙ rw near refl
-
 pub far_place : (r : ℕ) → 255 < r → (escape ∷ codes "[H") ++ texts (downward (r - 1)) ≡ texts (row_place r)
 far_place r many =
     let far : nat_le r 255 ≡ false = grind (arith, nat_tests) in
@@ -51,12 +36,6 @@ far_place r many =
 
 -- after a row
 module _ (opens follows : Bool) (r a : ℕ) where
-  pub after_opened : opens ≡ true → texts (row_place (r + 2)) ≡ texts (after_row opens follows r a)
-  after_opened e = rw e refl
-
-  pub after_last : opens ≡ false → follows ≡ false → [] ≡ texts (after_row opens follows r a)
-  after_last e f = rw (e, f) refl
-
   pub after_closed : opens ≡ false → follows ≡ true
       → texts (black a) ++ 0x0D ∷ 0x0A ∷ [] ≡ texts (after_row opens follows r a)
   after_closed e f = sym (texts_both (black a) line_end) ∙ rw (e, f) refl

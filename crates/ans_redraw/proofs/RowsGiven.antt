@@ -1,7 +1,7 @@
 -- The rows of a picture, as they are given.
 use Rattle.std.proofs.Common.{◌≡◌, inl, inr, ℕ, zero, suc, ◌+◌, ◌-◌, ◌*◌, ◌<◌, ◌≤◌, Bool, true, false, ◌&&◌, not, refl}
 use Rattle.std.proofs.Common.{ap, ap₂, sym, ◌∙◌, arith, List, [], ◌∷◌, ◌++◌, length, drop, get_or, append_assoc}
-use Rattle.std.proofs.Common.{subst, codes}
+use Rattle.std.proofs.Common.{subst, codes, add-mul, one-mul}
 use Rattle.std.specs.Prelude.{nat_lt, ◌||◌}
 use Rattle.std.specs.Fmt.{digits}
 use Rattle.std.specs.List.{list_all}
@@ -26,7 +26,14 @@ use Rattle.ans_redraw.specs.declared.pen.Pen.{Pen}
 use Rattle.ans_redraw.specs.Form.{pen, pen_behind, drawn, is_coloured, at_row, below_row, before_row, after_row}
 use Rattle.ans_redraw.specs.Form.{rows_drawn, texts, form_bytes}
 use Rattle.ans_redraw.proofs.WayTexts.{texts_both}
-use Rattle.ans_redraw.proofs.PictureDrawn.{suc_rows}
+
+-- one row more
+pub suc_rows : (n w : ℕ) → suc n * w ≡ w + n * w
+suc_rows n w =
+    let one : suc n ≡ n + 1 = omega arith in
+    let e : (n + 1) * w ≡ n * w + 1 * w = add-mul n 1 w in
+    let f : 1 * w ≡ w = one-mul w in
+    ap (λ (m : ℕ). m * w) one ∙ omega (arith, e, f)
 
 -- ---- the last cell
 zipped_length : (bytes attributes : List ℕ) → length attributes ≡ length bytes

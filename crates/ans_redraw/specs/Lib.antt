@@ -4,6 +4,3 @@ pub mod Form
 pub mod Numbers
 pub mod Counts
 pub mod Copies
-pub mod Drawable
-pub mod Laws
-pub mod Examples

@@ -8,15 +8,13 @@
 //!
 //! `specs/Form.antt` has the form, and `specs/Colours.antt` how one attribute becomes another.
 //! [`form_length`] counts its bytes, [`put_form`] puts them, and [`copy_form`] copies them: each goes over the
-//! picture row by row, with no memory beyond a row. In [`laws`] is what is proved of the form, in
-//! [`examples`] the bytes of small pictures.
+//! picture row by row, with no memory beyond a row. What is proved of the form, and the bytes of small
+//! pictures, stand in `ans_picture_laws`.
 #![tactic(auto)]
 
 mod colours;
 mod ends;
-pub mod examples;
 mod form;
-pub mod laws;
 mod pen;
 mod piece;
 mod row;

@@ -1,6 +1,1 @@
 pub mod NewFiles
-mod EndMarks
-mod KeptNotes
-pub mod RedrawnFiles
-pub mod RedrawnTwice
-pub mod RedrawnContents

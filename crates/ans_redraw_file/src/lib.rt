@@ -2,13 +2,12 @@
 //!
 //! [`redrawn_with`] says what redrawing with a picture changes of a file, or how long it would be where that is too
 //! much. [`put_redrawn_file`] puts the new file, and copies nothing; [`copy_redrawn_file`] copies it to an array.
-//! `specs/RedrawnFile.antt` says which file that is, and [`laws`] what is true of it. What is said of it stands in
-//! `specs/RedrawnText.antt`.
+//! `specs/RedrawnFile.antt` says which file that is, and the laws of `ans_picture_laws` what is true of it. What is
+//! said of it stands in `specs/RedrawnText.antt`.
 //!
 //! That the picture is the one that the file shows, is for the crate above to see to.
 #![tactic(auto)]
 
-pub mod laws;
 mod new_file;
 mod outcome;
 mod redrawn_text;

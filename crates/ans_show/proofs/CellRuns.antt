@@ -1,11 +1,11 @@
 -- The cells of a row, written one by one, are its runs.
-use Rattle.std.proofs.Common.{◌≡◌, ℕ, ◌+◌, ◌<◌, ◌≤◌, true, false, List, [], ◌∷◌, ◌++◌, length, drop, get_or}
+use Rattle.std.proofs.Common.{◌≡◌, ℕ, ◌+◌, ◌<◌, ◌≤◌, true, false, List, [], ◌∷◌, ◌++◌, length, drop}
 use Rattle.std.proofs.Common.{refl, ap, ap₂, sym, ◌∙◌, append_assoc, append-nil, length-append, arith}
 use Rattle.std.specs.Prelude.{◌==◌, if◌then◌else◌, flat_map, All}
 use Rattle.std.specs.Simd.Lanes.{zip2}
 use Rattle.std.proofs.Math.Seq.{drop-append_seam}
 use Rattle.std.proofs.lemmas.Bool.{ne_eqb}
-use Rattle.std.proofs.lemmas.List.{drop-append-le, drop_more}
+use Rattle.std.proofs.lemmas.List.{drop-append-le}
 use Rattle.std.proofs.lemmas.List.Elements.{All-head}
 use Rattle.ans_model.specs.declared.cell.Cell.{Cell}
 use Rattle.ans_model.specs.Screen.State.{cell, IsByteCell}
@@ -136,23 +136,3 @@ row_line form (c ∷ cells) text is some bytes =
 -- the cells from a column on
 abbrev pub cells_from : List ℕ → List ℕ → ℕ → List Cell
 cells_from bytes attributes i = zip2 cell (drop i bytes) (drop i attributes)
-
--- one cell more is written
-pub cell_more : (form : Form) (last i : ℕ) (bytes attributes front broken after whole : List ℕ) → i < length bytes
-    → length attributes ≡ length bytes
-    → broken ≡ front ++ (if last == get_or attributes i 0 then [] else break_in form (get_or attributes i 0))
-    → after ≡ broken ++ character_in form (get_or bytes i 0)
-    → front ++ cells_in form last (cells_from bytes attributes i) ≡ whole
-    → after ++ cells_in form (get_or attributes i 0) (cells_from bytes attributes (i + 1)) ≡ whole
-cell_more form last i bytes attributes front broken after whole lt same is_broken is_after so_far =
-    let b = get_or bytes i 0 in
-    let a = get_or attributes i 0 in
-    let gap = if last == a then [] else break_in form a in
-    let shown = character_in form b in
-    let rest = cells_in form a (cells_from bytes attributes (i + 1)) in
-    let here : cells_from bytes attributes i ≡ cell b a ∷ cells_from bytes attributes (i + 1) =
-    ap₂ (λ (u v : List ℕ). zip2 cell u v) (drop_more bytes i 0 lt) (drop_more attributes i 0 (omega
-    (arith, lt, same))) in
-    ap (λ (v : List ℕ). v ++ rest) (is_after ∙ ap (λ (v : List ℕ). v ++ shown) is_broken)
-    ∙ append_assoc (front ++ gap) shown rest ∙ append_assoc front gap (shown ++ rest)
-    ∙ ap (λ (cs : List Cell). front ++ cells_in form last cs) (sym here) ∙ so_far

@@ -4,11 +4,4 @@ pub mod TablesGrow
 pub mod ShortTextLengths
 pub mod RunLemmas
 pub mod CellRuns
-pub mod TextsRead
-pub mod SeenRuns
 pub mod EachByte
-pub mod TerminalReads
-pub mod PageTags
-pub mod PageCharacters
-pub mod PageReads
-pub mod LongestRuns

@@ -5,6 +5,3 @@ pub mod PageText
 pub mod Forms
 pub mod ShortTexts
 pub mod FormTables
-pub mod Seen
-pub mod TerminalReader
-pub mod PageReader

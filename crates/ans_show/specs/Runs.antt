@@ -1,7 +1,6 @@
 -- The longest runs of cells with one attribute.
-use Rattle.std.specs.Prelude.{◌≢◌, ℕ, ◌<◌, List, [], ◌∷◌, length, map, ◌==◌, if◌then◌else◌}
+use Rattle.std.specs.Prelude.{ℕ, List, [], ◌∷◌, ◌==◌, if◌then◌else◌}
 use Rattle.ans_model.specs.declared.cell.Cell.{Cell}
-use Rattle.ans_model.specs.Screen.State.{cell}
 
 -- an attribute, and the bytes of the cells that have it
 pub record Run : Type 0 where
@@ -23,17 +22,3 @@ joined c (r ∷ more) =
 abbrev pub runs : List Cell → List Run
 runs [] = []
 runs (c ∷ row) = joined c (runs row)
-
--- the cells of a run
-abbrev pub cells_of : Run → List Cell
-cells_of r = map (λ b. cell b r.attribute) r.bytes
-
--- the first run, if there is one, has another attribute
-abbrev pub BeginsOtherwise : ℕ → List Run → Type 0
-BeginsOtherwise attribute [] = Unit {0}
-BeginsOtherwise attribute (r ∷ more) = attribute ≢ r.attribute
-
--- each run has a cell, and the next one has another attribute
-abbrev pub AreLongest : List Run → Type 0
-AreLongest [] = Unit {0}
-AreLongest (r ∷ more) = (0 < length r.bytes) × BeginsOtherwise r.attribute more × AreLongest more

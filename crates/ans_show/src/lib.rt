@@ -2,13 +2,11 @@
 //!
 //! Both are put into an outbox of `ans_write`. The texts are defined in `specs/TerminalText.antt` and
 //! `specs/PageText.antt`.
-//! What a reader sees of them (`specs/TerminalReader.antt`, `specs/PageReader.antt`) is the picture:
-//! the [`laws`] say so.
+//! What a reader sees of them is the picture: the laws of `ans_picture_laws` say so.
 #![tactic(auto)]
 
 mod form;
 mod form_tables;
-pub mod laws;
 mod look;
 mod page;
 mod rows;

@@ -19,9 +19,8 @@ use Rattle.ans_model.specs.Verdict.Good.{IsGood}
 use Rattle.ans_model.specs.declared.fault.Fault.{Fault}
 use Rattle.ans_model.proofs.Slices.{slice_get-append_left, slice_get-append_right}
 use Rattle.ans_players.specs.Grips.{Stand, firmly, grip_after}
-use Rattle.ans_players.specs.Kinds.{is_kind, kind_number}
+use Rattle.ans_players.specs.Kinds.{all_but, is_kind, kind_number}
 use Rattle.ans_players.specs.Names.{Names, names_after}
-use Rattle.ans_players.specs.OwnKind.{all_but}
 use Rattle.ans_players.specs.Named.{ArisesFirst, arises, times, times_cleared}
 use Rattle.ans_players.specs.Situations.{Spelled, situations, spelled, stand_behind, stand_of}
 use Rattle.ans_players.specs.declared.kind.Kind.{Kind}

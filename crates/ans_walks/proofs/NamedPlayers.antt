@@ -20,8 +20,7 @@ use Rattle.ans_players.specs.declared.kind.Kind.{Kind}
 use Rattle.ans_players.specs.declared.kind.Kind.TheVariants.{WrapAtOnce, LineEnds, HomeOnClear, ClearInColour}
 use Rattle.ans_players.specs.declared.kind.Kind.TheVariants.{SavePlaceOnly, DosColours, TabPrints, LineErased, WrapOff}
 use Rattle.ans_players.specs.declared.kind.Kind.TheVariants.{StopsAtEdge, PageControls, TerminalControls, OwnColours}
-use Rattle.ans_players.specs.Kinds.{is_kind}
-use Rattle.ans_players.specs.OwnKind.{all_but}
+use Rattle.ans_players.specs.Kinds.{all_but, is_kind}
 use Rattle.ans_players.proofs.MendedPlayers.{mended_from_each}
 use Rattle.ans_players.proofs.NamedKinds.{named_are_least}
 use Rattle.ans_players.proofs.OneSpelling.{one_spelling}

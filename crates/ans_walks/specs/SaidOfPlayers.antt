@@ -6,8 +6,7 @@ use Rattle.ans_model.specs.Verdict.Good.{IsGood}
 use Rattle.ans_players.specs.Classes.{IsLeastSame, IsSame}
 use Rattle.ans_players.specs.declared.kind.Kind.{Kind}
 use Rattle.ans_players.specs.declared.kind.Kind.TheVariants.{OwnColours}
-use Rattle.ans_players.specs.Kinds.{is_kind}
-use Rattle.ans_players.specs.OwnKind.{all_but}
+use Rattle.ans_players.specs.Kinds.{all_but, is_kind}
 use Rattle.ans_walks.specs.KindsUsed.{IsTold, used_of}
 use Rattle.ans_walks.specs.Mend.{mending}
 use Rattle.ans_walks.specs.declared.players.Players.{Players}

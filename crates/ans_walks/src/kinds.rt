@@ -6,12 +6,11 @@ ghost use Rattle.ans_model.specs.Bytes.{longest_file};
 ghost use Rattle.ans_model.specs.Screen.StartClass.{all_known};
 ghost use Rattle.ans_model.specs.Text.Words.{texts_of};
 ghost use Rattle.ans_model.specs.Verdict.Good.{IsGood};
-ghost use Rattle.ans_players.specs.Kinds.{is_kind};
+ghost use Rattle.ans_players.specs.Kinds.{all_but, is_kind};
 ghost use Rattle.ans_players.specs.declared.kind.Kind.{Kind};
 ghost use Rattle.ans_walks.specs.Counted.{counted};
 ghost use Rattle.ans_walks.specs.GripsShown.{kinds_in, kinds_of};
 ghost use Rattle.ans_walks.specs.KindsUsed.{IsTold, is_used, used_of, words_used};
-ghost use Rattle.ans_players.specs.OwnKind.{all_but};
 ghost use Rattle.ans_players.specs.declared.kind.Kind.TheVariants.{OwnColours as own_colours};
 ghost use Rattle.ans_walks.specs.KindsWalked.{AreFew, has_no_others};
 

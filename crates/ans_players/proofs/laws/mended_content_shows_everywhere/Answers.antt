@@ -1,5 +1,0 @@
-use Rattle.ans_players.proofs.MendedPlayers.{mended_is_shown}
-use Rattle.ans_players.proofs.laws.mended_content_shows_everywhere.Goals as goal
-
-pub returns : goal.returns
-returns g c = mended_is_shown g.P.Player.size g.P.Player.agreed g.P.Player.behaviour g.P.Player.is_player

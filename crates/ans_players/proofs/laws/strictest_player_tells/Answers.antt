@@ -1,5 +1,0 @@
-use Rattle.ans_players.proofs.Strict.{strict, strict_tells}
-use Rattle.ans_players.proofs.laws.strictest_player_tells.Goals as goal
-
-pub returns : goal.returns
-returns c = record { player = strict; tells = strict_tells }

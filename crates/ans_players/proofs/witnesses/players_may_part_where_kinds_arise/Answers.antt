@@ -1,5 +1,0 @@
-use Rattle.ans_players.proofs.Parting.{parting}
-use Rattle.ans_players.proofs.witnesses.players_may_part_where_kinds_arise.Goals as goal
-
-pub returns : goal.returns
-returns c = parting

@@ -1,5 +1,0 @@
-use Rattle.ans_redraw.proofs.FormLaws.{form_is_agreed, form_is_same}
-use Rattle.ans_redraw.proofs.laws.form_is_the_same_on_every_player.Goals as goal
-
-pub returns : goal.returns
-returns c = record { agreed = form_is_agreed; same = form_is_same }

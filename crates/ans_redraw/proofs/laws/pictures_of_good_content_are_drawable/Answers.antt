@@ -1,5 +1,0 @@
-use Rattle.ans_redraw.proofs.PrintedPictures.{good_pictures_are_drawable}
-use Rattle.ans_redraw.proofs.laws.pictures_of_good_content_are_drawable.Goals as goal
-
-pub returns : goal.returns
-returns c = good_pictures_are_drawable

@@ -1,5 +1,0 @@
-use Rattle.ans_redraw_file.proofs.RedrawnContents.{content_tells_the_picture}
-use Rattle.ans_redraw_file.proofs.laws.one_content_of_each_picture.Goals as goal
-
-pub returns : goal.returns
-returns c = content_tells_the_picture

@@ -1,5 +1,0 @@
-use Rattle.ans_show.proofs.TerminalReads.{terminal_text_read}
-use Rattle.ans_show.proofs.laws.terminals_show_the_picture.Goals as goal
-
-pub returns : goal.returns
-returns c = terminal_text_read
