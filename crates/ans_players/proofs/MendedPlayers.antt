@@ -1,5 +1,5 @@
 -- Behind the mending.
-use Rattle.std.proofs.Common.{◌≡◌, ◌∙◌, ℕ, zero, suc, ◌+◌, ◌-◌, ◌<◌, Bool, true, refl, ap, ap₂, sym, subst}
+use Rattle.std.proofs.Common.{◌≡◌, ◌∙◌, ℕ, zero, suc, ◌-◌, ◌<◌, Bool, true, refl, ap, ap₂, sym, subst}
 use Rattle.std.proofs.Common.{List, [], ◌∷◌, ◌++◌}
 use Rattle.std.proofs.Common.{arith, take, fold, replicate, Some}
 use Rattle.std.specs.Prelude.{IsTrue, bit_or, min, codes, slice_get, if◌then◌else◌}

@@ -22,3 +22,4 @@ mod sink;
 mod way;
 
 pub use form::{copy_form, form_length, put_form};
+pub use pen::Pen;

@@ -1,8 +1,9 @@
 //! Where the drawing of a row stands.
 
-/// The current attribute, and how many cells it has passed over since the last byte.
+/// The current attribute, and how many cells it has passed over since the last byte. The definition of the form
+/// names it, so it is public.
 #[derive(Clone, Copy)]
-pub(crate) struct Pen {
-    pub(crate) attribute: u8,
-    pub(crate) passed: usize,
+pub struct Pen {
+    pub attribute: u8,
+    pub passed: usize,
 }
