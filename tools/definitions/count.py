@@ -16,7 +16,7 @@ ROOMS = ("File", "Sequence", "Screen", "Verdict")
 COMMAND = {
     "ans_model": ["Text/Characters", "Text/Hexadecimal", "Text/FaultText", "Text/Words", "Text/ReportText"],
     "ans_check": ["CommandText", "Run", "Served", "Ending", "Answer"],
-    "ans_options": ["CommandLine"], "ans_report": ["Message"], "ans_write": ["Tried", "Writes"],
+    "ans_options": ["CommandLine"], "ans_report": ["Message", "RecordReports"], "ans_write": ["Tried", "Writes"],
 }
 
 
@@ -29,10 +29,10 @@ def lines_of(paths):
 
 
 def files_of_check():
-    """What `ans_check::check` says of a file's bytes."""
+    """What `check` says of a file's bytes."""
     specs = TOP / "crates" / "ans_model" / "specs"
     rooms = [file for room in ROOMS for file in sorted((specs / room).glob("*.antt")) if file.stem != "Needs"]
-    return [specs / "Bytes.antt", *rooms, path_of("ans_check", "FileVerdict"), path_of("ans_sauce", "Parts"),
+    return [specs / "Bytes.antt", *rooms, path_of("ans_verdict", "FileVerdict"), path_of("ans_sauce", "Parts"),
             path_of("ans_sauce", "RecordBytes")]
 
 

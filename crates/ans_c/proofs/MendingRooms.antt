@@ -4,10 +4,10 @@ use Rattle.std.proofs.Common.{arith, subst}
 use Rattle.std.proofs.lemmas.List.{length-append}
 use Rattle.ans_walks.specs.Mend.{mending}
 use Rattle.ans_mend.specs.Drafts.{DraftView, draft_of}
-use Rattle.ans_options.specs.declared.command.Mends.{Mends}
-use Rattle.ans_check.specs.LentScreen.{HasScreen}
-use Rattle.ans_check.specs.Mending.{front_bytes}
-use Rattle.ans_check.specs.MendingRoom.{LacksRoom, LacksScreenInTheEnd, most_put}
+use Rattle.ans_model.specs.declared.mends.Mends.{Mends}
+use Rattle.ans_verdict.specs.LentScreen.{HasScreen}
+use Rattle.ans_mend.specs.Mending.{front_bytes}
+use Rattle.ans_mend.specs.MendingRoom.{LacksRoom, LacksScreenInTheEnd, most_put}
 use Rattle.ans_c.specs.Told.{LacksMendingRoom}
 
 front_short : (front : Bool) → length (front_bytes front) ≤ length mending

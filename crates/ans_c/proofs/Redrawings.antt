@@ -8,8 +8,8 @@ use Rattle.ans_sauce.specs.Split.{IsSplit}
 use Rattle.ans_redraw_file.specs.RedrawnFile.{IsRedrawnWith, IsTooLong, redrawn_file}
 use Rattle.ans_redraw_file.specs.declared.outcome.Redrawn.{Redrawn}
 use Rattle.ans_redraw_file.specs.declared.outcome.Unredrawn.{Unredrawn}
-use Rattle.ans_check.specs.Redrawing.{IsReasonNot, IsRedrawn, TellsRedrawn}
-use Rattle.ans_check.proofs.VerdictLemmas.{passes}
+use Rattle.ans_redraw_file.specs.Redrawing.{IsReasonNot, IsRedrawn, TellsRedrawn}
+use Rattle.ans_verdict.proofs.VerdictLemmas.{passes}
 use Rattle.ans_c.specs.Told.{HoldsRedrawn, whole_of}
 
 -- where the array has room, its front is what there is to tell

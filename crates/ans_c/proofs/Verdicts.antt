@@ -10,10 +10,10 @@ use Rattle.ans_model.specs.declared.start.Start.{Start}
 use Rattle.ans_sauce.specs.declared.parts.Parts.{Parts}
 use Rattle.ans_sauce.specs.Parts.{content_of, size_of}
 use Rattle.ans_sauce.specs.Split.{IsSplit}
-use Rattle.ans_check.specs.FileVerdict.{Deserves}
-use Rattle.ans_check.specs.LentScreen.{HasScreen, byte_count, row_count}
-use Rattle.ans_check.specs.declared.screens.LentScreens.{LentScreens}
-use Rattle.ans_check.proofs.VerdictLemmas.{passes, refuses, refused_not_good, record_not_good}
+use Rattle.ans_verdict.specs.FileVerdict.{Deserves}
+use Rattle.ans_verdict.specs.LentScreen.{HasScreen, byte_count, row_count}
+use Rattle.ans_verdict.specs.declared.screens.LentScreens.{LentScreens}
+use Rattle.ans_verdict.proofs.VerdictLemmas.{passes, refuses, refused_not_good, record_not_good}
 use Rattle.ans_c.specs.Numbers.{TellsFault}
 use Rattle.ans_c.specs.Told.{HoldsPicture, LacksCells, LacksScreen, TellsPass, TellsRefusal}
 use Rattle.ans_c.specs.declared.numbers.ToldFault.{ToldFault}

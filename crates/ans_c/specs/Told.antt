@@ -16,13 +16,13 @@ use Rattle.ans_mend.specs.declared.outcome.Unmended.{Unmended}
 use Rattle.ans_redraw_file.specs.RedrawnText.{redrawn_text, unredrawn_text}
 use Rattle.ans_redraw_file.specs.declared.outcome.Redrawn.{Redrawn}
 use Rattle.ans_redraw_file.specs.declared.outcome.Unredrawn.{Unredrawn}
-use Rattle.ans_options.specs.declared.command.Mends.{Mends}
-use Rattle.ans_check.specs.FileNeeds.{NeedsClass}
-use Rattle.ans_check.specs.FileVerdict.{Deserves, Passes, IsRefusedFor, IsGoodFile}
-use Rattle.ans_check.specs.LentScreen.{HasScreen}
-use Rattle.ans_check.specs.MendingRoom.{LacksScreenInTheEnd, most_put}
-use Rattle.ans_check.specs.Redrawing.{IsReasonNot, IsRedrawn, TellsRedrawn}
-use Rattle.ans_check.specs.Served.{TellsMended}
+use Rattle.ans_model.specs.declared.mends.Mends.{Mends}
+use Rattle.ans_verdict.specs.FileNeeds.{NeedsClass}
+use Rattle.ans_verdict.specs.FileVerdict.{Deserves, Passes, IsRefusedFor, IsGoodFile}
+use Rattle.ans_verdict.specs.LentScreen.{HasScreen}
+use Rattle.ans_mend.specs.MendingRoom.{LacksScreenInTheEnd, most_put}
+use Rattle.ans_redraw_file.specs.Redrawing.{IsReasonNot, IsRedrawn, TellsRedrawn}
+use Rattle.ans_mend.specs.Mending.{TellsMended}
 use Rattle.ans_c.specs.Numbers.{IsSizeOf, TellsFault, class_of}
 use Rattle.ans_c.specs.declared.numbers.PictureSize.{PictureSize}
 use Rattle.ans_c.specs.declared.numbers.TheConstants.{PASS, REFUSED, NO_ROOM}

@@ -4,7 +4,7 @@ ghost use Rattle.std.specs.Prelude.{◌≡◌, ◌≢◌, ◌↔◌, ◌⊎◌, 
 ghost use Rattle.ans_model.specs.Bytes.{longest_file};
 ghost use Rattle.ans_model.specs.Screen.StartClass.{all_known};
 ghost use Rattle.ans_sauce.specs.Parts.{content_of, width_of, lines_of, size_of};
-ghost use Rattle.ans_check.specs.FileVerdict.{Deserves};
+ghost use Rattle.ans_verdict.specs.FileVerdict.{Deserves};
 ghost use Rattle.ans_c.specs.Numbers.{TellsFault, class_of};
 ghost use Rattle.ans_c.specs.Told.{LacksCells, LacksScreen, TellsNeeds, TellsPass, TellsPlay, TellsRecordFault};
 ghost use Rattle.ans_c.specs.Told.{TellsRefusal, TellsSize};
@@ -13,11 +13,11 @@ use crate::cells::copy_cells;
 use crate::numbers::{
     NO_ROOM, PASS, PictureSize, REFUSED, TOO_LONG, ToldFault, bits_of, class_of, told, told_size,
 };
-use ans_check::{LentScreens, needs_on, play_on};
 use ans_model::limits::MAX_FILE;
 use ans_model::start::Start;
 use ans_sauce::{Judged, Parts, split};
 use ans_screen::{HalfCell, LentGrid, LentRow, Screen};
+use ans_verdict::{LentScreens, needs_on, play_on};
 
 /// Tells the size of a file's picture and what is to be lent for a check of it. `PASS`: the record and the
 /// layout are accepted, and `size` is set. `REFUSED`: they are not, and `fault` tells why, F1 to F8.

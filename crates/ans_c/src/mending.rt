@@ -4,19 +4,19 @@ ghost use Rattle.std.specs.Prelude.{◌≡◌, ◌≢◌, ◌↔◌, ◌⊎◌, 
 ghost use Rattle.ans_mend.specs.Drafts.{draft_of};
 ghost use Rattle.ans_model.specs.Bytes.{longest_file, most_columns, most_lines};
 ghost use Rattle.ans_write.specs.Puts.{Puts};
-ghost use Rattle.ans_check.specs.LentScreen.{byte_count, row_count};
-ghost use Rattle.ans_check.specs.Mending.{front_bytes};
-ghost use Rattle.ans_check.specs.Served.{TellsMended};
+ghost use Rattle.ans_verdict.specs.LentScreen.{byte_count, row_count};
+ghost use Rattle.ans_mend.specs.Mending.{front_bytes};
+ghost use Rattle.ans_mend.specs.Mending.{TellsMended};
 ghost use Rattle.ans_c.specs.Numbers.{mends_of};
 ghost use Rattle.ans_c.specs.Told.{HandsReport, LacksMendingRoom, ReportsMending, mending_text};
 
 use crate::numbers::{NO_ROOM, TOO_LONG, WRONG_NUMBER, mends_of};
 use crate::texts::{Nowhere, hand_over};
-use ans_check::{LentScreens, mend_on};
-use ans_mend::{Draft, Mended, Unmended, put_mended, put_unmended};
+use ans_mend::{Draft, Mended, Unmended, mend_on, put_mended, put_unmended};
 use ans_model::limits::{MAX_FILE, MAX_LINES, MAX_WIDTH};
-use ans_options::Mends;
+use ans_model::mends::Mends;
 use ans_screen::LentRow;
+use ans_verdict::LentScreens;
 use ans_walks::SAFE_BEGINNING;
 use ans_write::{Outbox, Tried};
 use std::io::Write;

@@ -9,9 +9,9 @@ ghost use Rattle.ans_model.specs.Text.FaultText.{cause_number, note_number};
 ghost use Rattle.ans_c.specs.Numbers.{class_of, IsSizeOf, mends_of, NamesClass, number_if, number_or_none, TellsFault};
 
 use ans_model::fault::{Cause, Fault};
+use ans_model::mends::Mends;
 use ans_model::note::Note;
 use ans_model::start::Start;
-use ans_options::Mends;
 use ans_sauce::Parts;
 
 /// The file passes; of a call that judges nothing, it is answered.

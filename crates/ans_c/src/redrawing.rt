@@ -11,7 +11,6 @@ ghost use Rattle.ans_c.specs.Told.{redrawing_text, whole_of};
 
 use crate::numbers::{NO_ROOM, TOO_LONG};
 use crate::texts::{Nowhere, hand_over};
-use ans_check::play_on;
 use ans_model::limits::MAX_FILE;
 use ans_model::start::Start;
 use ans_play::Picture;
@@ -20,6 +19,7 @@ use ans_redraw_file::{
 };
 use ans_sauce::{Parts, split};
 use ans_screen::{HalfCell, LentGrid, LentRow, Screen};
+use ans_verdict::play_on;
 use ans_write::{Outbox, Tried};
 use std::io::Write;
 

@@ -11,10 +11,10 @@ use crate::numbers::{NO_ROOM, TOO_LONG};
 use crate::row_fields::{fields_of, parts_of};
 use crate::row_numbers::{ToldParts, ToldRow, blame_of, passing_in};
 use crate::texts::code_of;
-use ans_check::{LentScreens, why_on};
 use ans_model::limits::MAX_FILE;
 use ans_sauce::Judged;
 use ans_screen::LentRow;
+use ans_verdict::{LentScreens, why_on};
 use ans_why::Why;
 
 /// The parts of a file of which this is said.

@@ -10,10 +10,8 @@ ghost use Rattle.ans_c.specs.Row.{piece, spacing_number};
 use crate::numbers::number_if;
 use crate::row_numbers::{Piece, ToldFields, ToldParts};
 use ans_model::note::Note;
+use ans_sauce::fields::{AUTHOR, DATE, FONT, GROUP, RECORD_SIZE, TITLE};
 use ans_sauce::{Parts, Record, cut_record};
-
-/// How many bytes a record has (SAUCE 00.5).
-const RECORD_SIZE: usize = 128;
 
 /// Whether the note Nn is one of these.
 fn has_note(notes: &[Note], n: u32) -> bool
@@ -98,11 +96,11 @@ fn fields_behind(front: usize, sauce: &Record<'_>) -> ToldFields
         aspect: aspect_number(sauce.aspect_ratio()),
         width: sauce.width(),
         lines: sauce.lines(),
-        font: piece_behind(front, 106, sauce.font()),
-        date: piece_behind(front, 82, sauce.date()),
-        title: piece_behind(front, 7, sauce.title()),
-        author: piece_behind(front, 42, sauce.author()),
-        group: piece_behind(front, 62, sauce.group()),
+        font: piece_behind(front, FONT, sauce.font()),
+        date: piece_behind(front, DATE, sauce.date()),
+        title: piece_behind(front, TITLE, sauce.title()),
+        author: piece_behind(front, AUTHOR, sauce.author()),
+        group: piece_behind(front, GROUP, sauce.group()),
     }
 }
 

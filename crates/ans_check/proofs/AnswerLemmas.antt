@@ -1,8 +1,7 @@
 -- What is said of an ending.
 use Rattle.std.proofs.Common.{◌≡◌, ℕ, ◌≤◌, Bool, true, false, List, [], ◌∷◌, length, Option, Some, None, Ok, Err}
 use Rattle.std.proofs.Common.{arith, refl, subst, sym, true≢false}
-use Rattle.std.specs.Prelude.{◌↔◌, ◌≢◌, Result, IsErr, IsTrue, MatchOption, OnOk}
-use Rattle.ans_report.specs.Message.{message_line}
+use Rattle.std.specs.Prelude.{◌↔◌, ◌≢◌, Result, IsErr, IsTrue, MatchOption, OnOk, is_some, not, unwrap_or}
 use Rattle.ans_write.specs.Puts.{HandsOn, Puts, device_failed, device_of, waiting_of}
 use Rattle.ans_write.specs.Writes.{AppendsUnless, WritesText}
 use Rattle.ans_write.specs.declared.outbox.Outbox.{Outbox}
@@ -10,16 +9,9 @@ use Rattle.ans_write.specs.declared.outbox.WriteFault.{WriteFault}
 use Rattle.ans_write.proofs.PutsLemmas.{WritesText-finished}
 use Rattle.ans_write.specs.declared.tried.Tried.{Tried}
 use Rattle.clap.specs.Words.{Text}
-use Rattle.ans_mend.specs.declared.outcome.Mended as outcome
-use Rattle.ans_mend.specs.declared.outcome.Unmended.{Unmended}
-use Rattle.ans_redraw_file.specs.declared.outcome.Redrawn as redrawing
-use Rattle.ans_redraw_file.specs.declared.outcome.Unredrawn.{Unredrawn}
-use Rattle.ans_options.specs.declared.command.Mends.{Mends}
 use Rattle.ans_options.specs.declared.command.TableForm.{TableForm}
-use Rattle.ans_table.specs.declared.counts.Counts.{Counts}
 use Rattle.ans_table.specs.Findings.{RowFinding}
-use Rattle.ans_check.specs.Answer.{EndsBy, EndsNamed, Says, SaysMessage, Tells}
-use Rattle.ans_check.specs.Ending.{ending_message}
+use Rattle.ans_check.specs.Answer.{EndsBy, EndsNamed, Says, Tells, said_text}
 use Rattle.ans_check.specs.declared.exit_status.Ending.{Ending}
 use Rattle.ans_check.specs.declared.exit_status.Ending.TheVariants.{Run, Help, Usage, UnreadableWords, UnopenedFile}
 use Rattle.ans_check.specs.declared.exit_status.Ending.TheVariants.{Table, NamedInput, UnreadNames, Mended, NotMended}
@@ -42,41 +34,35 @@ put_out {E} {contents} {a} {b} {c} {text} errors r is none put handed device emp
     written_unless _ _ r (device_failed c) text device
     (WritesText-finished errors r is none put handed device empty)
 
--- what holds of a text holds in the option that has it
-in_some : (P : List ℕ → Type 0) (A : Type 0) (o : Option (List ℕ)) (text : List ℕ) → o ≡ Some text → P text
-    → MatchOption o A P
-in_some P A None text e h = absurd (cc)
-in_some P A (Some t) text e h = let same : text ≡ t = cc in subst P same h
+-- what an ending says is said
+pub said : {E : Type 0} (contents : E → Option (List ℕ)) (errors after : Tried E) (ending : Ending) → ending ≢ Usage
+    → MatchOption (said_text ending) (after ≡ errors) (λ text. Tells contents errors after text)
+    → Says contents errors after ending
+said contents errors after Usage told h = absurd (told refl)
+said contents errors after Help told h = h
+said contents errors after (Run answer) told h = h
+said contents errors after UnreadableWords told h = h
+said contents errors after UnopenedFile told h = h
+said contents errors after (Table counts) told h = h
+said contents errors after NamedInput told h = h
+said contents errors after UnreadNames told h = h
+said contents errors after (Mended mended) told h = h
+said contents errors after (NotMended asked reason) told h = h
+said contents errors after (Redrawn redrawn) told h = h
+said contents errors after (NotRedrawn reason) told h = h
 
--- where the ending has a message, and its line is told, this is what it says
-pub says_message : {E : Type 0} (contents : E → Option (List ℕ)) (errors after : Tried E) (ending : Ending)
-    (text : List ℕ) → ending_message ending ≡ Some text → Tells contents errors after (message_line text)
-    → SaysMessage contents errors after ending
-says_message contents errors after ending text e h =
-    in_some (λ t. Tells contents errors after (message_line t)) (after ≡ errors) (ending_message ending) text e h
+-- where it says nothing, nothing was written
+pub said_nothing : {E : Type 0} (contents : E → Option (List ℕ)) (errors : Tried E) (o : Option (List ℕ))
+    → not (is_some o) ≡ true → MatchOption o (errors ≡ errors) (λ text. Tells contents errors errors text)
+said_nothing contents errors None h = refl
+said_nothing contents errors (Some text) h = absurd (cc)
 
--- of an ending of which nothing else is told
-pub says_else : {E : Type 0} (contents : E → Option (List ℕ)) (errors after : Tried E) (ending : Ending)
-    → ending ≢ Usage → ((counts : Counts) → ending ≢ Table counts)
-    → ((mended : outcome.Mended) → ending ≢ Mended mended)
-    → ((asked : Mends) (reason : Unmended) → ending ≢ NotMended asked reason)
-    → ((redrawn : redrawing.Redrawn) → ending ≢ Redrawn redrawn) → ((reason : Unredrawn) → ending ≢ NotRedrawn reason)
-    → SaysMessage contents errors after ending → Says contents errors after ending
-says_else contents errors after Usage told table mended unmended redrawn unredrawn h = absurd (told refl)
-says_else contents errors after Help told table mended unmended redrawn unredrawn h = h
-says_else contents errors after (Run answer) told table mended unmended redrawn unredrawn h = h
-says_else contents errors after UnreadableWords told table mended unmended redrawn unredrawn h = h
-says_else contents errors after UnopenedFile told table mended unmended redrawn unredrawn h = h
-says_else contents errors after (Table counts) told table mended unmended redrawn unredrawn h =
-    absurd (table counts refl)
-says_else contents errors after NamedInput told table mended unmended redrawn unredrawn h = h
-says_else contents errors after UnreadNames told table mended unmended redrawn unredrawn h = h
-says_else contents errors after (Mended m) told table mended unmended redrawn unredrawn h = absurd (mended m refl)
-says_else contents errors after (NotMended a r) told table mended unmended redrawn unredrawn h =
-    absurd (unmended a r refl)
-says_else contents errors after (Redrawn r) told table mended unmended redrawn unredrawn h = absurd (redrawn r refl)
-says_else contents errors after (NotRedrawn r) told table mended unmended redrawn unredrawn h =
-    absurd (unredrawn r refl)
+-- where it says something, that was written
+pub said_something : {E : Type 0} (contents : E → Option (List ℕ)) (errors after : Tried E) (o : Option (List ℕ))
+    → not (is_some o) ≡ false → Tells contents errors after (unwrap_or o [])
+    → MatchOption o (after ≡ errors) (λ text. Tells contents errors after text)
+said_something contents errors after None h told = absurd (cc)
+said_something contents errors after (Some text) h told = told
 
 -- the table of names that the words give
 pub ends_by_names : {R W : Type 0} (remaining : R → Option (List ℕ)) (contents : W → Option (List ℕ))

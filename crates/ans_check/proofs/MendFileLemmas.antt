@@ -6,8 +6,8 @@ use Rattle.std.proofs.Math.Nat.{le-min}
 use Rattle.std.proofs.Math.Seq.{take-append_seam}
 use Rattle.std.proofs.lemmas.List.{length-append, take_all}
 use Rattle.ans_model.specs.Bytes.{longest_file}
-use Rattle.ans_options.specs.declared.command.Mends.{Mends}
-use Rattle.ans_check.specs.MendingRoom.{most_put}
+use Rattle.ans_model.specs.declared.mends.Mends.{Mends}
+use Rattle.ans_mend.specs.MendingRoom.{most_put}
 
 -- room behind the bytes leaves them at the front
 pub grown_front : (bytes : List ℕ) (n : ℕ) (room : List ℕ) → length bytes ≤ n
@@ -38,17 +38,3 @@ roomy mends bytes zeros memory count room sum is put few total within rest memor
     ap length (take_all sum bytes (omega (arith, is, all))) in
     subst (λ (v : List ℕ). count + most_put mends v ≤ length memory) (sym front)
     (omega (arith, is, put, all, long, first, rest))
-
--- a device works where what was written on it last did not fail
-pub finished_works : {T E : Type 0} (failed : Bool) (r : Result T E) (v : T) → IsErr r ↔ IsTrue failed → r ≡ Ok v
-    → failed ≡ false
-finished_works false r v device is = refl
-finished_works true (Ok w) v device is = absurd (true≢false (sym (device.1 refl)))
-finished_works true (Err e) v device is = absurd (cc)
-
--- and has failed where it did
-pub finished_fails : {T E : Type 0} (failed : Bool) (r : Result T E) (e : E) → IsErr r ↔ IsTrue failed → r ≡ Err e
-    → failed ≡ true
-finished_fails true r e device is = refl
-finished_fails false (Err x) e device is = absurd (true≢false (sym (device.0 refl)))
-finished_fails false (Ok v) e device is = absurd (cc)

@@ -23,14 +23,17 @@ use Rattle.ans_report.specs.declared.report.Report.{Report}
 use Rattle.ans_report.specs.declared.report.Report.TheVariants as report
 use Rattle.ans_sauce.specs.Judged.{is_pass}
 use Rattle.ans_sauce.specs.declared.judged.Judged.TheVariants as judged
-use Rattle.ans_check.specs.declared.verdict.Verdict.{Verdict}
-use Rattle.ans_check.specs.declared.verdict.Verdict.TheVariants.{Pass, Refused}
-use Rattle.ans_check.specs.FileNeeds.{IsNeedsOf, needs_fault}
-use Rattle.ans_check.proofs.VerdictLemmas.{needs_class, refuses}
-use Rattle.ans_check.specs.FileVerdict.{Passes, IsRefusedFor, IsVerdictOn, IsGoodFile, fault_of}
-use Rattle.ans_check.specs.CommandText.{heading, ReportsPass, ReportsFault, ReportsRecordFault, ReportsCheck}
-use Rattle.ans_check.specs.CommandText.{ReportsNeeds, ReportsRecord, ReportsContent, ReportsTokens}
-use Rattle.ans_check.specs.CommandText.{IsReportOf, ReportsPicture, ReportsWhy, shown_text}
+use Rattle.ans_verdict.specs.declared.verdict.Verdict.{Verdict}
+use Rattle.ans_verdict.specs.declared.verdict.Verdict.TheVariants.{Pass, Refused}
+use Rattle.ans_verdict.specs.FileNeeds.{IsNeedsOf, needs_fault}
+use Rattle.ans_verdict.proofs.VerdictLemmas.{needs_class, refuses}
+use Rattle.ans_verdict.specs.FileVerdict.{Passes, IsRefusedFor, IsVerdictOn, IsGoodFile, fault_of}
+use Rattle.ans_check.specs.CommandText.{heading, ReportsPass, ReportsFault, ReportsCheck}
+use Rattle.ans_report.specs.RecordReports.{ReportsRecordFault}
+use Rattle.ans_check.specs.CommandText.{ReportsNeeds, ReportsContent, ReportsTokens}
+use Rattle.ans_report.specs.RecordReports.{ReportsRecord}
+use Rattle.ans_check.specs.CommandText.{IsReportOf, ReportsPicture, shown_text}
+use Rattle.ans_why.specs.WhyText.{ReportsWhy}
 use Rattle.ans_why.specs.Explained.{IsTrueOf, Why}
 use Rattle.ans_why.specs.WhyText.{why_text}
 use Rattle.ans_options.specs.declared.command.Form.{Form}

@@ -1,7 +1,7 @@
 -- What a command has put, and what a run has done by it.
 use Rattle.std.proofs.Common.{◌≡◌, ◌↔◌, ◌+◌, ◌<◌, ◌≤◌, ℕ, Bool, true, false, List, length, Option, Some, None, Result}
 use Rattle.std.proofs.Common.{Ok, Err, refl, sym, ◌∙◌, true≢false}
-use Rattle.std.specs.Prelude.{IfSome, IsErrOf, IsTrue}
+use Rattle.std.specs.Prelude.{IfSome, IsErr, IsErrOf, IsTrue}
 use Rattle.ans_model.specs.Bytes.{longest_file}
 use Rattle.ans_table.specs.declared.finding.Unread.{Unread}
 use Rattle.ans_table.specs.declared.finding.Unread.TheVariants as why
@@ -16,17 +16,31 @@ use Rattle.ans_check.specs.Served.{ServesAs}
 use Rattle.ans_check.specs.declared.errors.RunError.{RunError}
 use Rattle.ans_check.specs.declared.errors.RunError.TheVariants as error
 
--- the text that was put is what the answer says
-pub is_put : {W : Type 0} {contents : W → Option (List ℕ)} {reports : Bool → List ℕ → Type 0} {old new : Outbox W}
-    (passed : Bool) (text : List ℕ) → reports passed text → Puts contents old new text
-    → IsPut contents reports old new passed
-is_put passed text told puts =
-    record { passed = passed; text = text; reported = told; puts = puts; answers = λ works. refl }
+-- a text that is right of the answer was put
+pub is_put : {W A : Type 0} {contents : W → Option (List ℕ)} {tells : A → List ℕ → Type 0} {old new : Outbox W}
+    (answer : A) (text : List ℕ) → tells answer text → Puts contents old new text
+    → IsPut contents tells old new answer
+is_put answer text right puts =
+    record { told = answer; text = text; right = right; puts = puts; answers = λ works. refl }
 
 -- a device has not failed where the next state of it has not
 pub works_before : (before after : Bool) → (before ≡ true → after ≡ true) → after ≡ false → before ≡ false
 works_before false after h works = refl
 works_before true after h works = absurd (true≢false (sym (h refl) ∙ works))
+
+-- a device works where what was written on it last did not fail
+pub finished_works : {T E : Type 0} (failed : Bool) (r : Result T E) (v : T) → IsErr r ↔ IsTrue failed → r ≡ Ok v
+    → failed ≡ false
+finished_works false r v device is = refl
+finished_works true (Ok w) v device is = absurd (true≢false (sym (device.1 refl)))
+finished_works true (Err e) v device is = absurd (cc)
+
+-- and has failed where it did
+pub finished_fails : {T E : Type 0} (failed : Bool) (r : Result T E) (e : E) → IsErr r ↔ IsTrue failed → r ≡ Err e
+    → failed ≡ true
+finished_fails true r e device is = refl
+finished_fails false (Err x) e device is = absurd (true≢false (sym (device.0 refl)))
+finished_fails false (Ok v) e device is = absurd (cc)
 
 abbrev read_of : {V : Type 0} → V → Result V Unread
 read_of v = Ok v

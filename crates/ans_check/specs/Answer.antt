@@ -11,7 +11,7 @@ use Rattle.ans_options.specs.Topics.{topic_of}
 use Rattle.ans_options.specs.declared.command.Asked.{Asked}
 use Rattle.ans_options.specs.declared.command.Asked.TheVariants as asked
 use Rattle.ans_options.specs.declared.command.TableForm.{TableForm}
-use Rattle.ans_options.specs.declared.command.Mends.{Mends}
+use Rattle.ans_model.specs.declared.mends.Mends.{Mends}
 use Rattle.ans_options.specs.declared.command.Options.{Options}
 use Rattle.ans_options.specs.declared.command_line.WordsError.{WordsError}
 use Rattle.ans_options.specs.declared.topic.Topic.{Topic}
@@ -27,8 +27,9 @@ use Rattle.ans_write.specs.declared.tried.Tried.{Tried}
 use Rattle.ans_check.specs.CommandText.{Reports}
 use Rattle.ans_check.specs.Ending.{ending_message, ending_of_mending, ending_of_redrawing, ending_of_words}
 use Rattle.ans_check.specs.Listing.{IsListing, is_whole, names_in, listed_bytes}
-use Rattle.ans_check.specs.Redrawing.{TellsRedrawn}
-use Rattle.ans_check.specs.Served.{ServesAs, TellsMended}
+use Rattle.ans_redraw_file.specs.Redrawing.{TellsRedrawn}
+use Rattle.ans_check.specs.Served.{ServesAs}
+use Rattle.ans_mend.specs.Mending.{TellsMended}
 use Rattle.ans_check.specs.Table.{WritesTable, header, IsFoundByName}
 use Rattle.ans_check.specs.declared.listing.Listing.{Listing}
 use Rattle.ans_check.specs.declared.errors.RunError.{RunError}
@@ -69,27 +70,12 @@ pub record EndsUnopened {W : Type 0} (is_missing : Text → Type 0) (file : Opti
   pub unwritten : output_after ≡ output
   pub ends : ending ≡ UnopenedFile
 
--- a command on the input of this name was run, or the input cannot be opened
-abbrev pub EndsRun : {R W : Type 0} → (R → Option (List ℕ)) → (W → Option (List ℕ)) → (Text → R → Type 0)
-    → (R → Type 0) → (Text → Type 0) → Options → Option Text → Tried W → Tried W → Ending → Type 0
-EndsRun remaining contents is_file is_standard is_missing options file output output_after ending =
-    EndsAsServed remaining contents is_file is_standard (Reports options) Run file output output_after ending
-    ⊎ EndsUnopened is_missing file output output_after ending
-
--- the input of this name was mended, or there is a reason why not; or it cannot be opened
-abbrev pub EndsMended : {R W : Type 0} → (R → Option (List ℕ)) → (W → Option (List ℕ)) → (Text → R → Type 0)
-    → (R → Type 0) → (Text → Type 0) → Mends → Option Text → Tried W → Tried W → Ending → Type 0
-EndsMended remaining contents is_file is_standard is_missing mends file output output_after ending =
-    EndsAsServed remaining contents is_file is_standard (TellsMended mends) (ending_of_mending mends) file
-    output output_after ending
-    ⊎ EndsUnopened is_missing file output output_after ending
-
--- the input of this name was redrawn, or there is a reason why not; or it cannot be opened
-abbrev pub EndsRedrawn : {R W : Type 0} → (R → Option (List ℕ)) → (W → Option (List ℕ)) → (Text → R → Type 0)
-    → (R → Type 0) → (Text → Type 0) → Option Text → Tried W → Tried W → Ending → Type 0
-EndsRedrawn remaining contents is_file is_standard is_missing file output output_after ending =
-    EndsAsServed remaining contents is_file is_standard TellsRedrawn ending_of_redrawing file
-    output output_after ending
+-- the input of this name was served so, or it cannot be opened
+abbrev pub EndsServed : {R W A : Type 0} → (R → Option (List ℕ)) → (W → Option (List ℕ)) → (Text → R → Type 0)
+    → (R → Type 0) → (Text → Type 0) → (List ℕ → A → List ℕ → Type 0) → (Result A RunError → Ending) → Option Text
+    → Tried W → Tried W → Ending → Type 0
+EndsServed remaining contents is_file is_standard is_missing tells ending_of file output output_after ending =
+    EndsAsServed remaining contents is_file is_standard tells ending_of file output output_after ending
     ⊎ EndsUnopened is_missing file output output_after ending
 
 -- how a table ends, by whether all names were read and what its writing came to
@@ -151,14 +137,14 @@ meaning_text (topic.Note note) = note_meaning note
 abbrev pub EndsAs : {R W : Type 0} → (R → Option (List ℕ)) → (W → Option (List ℕ)) → (Text → R → Type 0)
     → (R → Type 0) → (Text → Type 0) → Asked → Tried W → Tried W → Ending → Type 0
 EndsAs remaining contents is_file is_standard is_missing (asked.One options file) output output_after ending =
-    EndsRun remaining contents is_file is_standard is_missing options (option_map string_bytes file) output output_after
-    ending
+    EndsServed remaining contents is_file is_standard is_missing (Reports options) Run (option_map string_bytes file)
+    output output_after ending
 EndsAs remaining contents is_file is_standard is_missing (asked.Mend mends file) output output_after ending =
-    EndsMended remaining contents is_file is_standard is_missing mends (option_map string_bytes file) output
-    output_after ending
+    EndsServed remaining contents is_file is_standard is_missing (TellsMended mends) (ending_of_mending mends)
+    (option_map string_bytes file) output output_after ending
 EndsAs remaining contents is_file is_standard is_missing (asked.Redraw file) output output_after ending =
-    EndsRedrawn remaining contents is_file is_standard is_missing (option_map string_bytes file) output output_after
-    ending
+    EndsServed remaining contents is_file is_standard is_missing TellsRedrawn ending_of_redrawing
+    (option_map string_bytes file) output output_after ending
 EndsAs remaining contents is_file is_standard is_missing (asked.Table form names) output output_after ending =
     EndsBy remaining contents is_standard (IsFoundByName remaining is_file is_missing) form
     (map string_bytes names.items) output output_after ending
@@ -217,20 +203,18 @@ abbrev pub Tells : {E : Type 0} → (E → Option (List ℕ)) → Tried E → Tr
 Tells contents errors errors_after text =
     AppendsUnless (has_failed errors_after) (contents (inner_of errors)) (contents (inner_of errors_after)) text
 
--- the errors took the line of the ending's message, or nothing where it has none
-abbrev pub SaysMessage : {E : Type 0} → (E → Option (List ℕ)) → Tried E → Tried E → Ending → Type 0
-SaysMessage contents errors errors_after ending = MatchOption (ending_message ending) (errors_after ≡ errors)
-    (λ text. Tells contents errors errors_after (message_line text))
+-- What an ending says on standard error, if anything: the line of its message; that of a table's counts; what was
+-- changed of a file that was mended or redrawn, or why it was not.
+abbrev pub said_text : Ending → Option (List ℕ)
+said_text (Table counts) = Some (message_line (counts_text counts))
+said_text (Mended mended) = Some (mended_text mended)
+said_text (NotMended asked reason) = Some (unmended_text asked reason)
+said_text (Redrawn redrawn) = Some (redrawn_text redrawn)
+said_text (NotRedrawn reason) = Some (unredrawn_text reason)
+said_text ending = option_map message_line (ending_message ending)
 
--- What the errors took: the line of the ending's message; that of a table's counts; what was changed of a file that was
--- mended or redrawn, or why it was not; clap's text, where the words are rejected; else nothing.
+-- the errors took what the ending says, or nothing if it says nothing; clap's text if the words are rejected
 abbrev pub Says : {E : Type 0} → (E → Option (List ℕ)) → Tried E → Tried E → Ending → Type 0
 Says contents errors errors_after Usage = (text : List ℕ) × Tells contents errors errors_after text
-Says contents errors errors_after (Table counts) =
-    Tells contents errors errors_after (message_line (counts_text counts))
-Says contents errors errors_after (Mended mended) = Tells contents errors errors_after (mended_text mended)
-Says contents errors errors_after (NotMended asked reason) =
-    Tells contents errors errors_after (unmended_text asked reason)
-Says contents errors errors_after (Redrawn redrawn) = Tells contents errors errors_after (redrawn_text redrawn)
-Says contents errors errors_after (NotRedrawn reason) = Tells contents errors errors_after (unredrawn_text reason)
-Says contents errors errors_after ending = SaysMessage contents errors errors_after ending
+Says contents errors errors_after ending =
+    MatchOption (said_text ending) (errors_after ≡ errors) (λ text. Tells contents errors errors_after text)

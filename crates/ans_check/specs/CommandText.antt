@@ -3,13 +3,12 @@ use Rattle.std.specs.Prelude.{◌≡◌, ◌⊎◌, ℕ, Bool, true, false, List
 use Rattle.ans_model.specs.File.Layout.{FileParts, content}
 use Rattle.ans_model.specs.File.NoteConditions.{notes}
 use Rattle.ans_model.specs.File.Record.{title_field, trimmed, is_non_blink, stated_size}
-use Rattle.ans_model.specs.File.Refusals.{Accepts, record_fault}
+use Rattle.ans_model.specs.File.Refusals.{Accepts}
 use Rattle.ans_model.specs.Verdict.Good.{Picture}
-use Rattle.ans_model.specs.Text.RecordText.{record_text}
 use Rattle.ans_model.specs.Text.TokensText.{TokensText}
 use Rattle.ans_model.specs.Screen.StartClass.{all_known}
 use Rattle.ans_model.specs.Text.NeedsText.{needs_text}
-use Rattle.ans_model.specs.Text.ReportText.{Heading, Passed, RefusedFor, refusal_text, report_text}
+use Rattle.ans_model.specs.Text.ReportText.{Heading, Passed, RefusedFor, report_text}
 use Rattle.ans_model.specs.declared.fault.Fault.{Fault}
 use Rattle.ans_model.specs.declared.start.Start.{Start}
 use Rattle.std.specs.Option.{option_copied}
@@ -23,13 +22,12 @@ use Rattle.ans_options.specs.declared.command.Form.TheVariants.{Terminal, Vga, P
 use Rattle.ans_options.specs.declared.command.Options.{Options}
 use Rattle.ans_show.specs.PageText.{page_text}
 use Rattle.ans_show.specs.TerminalText.{terminal_text}
-use Rattle.ans_sauce.specs.Judged.{is_pass}
-use Rattle.ans_why.specs.Explained as why
-use Rattle.ans_why.specs.WhyText.{why_text}
-use Rattle.ans_check.specs.declared.verdict.Verdict.{Verdict}
-use Rattle.ans_check.specs.declared.verdict.Verdict.TheVariants.{Pass, Refused}
-use Rattle.ans_check.specs.FileNeeds.{NeedsClass}
-use Rattle.ans_check.specs.FileVerdict.{Passes, IsRefusedFor, IsGoodFile}
+use Rattle.ans_report.specs.RecordReports.{ReportsRecordFault, ReportsSauce}
+use Rattle.ans_why.specs.WhyText.{ReportsWhy}
+use Rattle.ans_verdict.specs.declared.verdict.Verdict.{Verdict}
+use Rattle.ans_verdict.specs.declared.verdict.Verdict.TheVariants.{Pass, Refused}
+use Rattle.ans_verdict.specs.FileNeeds.{NeedsClass}
+use Rattle.ans_verdict.specs.FileVerdict.{Passes, IsRefusedFor, IsGoodFile}
 
 -- what is said of a file before its verdict or its needs, and the class of starts where one is named
 abbrev pub heading : FileParts → Option Start → Heading
@@ -53,12 +51,6 @@ pub record ReportsFault (file : List ℕ) (start : Start) (named : Option Start)
   pub fault : Fault
   pub refused : IsRefusedFor file start apart fault
   pub text_is : text ≡ report_text (heading apart named) (RefusedFor fault)
-
--- the file's record or its layout has a fault, and the text reports it
-pub record ReportsRecordFault (file text : List ℕ) : Type 0 where
-  pub fault : Fault
-  pub fault_is : record_fault file ≡ Some fault
-  pub text_is : text ≡ refusal_text fault
 
 -- the file is not good, and the text reports why
 abbrev pub ReportsRefusal : List ℕ → Start → Option Start → List ℕ → Type 0
@@ -89,17 +81,6 @@ abbrev pub ReportsShow : List ℕ → Start → Form → Bool → List ℕ → T
 ReportsShow file start form true text = ReportsPicture file start form text
 ReportsShow file start form false text = ReportsCheck file start false false text
 
--- the file is accepted so, and the text is its record's
-pub record ReportsRecord (file text : List ℕ) : Type 0 where
-  pub apart : FileParts
-  pub accepts : Accepts file apart
-  pub text_is : text ≡ record_text apart
-
--- the file's record is reported, or why it is refused
-abbrev pub ReportsSauce : List ℕ → Bool → List ℕ → Type 0
-ReportsSauce file true text = ReportsRecord file text
-ReportsSauce file false text = ReportsRecordFault file text
-
 -- the file is accepted so, and the text has the tokens of its content and the fault that ends their reading
 pub record ReportsContent (file : List ℕ) (fault : Option Fault) (text : List ℕ) : Type 0 where
   pub apart : FileParts
@@ -122,13 +103,6 @@ pub record ReportsLeast (file text : List ℕ) : Type 0 where
 abbrev pub ReportsNeeds : List ℕ → Bool → List ℕ → Type 0
 ReportsNeeds file true text = ReportsLeast file text
 ReportsNeeds file false text = ReportsRefusal file all_known None text
-
--- What is said is true of the file, and the text says it. The file passes where it passes from the cleared start.
-pub record ReportsWhy (file : List ℕ) (passed : Bool) (text : List ℕ) : Type 0 where
-  pub said : why.Why
-  pub is_true : why.IsTrueOf file said
-  pub passed_is : passed ≡ is_pass said
-  pub text_is : text ≡ why_text said
 
 -- Whether the file passes and the text are what the command is to write of it. Of one file, which has no name here, a
 -- table has no row; what its row would tell first is told as `needs` tells it. A file that is to be mended or

@@ -3,12 +3,6 @@ pub use Rattle.ans_options.specs.Topics
 pub mod Rows
 pub mod Run
 pub mod Ending
-pub mod FileVerdict
-pub mod ScreenRoom
-pub mod LentScreen
-pub mod StartParts
-pub mod FileNeeds
-pub mod FilePlayed
 pub mod CommandText
 pub mod Reported
 pub mod Served
@@ -16,7 +10,3 @@ pub mod Table
 pub mod Listing
 pub mod Answer
 pub mod SystemInput
-pub mod Mending
-pub mod Redrawing
-pub mod MendingRoom
-pub mod MendingSteps

@@ -1,19 +1,12 @@
 -- What a run on an input has done when it returns.
-use Rattle.std.specs.Prelude.{◌≡◌, ◌≢◌, ◌↔◌, ℕ, ◌+◌, ◌<◌, ◌≤◌, Bool, List, [], ◌++◌, length, Option, Result, Ok, Err}
+use Rattle.std.specs.Prelude.{◌≡◌, ◌≢◌, ◌↔◌, ℕ, ◌+◌, ◌<◌, ◌≤◌, Bool, List, length, Option, Result}
 use Rattle.std.specs.Prelude.{IfOk, IfErr, IfSome, IsErrOf, IsTrue}
 use Rattle.ans_model.specs.Bytes.{longest_file}
-use Rattle.ans_mend.specs.declared.outcome.Mended.{Mended}
-use Rattle.ans_mend.specs.declared.outcome.Unmended.{Unmended}
-use Rattle.ans_redraw_file.specs.declared.outcome.Redrawn.{Redrawn}
-use Rattle.ans_redraw_file.specs.declared.outcome.Unredrawn.{Unredrawn}
-use Rattle.ans_options.specs.declared.command.Mends.{Mends}
 use Rattle.ans_options.specs.declared.command.Options.{Options}
 use Rattle.ans_write.specs.Tried.{call_count, has_failed, inner_of}
 use Rattle.ans_write.specs.Writes.{Wrote, WrotePrefix}
 use Rattle.ans_write.specs.declared.tried.Tried.{Tried}
 use Rattle.ans_check.specs.CommandText.{Reports}
-use Rattle.ans_check.specs.Mending.{IsMended, IsReason, front_bytes}
-use Rattle.ans_check.specs.Redrawing.{TellsRedrawn}
 use Rattle.ans_check.specs.Run.{HasRead}
 use Rattle.ans_check.specs.declared.errors.RunError.{RunError}
 use Rattle.ans_check.specs.declared.errors.RunError.TheVariants as error
@@ -48,26 +41,3 @@ abbrev pub Serves : {R W : Type 0} → (R → Option (List ℕ)) → (W → Opti
     → Tried W → Tried W → Result Bool RunError → Type 0
 Serves remaining contents options reader reader_after writer writer_after result =
     ServesAs remaining contents (Reports options) reader reader_after writer writer_after result
-
--- the mended file, by what came of mending and the draft; or nothing
-abbrev pub mended_bytes : Result Mended Unmended → List ℕ → List ℕ
-mended_bytes (Ok mended) draft = front_bytes mended.front ++ draft
-mended_bytes (Err reason) draft = []
-
--- What is told of a file that was to be mended: what was changed of it, and the text is the mended file; or there is no
--- text, for this reason.
-abbrev pub TellsMended : Mends → List ℕ → Result Mended Unmended → List ℕ → Type 0
-TellsMended mends file answer text = (draft : List ℕ) × IfOk answer (λ mended. IsMended mends file mended draft)
-    × IfErr answer (IsReason mends file) × (text ≡ mended_bytes answer draft)
-
--- A run mended a file in this way.
-abbrev pub ServesMended : {R W : Type 0} → (R → Option (List ℕ)) → (W → Option (List ℕ)) → Mends → Tried R → Tried R
-    → Tried W → Tried W → Result (Result Mended Unmended) RunError → Type 0
-ServesMended remaining contents mends reader reader_after writer writer_after result =
-    ServesAs remaining contents (TellsMended mends) reader reader_after writer writer_after result
-
--- A run redrew a file.
-abbrev pub ServesRedrawn : {R W : Type 0} → (R → Option (List ℕ)) → (W → Option (List ℕ)) → Tried R → Tried R
-    → Tried W → Tried W → Result (Result Redrawn Unredrawn) RunError → Type 0
-ServesRedrawn remaining contents reader reader_after writer writer_after result =
-    ServesAs remaining contents TellsRedrawn reader reader_after writer writer_after result

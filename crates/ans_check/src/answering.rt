@@ -1,19 +1,17 @@
 //! From the program's words to its ending.
 
-ghost use Rattle.std.specs.Prelude.{◌≡◌, ◌≢◌, [], None, false, IfSome, IsSomeAnd};
-ghost use Rattle.std.specs.Prelude.{option_map, string_bytes, true, map, IfOk};
+ghost use Rattle.std.specs.Prelude.{◌≡◌, ◌≢◌, [], None, false, IfSome, IsSomeAnd, is_some, not};
+ghost use Rattle.std.specs.Prelude.{option_map, string_bytes, true, unwrap_or, map, IfOk};
 ghost use Rattle.std.specs.List.{list_any};
 ghost use Rattle.ans_model.specs.Text.Words.{texts_of};
-ghost use Rattle.ans_mend.specs.MendedText.{mended_text, unmended_text};
-ghost use Rattle.ans_redraw_file.specs.RedrawnText.{redrawn_text, unredrawn_text};
 ghost use Rattle.ans_report.specs.Message.{message_line};
-ghost use Rattle.ans_table.specs.Counting.{counts_text};
+ghost use Rattle.ans_write.specs.Puts.{Puts};
 ghost use Rattle.ans_write.specs.Tried.{has_failed};
-ghost use Rattle.ans_check.specs.Answer.{EndsAfter, EndsAs, EndsBy, EndsMended, EndsNamed, EndsRedrawn, EndsRun};
-ghost use Rattle.ans_check.specs.Answer.{EndsSo, EndsWritten, IsNamed, PrintsHelp, Says, SaysMessage, Tells};
+ghost use Rattle.ans_check.specs.Answer.{EndsAfter, EndsAs, EndsBy, EndsNamed, EndsServed, EndsSo, EndsWritten};
+ghost use Rattle.ans_check.specs.Answer.{IsNamed, PrintsHelp, Says, Tells, said_text};
 ghost use Rattle.ans_check.specs.Answer.{TellsFailure};
 ghost use Rattle.ans_check.specs.Answer.{ending_of_table, meaning_text, names_standard};
-ghost use Rattle.ans_check.specs.Ending.{ending_of_words};
+ghost use Rattle.ans_check.specs.Ending.{ending_message, ending_of_words};
 ghost use Rattle.ans_check.specs.Listing.{is_whole, names_in, listed_bytes};
 ghost use Rattle.ans_check.specs.Table.{IsFoundByName};
 
@@ -21,76 +19,45 @@ use crate::errors::RunError;
 use crate::exit_status::Ending;
 use crate::inputs::Inputs;
 use crate::listing::Listing;
+use crate::redraw_file::Redrawing;
 use crate::rows::table;
-use crate::streams::{mend, redraw, serve};
-use ans_mend::{Mended, Unmended, put_mended, put_unmended};
-use ans_options::{Asked, Mends, Options, TableForm, Topic, WordsError, asked};
-use ans_redraw_file::{Redrawn, Unredrawn, put_redrawn, put_unredrawn};
+use crate::task::{Task, serve_task};
+use ans_mend::{put_mended, put_unmended};
+use ans_options::{Asked, TableForm, Topic, WordsError, asked};
+use ans_redraw_file::{put_redrawn, put_unredrawn};
 use ans_report::{Tried, fault_meaning, note_meaning, put_message};
 use ans_table::{Counts, put_counts};
 use ans_write::Outbox;
 use std::alloc::{AllocError, Global};
 use std::io::Write;
 
-/// Says how many files of a table came out how.
-fn say_counts<E: Write>(errors: &mut Tried<E>, counts: &Counts)
-    requires { has_failed errors.old ≡ false }
-    ensures { Tells E.contents errors.old errors.new (message_line (counts_text counts.now)) }
+/// Whether an ending says nothing on standard error.
+fn says_nothing(ending: &Ending) -> bool
+    ensures { result ≡ not (is_some (said_text ending.now)) }
 {
-    let mut out = Outbox::new(errors);
-    put_counts(&mut out, counts);
-    let _ = out.finish();
+    matches!(ending, Ending::Run(Ok(_)) | Ending::Help | Ending::Usage)
 }
 
-/// Says what was changed of a file that was mended.
-fn say_mended<E: Write>(errors: &mut Tried<E>, mended: &Mended)
-    requires { has_failed errors.old ≡ false }
-    ensures { Tells E.contents errors.old errors.new (mended_text mended.now) }
-{
-    let mut out = Outbox::new(errors);
-    put_mended(&mut out, mended);
-    let _ = out.finish();
-}
-
-/// Says why a file is not mended by what was asked for.
-fn say_unmended<E: Write>(errors: &mut Tried<E>, asked: &Mends, reason: &Unmended)
-    requires { has_failed errors.old ≡ false }
-    ensures { Tells E.contents errors.old errors.new (unmended_text asked.now reason.now) }
-{
-    let mut out = Outbox::new(errors);
-    put_unmended(&mut out, asked, reason);
-    let _ = out.finish();
-}
-
-/// Says what was changed of a file that was redrawn.
-fn say_redrawn<E: Write>(errors: &mut Tried<E>, redrawn: &Redrawn)
-    requires { has_failed errors.old ≡ false }
-    ensures { Tells E.contents errors.old errors.new (redrawn_text redrawn.now) }
-{
-    let mut out = Outbox::new(errors);
-    put_redrawn(&mut out, redrawn);
-    let _ = out.finish();
-}
-
-/// Says why a file is not redrawn.
-fn say_unredrawn<E: Write>(errors: &mut Tried<E>, reason: &Unredrawn)
-    requires { has_failed errors.old ≡ false }
-    ensures { Tells E.contents errors.old errors.new (unredrawn_text reason.now) }
-{
-    let mut out = Outbox::new(errors);
-    put_unredrawn(&mut out, reason);
-    let _ = out.finish();
-}
-
-/// Says `anscheck: ` and the ending's message, if it has one.
-fn say_message<E: Write>(errors: &mut Tried<E>, ending: Ending)
-    requires { has_failed errors.old ≡ false }
-    ensures { SaysMessage E.contents errors.old errors.new ending }
+/// Puts `anscheck: ` and the ending's message, if it has one.
+fn put_ending_message<E: Write>(out: &mut Outbox<'_, E>, ending: &Ending)
+    ensures { Puts E.contents out.old out.new (unwrap_or (option_map message_line (ending_message ending.now)) []) }
 {
     if let Some(text) = ending.message() {
-        let mut out = Outbox::new(errors);
-        put_message(&mut out, text);
-        let _ = out.finish();
+        put_message(out, text);
+    }
+}
+
+/// Puts what an ending says on standard error, if anything.
+fn put_said<E: Write>(out: &mut Outbox<'_, E>, ending: &Ending)
+    ensures { Puts E.contents out.old out.new (unwrap_or (said_text ending.now) []) }
+{
+    match ending {
+        Ending::Table(counts) => put_counts(out, counts),
+        Ending::Mended(mended) => put_mended(out, mended),
+        Ending::NotMended(asked, reason) => put_unmended(out, asked, reason),
+        Ending::Redrawn(redrawn) => put_redrawn(out, redrawn),
+        Ending::NotRedrawn(reason) => put_unredrawn(out, reason),
+        _ => put_ending_message(out, ending),
     }
 }
 
@@ -102,14 +69,12 @@ pub(crate) fn say<E: Write>(errors: &mut Tried<E>, ending: Ending)
     requires told { ending ≢ Ending.Usage }
     ensures { Says E.contents errors.old errors.new ending }
 {
-    match &ending {
-        Ending::Table(counts) => say_counts(errors, counts),
-        Ending::Mended(mended) => say_mended(errors, mended),
-        Ending::NotMended(asked, reason) => say_unmended(errors, asked, reason),
-        Ending::Redrawn(redrawn) => say_redrawn(errors, redrawn),
-        Ending::NotRedrawn(reason) => say_unredrawn(errors, reason),
-        _ => say_message(errors, ending),
+    if says_nothing(&ending) {
+        return;
     }
+    let mut out = Outbox::new(errors);
+    put_said(&mut out, &ending);
+    let _ = out.finish();
 }
 
 /// The input that the words name: standard input where they name none, or `-`. None where the file
@@ -293,63 +258,25 @@ fn serve_table<I: Inputs, W: Write>(
     serve_names(alloc, inputs, names, form, output)
 }
 
-/// Runs a command on the input that the words name.
-fn serve_one<I: Inputs, W: Write>(
+/// Does a task on the input that the words name.
+fn serve_one<T: Task, I: Inputs, W: Write>(
     alloc: Global,
     inputs: I,
-    options: &Options,
+    task: &T,
     name: &Option<String>,
     output: &mut Tried<W>,
 ) -> Ending
     requires { has_failed output.old ≡ false }
-    ensures ends { EndsRun I.Reader.remaining W.contents (I.is_file inputs) (I.is_standard inputs)
-        (I.is_missing inputs) options.now (option_map string_bytes name.now) output.old output.new result }
+    ensures ends { EndsServed I.Reader.remaining W.contents (I.is_file inputs) (I.is_standard inputs)
+        (I.is_missing inputs) (T.tells task.now) (T.ending_of task.now) (option_map string_bytes name.now)
+        output.old output.new result }
     ensures write { TellsFailure output.new result }
 {
     let Some(input) = input_named(inputs, name) else {
         return Ending::UnopenedFile;
     };
     let mut reader = Tried::new(input);
-    Ending::Run(serve(alloc, &mut reader, output, options))
-}
-
-/// Mends the file that the words name, and writes it.
-fn serve_mend<I: Inputs, W: Write>(
-    alloc: Global,
-    inputs: I,
-    mends: &Mends,
-    name: &Option<String>,
-    output: &mut Tried<W>,
-) -> Ending
-    requires { has_failed output.old ≡ false }
-    ensures ends { EndsMended I.Reader.remaining W.contents (I.is_file inputs) (I.is_standard inputs)
-        (I.is_missing inputs) mends.now (option_map string_bytes name.now) output.old output.new result }
-    ensures write { TellsFailure output.new result }
-{
-    let Some(input) = input_named(inputs, name) else {
-        return Ending::UnopenedFile;
-    };
-    let mut reader = Tried::new(input);
-    Ending::of_mending(mends, &mend(alloc, &mut reader, output, mends))
-}
-
-/// Redraws the file that the words name, and writes it.
-fn serve_redraw<I: Inputs, W: Write>(
-    alloc: Global,
-    inputs: I,
-    name: &Option<String>,
-    output: &mut Tried<W>,
-) -> Ending
-    requires { has_failed output.old ≡ false }
-    ensures ends { EndsRedrawn I.Reader.remaining W.contents (I.is_file inputs) (I.is_standard inputs)
-        (I.is_missing inputs) (option_map string_bytes name.now) output.old output.new result }
-    ensures write { TellsFailure output.new result }
-{
-    let Some(input) = input_named(inputs, name) else {
-        return Ending::UnopenedFile;
-    };
-    let mut reader = Tried::new(input);
-    Ending::of_redrawing(&redraw(alloc, &mut reader, output))
+    task.ending(&serve_task(alloc, &mut reader, output, task))
 }
 
 /// What a fault or a note means, and how it is mended.
@@ -376,8 +303,8 @@ fn serve_asked<I: Inputs, W: Write>(
 {
     match asked {
         Asked::One(options, name) => serve_one(alloc, inputs, options, name, output),
-        Asked::Mend(mends, name) => serve_mend(alloc, inputs, mends, name, output),
-        Asked::Redraw(name) => serve_redraw(alloc, inputs, name, output),
+        Asked::Mend(mends, name) => serve_one(alloc, inputs, mends, name, output),
+        Asked::Redraw(name) => serve_one(alloc, inputs, &Redrawing, name, output),
         Asked::Table(form, names) => serve_table(alloc, inputs, names.as_slice(), *form, output),
         Asked::Meaning(topic) => print_help(output, meaning_text(*topic)),
     }

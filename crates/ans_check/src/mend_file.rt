@@ -1,25 +1,24 @@
-//! A file that is read to be mended, and what is written of it.
-ghost use Rattle.std.specs.Prelude.{◌≡◌, ◌+◌, ◌*◌, ◌≤◌, ◌++◌, false, length, take};
+//! What is written of a file that is to be mended.
+ghost use Rattle.std.specs.Prelude.{◌≡◌, ◌+◌, ◌*◌, ◌≤◌, ◌++◌, length, take};
 ghost use Rattle.ans_model.specs.Bytes.{longest_file};
 ghost use Rattle.ans_write.specs.Puts.{Puts};
-ghost use Rattle.ans_write.specs.Tried.{has_failed};
-ghost use Rattle.ans_check.specs.Mending.{front_bytes};
-ghost use Rattle.ans_check.specs.MendingRoom.{most_names, most_put};
-ghost use Rattle.ans_check.specs.Reported.{PutsMended};
-ghost use Rattle.ans_check.specs.Served.{ServesMended, mended_bytes};
+ghost use Rattle.ans_mend.specs.Mending.{front_bytes};
+ghost use Rattle.ans_mend.specs.MendingRoom.{most_names, most_put};
+ghost use Rattle.ans_check.specs.Ending.{ending_of_mending};
+ghost use Rattle.ans_check.specs.Reported.{PutsTold};
+ghost use Rattle.ans_mend.specs.Mending.{TellsMended, mended_bytes};
 
 use crate::errors::RunError;
-use crate::mend_steps::mend_on;
-use crate::reading::read_all;
-use crate::screens::KeptScreens;
-use ans_mend::{Draft, Mended, Unmended, count_line_feeds};
+use crate::exit_status::Ending;
+use crate::task::Task;
+use ans_mend::{Draft, Mended, Unmended, count_line_feeds, mend_on};
 use ans_model::limits::MAX_FILE;
 use ans_options::Mends;
-use ans_report::{Tried, WriteFault};
+use ans_verdict::KeptScreens;
 use ans_walks::SAFE_BEGINNING;
 use ans_write::Outbox;
 use std::alloc::{AllocError, Global};
-use std::io::{Read, Write};
+use std::io::Write;
 
 /// How many bytes a record takes with its end mark, and an end mark behind the content.
 const RECORD_ROOM: usize = 130;
@@ -88,7 +87,7 @@ fn mend_in<W: Write>(
 ) -> Result<Result<Mended, Unmended>, AllocError>
     requires within { count + most_put mends.now (take count memory.old) ≤ length memory.old }
     requires length { count ≤ longest_file }
-    ensures { PutsMended W.contents mends.now (take count memory.old) out.old out.new result }
+    ensures { PutsTold W.contents (TellsMended mends.now (take count memory.old)) out.old out.new result }
 {
     let mut draft = Draft::new(memory, count);
     let answer = mend_on(&mut KeptScreens::new(alloc), &mut draft, mends)?;
@@ -104,7 +103,7 @@ fn mend_file<W: Write>(
     mends: &Mends,
 ) -> Result<Result<Mended, Unmended>, AllocError>
     requires { length file.items ≤ longest_file }
-    ensures { PutsMended W.contents mends.now file.items out.old out.new result }
+    ensures { PutsTold W.contents (TellsMended mends.now file.items) out.old out.new result }
 {
     let count = file.len();
     let room = room_for(file.as_slice(), mends);
@@ -112,25 +111,27 @@ fn mend_file<W: Write>(
     mend_in(alloc, out, file.as_mut_slice(), count, mends)
 }
 
-/// Reads the whole input, mends it, and writes the mended file. Nothing is written before it is known to
-/// pass from every start.
-pub(crate) fn run_mend<R: Read, W: Write>(
-    alloc: Global,
-    reader: &mut Tried<R>,
-    writer: &mut Tried<W>,
-    mends: &Mends,
-) -> Result<Result<Mended, Unmended>, RunError>
-    requires reads { has_failed reader.old ≡ false }
-    requires writes { has_failed writer.old ≡ false }
-    ensures { ServesMended R.remaining W.contents mends.now reader.old reader.new writer.old writer.new result }
-{
-    let file = read_all(alloc, reader)?;
-    let mut out = Outbox::new(writer);
-    let Ok(answer) = mend_file(alloc, &mut out, file, mends) else {
-        return Err(RunError::Memory);
-    };
-    match out.finish() {
-        Ok(()) => Ok(answer),
-        Err(WriteFault) => Err(RunError::Write),
+impl Task for Mends {
+    ghost use Rattle.std.proofs.Common.{rules};
+
+    type Answer = Result<Mended, Unmended>;
+
+    ghost tells = { TellsMended };
+
+    ghost ending_of = { ending_of_mending };
+
+    fn put<W: Write>(
+        &self,
+        alloc: Global,
+        out: &mut Outbox<'_, W>,
+        file: Vec<u8>,
+    ) -> Result<Result<Mended, Unmended>, AllocError> {
+        mend_file(alloc, out, file, self)
     }
+
+    fn ending(&self, answer: &Result<Result<Mended, Unmended>, RunError>) -> Ending {
+        Ending::of_mending(self, answer)
+    }
+
+    ghost fails = { Prim.search rules };
 }

@@ -4,27 +4,26 @@ ghost use Rattle.ans_model.specs.Bytes.{longest_file};
 ghost use Rattle.ans_sauce.specs.Parts.{record_of};
 ghost use Rattle.ans_write.specs.Tried.{has_failed};
 ghost use Rattle.ans_write.specs.Puts.{Puts};
-ghost use Rattle.ans_check.specs.CommandText.{Reports, ReportsCheck, ReportsNeeds, ReportsSauce, ReportsShow};
-ghost use Rattle.ans_check.specs.CommandText.{ReportsTokens, ReportsWhy, IsReportOf, shown_text};
-ghost use Rattle.ans_check.specs.FileVerdict.{fault_of};
-ghost use Rattle.ans_check.specs.Reported.{IsPut, PutsReport};
+ghost use Rattle.ans_check.specs.CommandText.{Reports, ReportsCheck, ReportsNeeds, ReportsShow};
+ghost use Rattle.ans_report.specs.RecordReports.{ReportsSauce};
+ghost use Rattle.ans_check.specs.CommandText.{ReportsTokens, IsReportOf, shown_text};
+ghost use Rattle.ans_why.specs.WhyText.{ReportsWhy};
+ghost use Rattle.ans_verdict.specs.FileVerdict.{fault_of};
+ghost use Rattle.ans_check.specs.Reported.{IsPut, PutsTold};
 ghost use Rattle.ans_check.specs.Served.{Serves};
+ghost use Rattle.ans_check.specs.declared.exit_status.Ending.TheVariants.{Run};
 
 use crate::errors::RunError;
-use crate::parts_needed::needs_on;
-use crate::reading::read_all;
-use crate::screens::KeptScreens;
-use crate::verdict::{Verdict, check};
-use crate::why::why_on;
+use crate::exit_status::Ending;
+use crate::task::{Task, run_task};
 use ans_model::start::Start;
 use ans_options::{Command, Form, Options};
 use ans_play::Picture;
-use ans_report::{
-    Report, Tried, WriteFault, put_needs, put_record, put_refusal, put_report, put_tokens,
-};
+use ans_report::{Report, Tried, put_needs, put_record, put_refusal, put_report, put_tokens};
 use ans_sauce::{Parts, split};
 use ans_screen::{PlaneGrid, Screen};
 use ans_show::{put_page, put_terminal};
+use ans_verdict::{KeptScreens, Verdict, check, needs_on, why_on};
 use ans_why::put_why;
 use ans_write::Outbox;
 use std::alloc::{AllocError, Global};
@@ -65,7 +64,7 @@ fn tell_verdict<W: Write>(
     cells: bool,
 ) -> Result<bool, AllocError>
     requires { length file.now ≤ longest_file }
-    ensures { PutsReport W.contents (ReportsCheck file.now start cells) out.old out.new result }
+    ensures { PutsTold W.contents (ReportsCheck file.now start cells) out.old out.new result }
 {
     let verdict = check::<PlaneGrid>(alloc, file, start)?;
     put_report(out, &report_of(&verdict, start, cells));
@@ -100,7 +99,7 @@ fn tell_picture<W: Write>(
     form: Form,
 ) -> Result<bool, AllocError>
     requires { length file.now ≤ longest_file }
-    ensures { PutsReport W.contents (ReportsShow file.now start form) out.old out.new result }
+    ensures { PutsTold W.contents (ReportsShow file.now start form) out.old out.new result }
 {
     let verdict = check::<PlaneGrid>(alloc, file, start)?;
     match &verdict {
@@ -148,7 +147,7 @@ fn tell_needs<W: Write>(
     file: &[u8],
 ) -> Result<bool, AllocError>
     requires { length file.now ≤ longest_file }
-    ensures { PutsReport W.contents (ReportsNeeds file.now) out.old out.new result }
+    ensures { PutsTold W.contents (ReportsNeeds file.now) out.old out.new result }
 {
     let found = needs_on(&mut KeptScreens::new(alloc), file)?;
     put_needs(out, &found);
@@ -162,7 +161,7 @@ fn tell_why<W: Write>(
     file: &[u8],
 ) -> Result<bool, AllocError>
     requires { length file.now ≤ longest_file }
-    ensures { PutsReport W.contents (ReportsWhy file.now) out.old out.new result }
+    ensures { PutsTold W.contents (ReportsWhy file.now) out.old out.new result }
 {
     let why = why_on(&mut KeptScreens::new(alloc), file)?;
     put_why(out, &why);
@@ -177,7 +176,7 @@ fn run_command<W: Write>(
     options: &Options,
 ) -> Result<bool, AllocError>
     requires { length file.now ≤ longest_file }
-    ensures { PutsReport W.contents (Reports options.now file.now) out.old out.new result }
+    ensures { PutsTold W.contents (Reports options.now file.now) out.old out.new result }
 {
     match options.command {
         Command::Why => tell_why(alloc, out, file),
@@ -189,6 +188,31 @@ fn run_command<W: Write>(
         // of the one input here what it needs is told
         Command::Table(_) | Command::Mend(_) | Command::Redraw => tell_needs(alloc, out, file),
     }
+}
+
+impl Task for Options {
+    ghost use Rattle.std.proofs.Common.{rules};
+
+    type Answer = bool;
+
+    ghost tells = { Reports };
+
+    ghost ending_of = { λ _. Run };
+
+    fn put<W: Write>(
+        &self,
+        alloc: Global,
+        out: &mut Outbox<'_, W>,
+        file: Vec<u8>,
+    ) -> Result<bool, AllocError> {
+        run_command(alloc, out, file.as_slice(), self)
+    }
+
+    fn ending(&self, answer: &Result<bool, RunError>) -> Ending {
+        Ending::Run(*answer)
+    }
+
+    ghost fails = { Prim.search rules };
 }
 
 /// Reads the whole input, and writes what the options ask of it: the report of a check, the picture
@@ -215,13 +239,5 @@ pub fn run<R: Read, W: Write>(
     requires writes { has_failed writer.old ≡ false }
     ensures { Serves R.remaining W.contents options.now reader.old reader.new writer.old writer.new result }
 {
-    let file = read_all(alloc, reader)?;
-    let mut out = Outbox::new(writer);
-    let Ok(passed) = run_command(alloc, &mut out, file.as_slice(), options) else {
-        return Err(RunError::Memory);
-    };
-    match out.finish() {
-        Ok(()) => Ok(passed),
-        Err(WriteFault) => Err(RunError::Write),
-    }
+    run_task(alloc, reader, writer, options)
 }

@@ -1,27 +1,27 @@
-//! A file that is read to be redrawn, and what is written of it.
+//! What is written of a file that is to be redrawn.
 
-ghost use Rattle.std.specs.Prelude.{◌≡◌, ◌+◌, ◌≤◌, false, length};
+ghost use Rattle.std.specs.Prelude.{◌≤◌, length, Ok};
 ghost use Rattle.ans_model.specs.Bytes.{longest_file};
 ghost use Rattle.ans_model.specs.Screen.StartClass.{all_known};
 ghost use Rattle.ans_model.specs.Verdict.Good.{GoodWith};
 ghost use Rattle.ans_sauce.specs.Parts.{content_of, size_of};
 ghost use Rattle.ans_sauce.specs.Split.{IsSplit};
-ghost use Rattle.ans_write.specs.Tried.{has_failed};
-ghost use Rattle.ans_check.specs.Reported.{PutsRedrawn};
-ghost use Rattle.ans_check.specs.Served.{ServesRedrawn};
+ghost use Rattle.ans_redraw_file.specs.Redrawing.{TellsRedrawn};
+ghost use Rattle.ans_check.specs.Ending.{ending_of_redrawing};
+ghost use Rattle.ans_check.specs.Reported.{PutsTold};
 
 use crate::errors::RunError;
-use crate::reading::read_all;
-use crate::verdict::{Verdict, check};
+use crate::exit_status::Ending;
+use crate::task::Task;
 use ans_model::start::Start;
 use ans_play::Picture;
 use ans_redraw_file::{Redrawn, Unredrawn, put_redrawn_file, redrawn_with};
-use ans_report::{Tried, WriteFault};
 use ans_sauce::Parts;
 use ans_screen::{PlaneGrid, Screen};
+use ans_verdict::{Verdict, check};
 use ans_write::Outbox;
 use std::alloc::{AllocError, Global};
-use std::io::{Read, Write};
+use std::io::Write;
 
 /// Puts the file redrawn with the picture that it shows from the cleared start, where it has room for it.
 fn put_with_picture<W: Write, G: Screen>(
@@ -33,7 +33,7 @@ fn put_with_picture<W: Write, G: Screen>(
     requires length { length file.now ≤ longest_file }
     requires split { IsSplit file.now parts.now }
     requires good { GoodWith (size_of parts.now) all_known (content_of parts.now) picture.now }
-    ensures { PutsRedrawn W.contents file.now out.old out.new (Ok result) }
+    ensures { PutsTold W.contents (TellsRedrawn file.now) out.old out.new (Ok result) }
 {
     let redrawn = redrawn_with(file, parts, picture)?;
     put_redrawn_file(out, file, parts, picture, &redrawn);
@@ -47,7 +47,7 @@ fn redraw_file<W: Write>(
     file: &[u8],
 ) -> Result<Result<Redrawn, Unredrawn>, AllocError>
     requires { length file.now ≤ longest_file }
-    ensures { PutsRedrawn W.contents file.now out.old out.new result }
+    ensures { PutsTold W.contents (TellsRedrawn file.now) out.old out.new result }
 {
     let verdict = check::<PlaneGrid>(alloc, file, Start::CLEARED)?;
     match &verdict {
@@ -56,23 +56,30 @@ fn redraw_file<W: Write>(
     }
 }
 
-/// Reads the whole input, redraws it, and writes the redrawn file. Nothing is written before its length is known.
-pub(crate) fn run_redraw<R: Read, W: Write>(
-    alloc: Global,
-    reader: &mut Tried<R>,
-    writer: &mut Tried<W>,
-) -> Result<Result<Redrawn, Unredrawn>, RunError>
-    requires reads { has_failed reader.old ≡ false }
-    requires writes { has_failed writer.old ≡ false }
-    ensures { ServesRedrawn R.remaining W.contents reader.old reader.new writer.old writer.new result }
-{
-    let file = read_all(alloc, reader)?;
-    let mut out = Outbox::new(writer);
-    let Ok(answer) = redraw_file(alloc, &mut out, file.as_slice()) else {
-        return Err(RunError::Memory);
-    };
-    match out.finish() {
-        Ok(()) => Ok(answer),
-        Err(WriteFault) => Err(RunError::Write),
+/// A file is to be redrawn.
+pub(crate) struct Redrawing;
+
+impl Task for Redrawing {
+    ghost use Rattle.std.proofs.Common.{rules};
+
+    type Answer = Result<Redrawn, Unredrawn>;
+
+    ghost tells = { λ _. TellsRedrawn };
+
+    ghost ending_of = { λ _. ending_of_redrawing };
+
+    fn put<W: Write>(
+        &self,
+        alloc: Global,
+        out: &mut Outbox<'_, W>,
+        file: Vec<u8>,
+    ) -> Result<Result<Redrawn, Unredrawn>, AllocError> {
+        redraw_file(alloc, out, file.as_slice())
     }
+
+    fn ending(&self, answer: &Result<Result<Redrawn, Unredrawn>, RunError>) -> Ending {
+        Ending::of_redrawing(answer)
+    }
+
+    ghost fails = { Prim.search rules };
 }

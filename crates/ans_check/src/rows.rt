@@ -6,15 +6,13 @@ ghost use Rattle.ans_model.specs.Text.Words.{texts_of};
 ghost use Rattle.ans_write.specs.Puts.{Puts, device_of};
 ghost use Rattle.ans_write.specs.Tried.{has_failed};
 ghost use Rattle.ans_table.specs.Findings.{IsFindingOf, outcome_of};
-ghost use Rattle.ans_check.specs.FileNeeds.{IsNeedsOf};
+ghost use Rattle.ans_verdict.specs.FileNeeds.{IsNeedsOf};
 ghost use Rattle.ans_check.specs.Rows.{EndsRows, IsReady, PutsRow, WritesOut, WritesRow};
 ghost use Rattle.ans_check.specs.Table.{IsFoundByName, MayBeFoundIn, MayEndTable, WritesTable, header, row_in};
 
 use crate::errors::RunError;
 use crate::inputs::Inputs;
-use crate::parts_needed::needs_on;
 use crate::reading::read_all;
-use crate::screens::KeptScreens;
 use ans_options::TableForm;
 use ans_report::{Needs, Tried, WriteFault};
 use ans_sauce::Judged;
@@ -22,6 +20,7 @@ use ans_table::{
     Counts, FaultFinding, Finding, Outcome, PassFinding, RecordFinding, RowFinding, Unread,
     json_row, put_header, put_line, put_row,
 };
+use ans_verdict::{KeptScreens, needs_on};
 use ans_write::Outbox;
 use std::alloc::{AllocError, Global};
 use std::io::Write;

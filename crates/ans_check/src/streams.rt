@@ -2,16 +2,17 @@
 
 ghost use Rattle.std.specs.Prelude.{◌≡◌, false};
 ghost use Rattle.ans_write.specs.Tried.{has_failed};
-ghost use Rattle.ans_check.specs.Served.{Serves, ServesMended, ServesRedrawn};
+ghost use Rattle.ans_redraw_file.specs.Redrawing.{TellsRedrawn};
+ghost use Rattle.ans_check.specs.Served.{Serves, ServesAs};
+ghost use Rattle.ans_mend.specs.Mending.{TellsMended};
 
 use crate::errors::RunError;
-use crate::mend_file::run_mend;
-use crate::pipeline::run;
-use crate::redraw_file::run_redraw;
+use crate::redraw_file::Redrawing;
+use crate::task::serve_task;
 use ans_mend::{Mended, Unmended};
 use ans_options::{Mends, Options};
 use ans_redraw_file::{Redrawn, Unredrawn};
-use ans_report::{DeviceFault, Tried};
+use ans_report::Tried;
 use std::alloc::Global;
 use std::io::{Read, Write};
 
@@ -29,11 +30,7 @@ pub fn serve<R: Read, W: Write>(
     requires writes { has_failed writer.old ≡ false }
     ensures { Serves R.remaining W.contents options.now reader.old reader.new writer.old writer.new result }
 {
-    let passed = run(alloc, reader, writer, options)?;
-    if writer.flush().is_err() {
-        return Err(RunError::Write);
-    }
-    Ok(passed)
+    serve_task(alloc, reader, writer, options)
 }
 
 /// Reads the whole input, mends it, and writes the mended file, of which the writer then hands on what it
@@ -53,13 +50,10 @@ pub fn mend<R: Read, W: Write>(
 ) -> Result<Result<Mended, Unmended>, RunError>
     requires reads { has_failed reader.old ≡ false }
     requires writes { has_failed writer.old ≡ false }
-    ensures { ServesMended R.remaining W.contents mends.now reader.old reader.new writer.old writer.new result }
+    ensures { ServesAs R.remaining W.contents (TellsMended mends.now) reader.old reader.new writer.old writer.new
+        result }
 {
-    let answer = run_mend(alloc, reader, writer, mends)?;
-    match writer.flush() {
-        Ok(()) => Ok(answer),
-        Err(DeviceFault) => Err(RunError::Write),
-    }
+    serve_task(alloc, reader, writer, mends)
 }
 
 /// Reads the whole input, redraws it, and writes the redrawn file, of which the writer then hands on what it
@@ -79,11 +73,7 @@ pub fn redraw<R: Read, W: Write>(
 ) -> Result<Result<Redrawn, Unredrawn>, RunError>
     requires reads { has_failed reader.old ≡ false }
     requires writes { has_failed writer.old ≡ false }
-    ensures { ServesRedrawn R.remaining W.contents reader.old reader.new writer.old writer.new result }
+    ensures { ServesAs R.remaining W.contents TellsRedrawn reader.old reader.new writer.old writer.new result }
 {
-    let answer = run_redraw(alloc, reader, writer)?;
-    match writer.flush() {
-        Ok(()) => Ok(answer),
-        Err(DeviceFault) => Err(RunError::Write),
-    }
+    serve_task(alloc, reader, writer, &Redrawing)
 }

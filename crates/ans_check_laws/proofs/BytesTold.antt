@@ -15,7 +15,7 @@ use Rattle.ans_sauce.specs.Found.{body_in, front_in, record_in}
 use Rattle.ans_forms.specs.declared.kinds.Before.{Before}
 use Rattle.ans_forms.specs.declared.kinds.TheConstants.Before as before
 use Rattle.ans_mend.specs.Contents.{content_in, with_content}
-use Rattle.ans_mend.specs.Fields.{two_bytes, with_lines, with_record}
+use Rattle.ans_sauce.specs.Fields.{two_bytes, with_lines, with_record}
 use Rattle.ans_mend.specs.LineEnds.{wants_returns, with_line_ends, with_returns}
 use Rattle.ans_mend.specs.MendedText.{mended_text}
 use Rattle.ans_mend.specs.NewRecord.{new_record, takes_record, with_new_record}
@@ -25,8 +25,8 @@ use Rattle.ans_mend.specs.TakingOut.{one_more, told_with}
 use Rattle.ans_mend.specs.declared.outcome.Mended.{Mended}
 use Rattle.ans_mend.specs.declared.taking_out.TakenOut.{TakenOut}
 use Rattle.ans_mend.specs.declared.taking_out.Told.{Told}
-use Rattle.ans_options.specs.declared.command.Mends.{Mends}
-use Rattle.ans_check.specs.Mending.{IsMended, first_lines, lacks_lines, opened, returned}
+use Rattle.ans_model.specs.declared.mends.Mends.{Mends}
+use Rattle.ans_mend.specs.Mending.{IsMended, first_lines, lacks_lines, opened, returned}
 use Rattle.ans_check_laws.specs.CleanTexts.{IsCleanText}
 use Rattle.ans_check_laws.proofs.CleanPieces.{all_left, all_right}
 use Rattle.ans_check_laws.proofs.CleanMended.{QuotesBytes, mended_clean}

@@ -11,7 +11,7 @@ use Rattle.ans_mend.specs.declared.outcome.Mended.{Mended}
 use Rattle.ans_mend.specs.declared.outcome.Unmended.{Unmended}
 use Rattle.ans_mend.specs.declared.outcome.Unmended.TheVariants as unmended
 use Rattle.ans_mend.specs.declared.taking_out.TakenOut.{TakenOut}
-use Rattle.ans_options.specs.declared.command.Mends.{Mends}
+use Rattle.ans_model.specs.declared.mends.Mends.{Mends}
 use Rattle.ans_check_laws.specs.CleanTexts.{IsCleanText}
 use Rattle.ans_check_laws.proofs.CleanLines.{clean_lines}
 use Rattle.ans_check_laws.proofs.CleanPieces.{AreBytes, clean_append, clean_bool, clean_nil, clean_option, of_each}

@@ -24,8 +24,10 @@ use Rattle.ans_options.specs.declared.command.Form.{Form}
 use Rattle.ans_options.specs.declared.command.Form.TheVariants.{Terminal, Vga, Page}
 use Rattle.ans_options.specs.declared.command.Options.{Options}
 use Rattle.ans_report.specs.Message.{message_line}
-use Rattle.ans_check.specs.CommandText.{Reports, ReportsBy, ReportsCheck, ReportsNeeds, ReportsRecordFault}
-use Rattle.ans_check.specs.CommandText.{ReportsSauce, ReportsShow, ReportsTokens, heading}
+use Rattle.ans_check.specs.CommandText.{Reports, ReportsBy, ReportsCheck, ReportsNeeds}
+use Rattle.ans_report.specs.RecordReports.{ReportsRecordFault}
+use Rattle.ans_check.specs.CommandText.{ReportsShow, ReportsTokens, heading}
+use Rattle.ans_report.specs.RecordReports.{ReportsSauce}
 use Rattle.ans_check.specs.Ending.{ending_message}
 use Rattle.ans_check.specs.declared.errors.RunError.{RunError}
 use Rattle.ans_check.specs.declared.errors.RunError.TheVariants as error

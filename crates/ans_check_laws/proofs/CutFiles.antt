@@ -16,7 +16,7 @@ use Rattle.ans_sauce.specs.Found.{body_in, front_in, record_in}
 use Rattle.ans_mend.specs.Contents.{content_in, with_content}
 use Rattle.ans_mend.specs.Drafts.{with_byte}
 use Rattle.ans_mend.specs.EndMark.{lacks_end_mark, with_end_mark}
-use Rattle.ans_mend.specs.Fields.{two_bytes, with_lines, with_record}
+use Rattle.ans_sauce.specs.Fields.{two_bytes, with_lines, with_record}
 use Rattle.ans_mend.specs.LineEnds.{wants_returns, with_line_ends, with_returns}
 use Rattle.ans_check_laws.proofs.MarkedContents.{content_marked, unmarked}
 use Rattle.ans_check_laws.proofs.ReturnsPut.{put_unmarked, put_wants_none}

@@ -18,7 +18,7 @@ use Rattle.ans_forms.specs.declared.kinds.TheConstants.Before as before
 use Rattle.ans_forms.proofs.OneGoing.{goes_or_not, one_goes_first}
 use Rattle.ans_walks.specs.FullRowEnds.{full_row_ends, without_ends}
 use Rattle.ans_walks.specs.Hints.{are_torn}
-use Rattle.ans_walks.specs.LastEnds.{LeavesMost}
+use Rattle.ans_mend.specs.LastEnds.{LeavesMost}
 use Rattle.ans_walks.specs.Lines.{IsLeastLines}
 use Rattle.ans_walks.specs.declared.hints.Hints.{Hints}
 use Rattle.ans_walks.specs.declared.times.Times.{Times}
@@ -30,11 +30,11 @@ use Rattle.ans_mend.specs.Tail.{IsTailCut}
 use Rattle.ans_mend.specs.TakingOut.{AreTakenOut, Gone, TakesOut, TakesOutOf, flagged, nothing_told, told_of}
 use Rattle.ans_mend.specs.declared.outcome.Edits.{Edits}
 use Rattle.ans_mend.specs.declared.taking_out.Told.{Told}
-use Rattle.ans_options.specs.declared.command.Mends.{Mends}
+use Rattle.ans_model.specs.declared.mends.Mends.{Mends}
 use Rattle.ans_why.specs.Explained.{AreHintsOf}
-use Rattle.ans_check.specs.Mending.{AreLastEndsGone, AreLinesFor, AreNamed, AreRowsJoined}
-use Rattle.ans_check.specs.Mending.{AsksForLeast, HasLeast, IsAskedNumber, IsEdited, KeepsLines, TakesLines}
-use Rattle.ans_check.specs.Mending.{asks_for_lines, returned}
+use Rattle.ans_mend.specs.Mending.{AreLastEndsGone, AreLinesFor, AreNamed, AreRowsJoined}
+use Rattle.ans_mend.specs.Mending.{AsksForLeast, HasLeast, IsAskedNumber, IsEdited, KeepsLines, TakesLines}
+use Rattle.ans_mend.specs.Mending.{asks_for_lines, returned}
 
 -- ---- the tail
 

@@ -31,3 +31,4 @@ pub mod RedrawnPictures
 pub mod RedrawnShown
 pub mod UnredrawnFiles
 pub mod OnePicture
+mod BegunFiles

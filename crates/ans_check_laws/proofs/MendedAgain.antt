@@ -20,7 +20,7 @@ use Rattle.ans_forms.specs.declared.kinds.TheConstants.Before as before
 use Rattle.ans_walks.specs.declared.times.Times.{Times}
 use Rattle.ans_mend.specs.Contents.{content_in, with_content}
 use Rattle.ans_mend.specs.EndMark.{with_end_mark}
-use Rattle.ans_mend.specs.Fields.{with_lines, with_record}
+use Rattle.ans_sauce.specs.Fields.{with_lines, with_record}
 use Rattle.ans_mend.specs.LastEnds.{AreLastEndsOut, HasFewerEnds}
 use Rattle.ans_mend.specs.LineEnds.{wants_returns, with_line_ends, with_returns}
 use Rattle.ans_mend.specs.NamedColours.{AreColoursNamed, HasNamedColours}
@@ -29,10 +29,10 @@ use Rattle.ans_mend.specs.Tail.{is_tail_byte}
 use Rattle.ans_mend.specs.TakingOut.{AreTakenOut, Gone, TakesOutOf, flagged, nothing_told, told_of}
 use Rattle.ans_mend.specs.declared.taking_out.Told.{Told}
 use Rattle.ans_mend.specs.declared.outcome.Mended.{Mended}
-use Rattle.ans_options.specs.declared.command.Mends.{Mends}
-use Rattle.ans_check.specs.Mending.{AreLastEndsGone, AreLinesFor, AreNamed, AreSequencesOut, IsEditedAsStated}
-use Rattle.ans_check.specs.Mending.{IsMended, PassesAsStated, asks_for_lines, first_lines, lacks_lines, lined}
-use Rattle.ans_check.specs.Mending.{TakesLines, opened, recorded, returned}
+use Rattle.ans_model.specs.declared.mends.Mends.{Mends}
+use Rattle.ans_mend.specs.Mending.{AreLastEndsGone, AreLinesFor, AreNamed, AreSequencesOut, IsEditedAsStated}
+use Rattle.ans_mend.specs.Mending.{IsMended, PassesAsStated, asks_for_lines, first_lines, lacks_lines, lined}
+use Rattle.ans_mend.specs.Mending.{TakesLines, opened, recorded, returned}
 use Rattle.ans_check_laws.proofs.NothingGone.{all_left, nothing_gone}
 use Rattle.ans_check_laws.proofs.WholeFiles.{nothing_cut}
 

@@ -14,19 +14,19 @@ use Rattle.ans_sauce.specs.Found.{front_in, record_in}
 use Rattle.ans_sauce.specs.Judged.{IsRecordFault}
 use Rattle.ans_sauce.proofs.LaidParts.{laid_record}
 use Rattle.ans_walks.specs.Mend.{mending}
-use Rattle.ans_walks.specs.MendedFile.{with_file_size}
-use Rattle.ans_walks.proofs.MendedFiles.{resized_accepted, resized_size}
+use Rattle.ans_sauce.specs.Fields.{with_file_size}
+use Rattle.ans_sauce.proofs.ResizedFiles.{resized_accepted, resized_size}
 use Rattle.ans_mend.specs.Contents.{content_in}
 use Rattle.ans_mend.specs.EndMark.{with_end_mark}
 use Rattle.ans_mend.specs.declared.outcome.Mended.{Mended}
 use Rattle.ans_mend.specs.declared.outcome.Unmended.{Unmended}
 use Rattle.ans_mend.specs.declared.outcome.Unmended.TheVariants.{Refused, TakesNoRecord, Torn, NoLines, TooLong}
-use Rattle.ans_options.specs.declared.command.Mends.{Mends}
-use Rattle.ans_check.specs.Mending.{AreLinesFor, AsksForLeast, IsMended, IsRead, IsReason}
-use Rattle.ans_check.specs.Mending.{IsReasonFor, IsReasonOfContent, IsReasonOfEdited, IsReasonOfLines, IsSettled}
-use Rattle.ans_check.specs.Mending.{IsWithoutNumber, KeepsLines, TakesLines, WantsLines, WantsMending, asked_for}
-use Rattle.ans_check.specs.Mending.{front_bytes, lacks_lines, lined, opened, recorded}
-use Rattle.ans_check.proofs.VerdictLemmas.{not_good}
+use Rattle.ans_model.specs.declared.mends.Mends.{Mends}
+use Rattle.ans_mend.specs.Mending.{AreLinesFor, AsksForLeast, IsMended, IsRead, IsReason}
+use Rattle.ans_mend.specs.Mending.{IsReasonFor, IsReasonOfContent, IsReasonOfEdited, IsReasonOfLines, IsSettled}
+use Rattle.ans_mend.specs.Mending.{IsWithoutNumber, KeepsLines, TakesLines, WantsLines, WantsMending, asked_for}
+use Rattle.ans_mend.specs.Mending.{front_bytes, lacks_lines, lined, opened, recorded}
+use Rattle.ans_verdict.proofs.VerdictLemmas.{not_good}
 use Rattle.ans_check_laws.proofs.EditedOnce.{least_asks, none_or_some, one_cut, one_edited, one_lines, one_torn}
 use Rattle.ans_check_laws.proofs.MendedTwice.{its_record}
 use Rattle.ans_check_laws.proofs.WholeFiles.{accepted_long}

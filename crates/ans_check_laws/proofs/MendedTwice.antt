@@ -16,8 +16,8 @@ use Rattle.ans_model.specs.Sequence.Reads.{Reads}
 use Rattle.ans_players.specs.Situations.{spelled}
 use Rattle.ans_sauce.specs.Found.{body_in, front_in, record_in}
 use Rattle.ans_sauce.proofs.LaidParts.{laid_body, laid_record}
-use Rattle.ans_walks.specs.MendedFile.{four_bytes, with_file_size}
-use Rattle.ans_walks.proofs.MendedFiles.{resized_file_size}
+use Rattle.ans_sauce.specs.Fields.{four_bytes, with_file_size}
+use Rattle.ans_sauce.proofs.ResizedFiles.{resized_again, resized_file_size}
 use Rattle.ans_walks.specs.Mend.{mending}
 use Rattle.ans_walks.specs.declared.times.Times.{Times}
 use Rattle.ans_walks.specs.SaidOfPlayers.{IsSameWhereCleared}
@@ -27,9 +27,9 @@ use Rattle.ans_mend.specs.EndMark.{with_end_mark}
 use Rattle.ans_mend.specs.LineEnds.{wants_returns, with_line_ends, with_returns}
 use Rattle.ans_mend.specs.NamedColours.{AreColoursNamed, HasNamedColours, NamesColours, begins_unnamed, named_content}
 use Rattle.ans_mend.specs.declared.outcome.Mended.{Mended}
-use Rattle.ans_options.specs.declared.command.Mends.{Mends}
-use Rattle.ans_check.specs.Mending.{BeginsUnnamed, IsMended, WantsMending, end_mark_counted, front_bytes}
-use Rattle.ans_check.specs.Mending.{lined, opened}
+use Rattle.ans_model.specs.declared.mends.Mends.{Mends}
+use Rattle.ans_mend.specs.Mending.{BeginsUnnamed, IsMended, WantsMending, end_mark_counted, front_bytes}
+use Rattle.ans_mend.specs.Mending.{lined, opened}
 use Rattle.ans_names_laws.specs.NameLaws.{NeverOwn, NoneOwnIsLeft}
 use Rattle.ans_check_laws.proofs.WholeFiles.{accepted_long}
 use Rattle.ans_check_laws.proofs.MarkedContents.{marked_stays}
@@ -67,21 +67,6 @@ resized_length : (n : ℕ) (r : List ℕ)
 resized_length n r =
     length-append (take 90 r) (four_bytes n ++ drop 94 r)
     ∙ ap (λ (v : ℕ). length (take 90 r) + v) (length-append (four_bytes n) (drop 94 r))
-
-resized_again : (m n : ℕ) (r : List ℕ) → length r ≡ 128
-    → with_file_size n (with_file_size m r) ≡ with_file_size n r
-resized_again m n r size =
-    let front : List ℕ = take 90 r in
-    let long : length front ≡ 90 = length-take-le 90 r (omega (arith, size)) in
-    let first : take 90 (with_file_size m r) ≡ front =
-    ap (λ (v : ℕ). take v (with_file_size m r)) (sym long)
-    ∙ take-append_seam front (four_bytes m ++ drop 94 r) in
-    let longer : length (front ++ four_bytes m) ≡ 94 =
-    length-append front (four_bytes m) ∙ ap (λ (v : ℕ). v + 4) long in
-    let last : drop 94 (with_file_size m r) ≡ drop 94 r =
-    ap₂ drop (sym longer) (sym (append_assoc front (four_bytes m) (drop 94 r)))
-    ∙ drop-append_seam (front ++ four_bytes m) (drop 94 r) in
-    ap₂ (λ (v w : List ℕ). v ++ (four_bytes n ++ w)) first last
 
 -- ---- what is written
 module _ (mends : Mends) (file : List ℕ) (mended : Mended) (draft : List ℕ) (h : IsMended mends file mended draft) where

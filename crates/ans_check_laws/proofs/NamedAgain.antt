@@ -11,7 +11,7 @@ use Rattle.ans_walks.proofs.Mended.{mending_texts, reads_as_behind}
 use Rattle.ans_mend.specs.NamedColours.{begins_unnamed, named_content}
 use Rattle.ans_names_laws.specs.NamedTokens.{named_tokens}
 use Rattle.ans_names_laws.specs.NameLaws.{NamedIsRead, NeverOwn, NoneOwnIsLeft, TwiceIsOnce, TwiceIsOnceMended}
-use Rattle.ans_check.specs.Mending.{front_bytes}
+use Rattle.ans_mend.specs.Mending.{front_bytes}
 
 -- the laws of naming that say that naming twice is naming once
 pub record NamingLaws : Type 0 where

@@ -11,18 +11,18 @@ use Rattle.ans_players.proofs.OneSpelling.{one_spelling}
 use Rattle.ans_sauce.specs.Found.{record_in}
 use Rattle.ans_sauce.proofs.LaidParts.{laid_body, laid_record}
 use Rattle.ans_play.proofs.OneEnd.{one_picture}
-use Rattle.ans_walks.specs.MendedFile.{with_file_size}
-use Rattle.ans_walks.proofs.MendedFiles.{resized_size}
+use Rattle.ans_sauce.specs.Fields.{with_file_size}
+use Rattle.ans_sauce.proofs.ResizedFiles.{resized_size}
 use Rattle.ans_mend.specs.Contents.{content_in}
 use Rattle.ans_mend.specs.NamedColours.{NamesColours, named_content}
 use Rattle.ans_mend.specs.declared.outcome.Edits.{Edits}
 use Rattle.ans_mend.specs.declared.outcome.Mended.{Mended}
 use Rattle.ans_names_laws.specs.NameLaws.{CellsStay}
-use Rattle.ans_options.specs.declared.command.Mends.{Mends}
-use Rattle.ans_options.specs.declared.command.TheConstants.Mends as no_mends
-use Rattle.ans_check.specs.FileVerdict.{Passes}
-use Rattle.ans_check.specs.Mending.{AreLinesFor, IsEdited, IsEditedAsStated, IsMended, front_bytes, lacks_lines, lined}
-use Rattle.ans_check.specs.Mending.{opened}
+use Rattle.ans_model.specs.declared.mends.Mends.{Mends}
+use Rattle.ans_model.specs.declared.mends.TheConstants.Mends as no_mends
+use Rattle.ans_verdict.specs.FileVerdict.{Passes}
+use Rattle.ans_mend.specs.Mending.{AreLinesFor, IsEdited, IsEditedAsStated, IsMended, front_bytes, lacks_lines, lined}
+use Rattle.ans_mend.specs.Mending.{opened}
 use Rattle.ans_check_laws.proofs.WholeFiles.{nothing_cut}
 use Rattle.ans_check_laws.proofs.MendedItself.{not_lined, not_opened}
 use Rattle.ans_check_laws.proofs.MendedTwice.{its_record, left_is, put, record_is, was_named}

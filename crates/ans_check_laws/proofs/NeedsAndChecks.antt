@@ -10,8 +10,8 @@ use Rattle.ans_model.specs.Verdict.Good.{IsGood}
 use Rattle.ans_model.proofs.AcceptedFiles.{one_layout}
 use Rattle.ans_model.proofs.ClassLemmas.{covers_all_known, covers_good}
 use Rattle.ans_check.specs.CommandText.{ReportsCheck, ReportsNeeds}
-use Rattle.ans_check.specs.FileNeeds.{NeedsClass}
-use Rattle.ans_check.specs.FileVerdict.{IsGoodFile}
+use Rattle.ans_verdict.specs.FileNeeds.{NeedsClass}
+use Rattle.ans_verdict.specs.FileVerdict.{IsGoodFile}
 
 -- the content of a good file is good
 good_content : (file : List ℕ) (start : Start) (apart : FileParts) → Accepts file apart → IsGoodFile file start

@@ -20,7 +20,7 @@ use Rattle.ans_forms.specs.Unwanted.{BeginsStaying, GoesFirst, before_after, sta
 use Rattle.ans_forms.specs.declared.kinds.Before.{Before}
 use Rattle.ans_forms.specs.declared.kinds.Unwanted.{Unwanted}
 use Rattle.ans_forms.proofs.HereLemmas.{nothing_goes}
-use Rattle.ans_walks.specs.LastEnds.{LeavesMost, LeavesOutEnds, is_line_end}
+use Rattle.ans_mend.specs.LastEnds.{LeavesMost, LeavesOutEnds, is_line_end}
 use Rattle.ans_mend.specs.TakingOut.{Gone, TakesOut}
 
 -- ---- tokens

@@ -7,7 +7,7 @@ use Rattle.ans_model.specs.Verdict.Good.{GoodWith, Picture}
 use Rattle.ans_model.specs.declared.start.Start.{Start}
 use Rattle.ans_model.proofs.AcceptedFiles.{one_layout}
 use Rattle.ans_play.proofs.OneEnd.{one_picture}
-use Rattle.ans_check.specs.FileVerdict.{Passes}
+use Rattle.ans_verdict.specs.FileVerdict.{Passes}
 
 pub same_apart : (file : List ℕ) (a b : FileParts) → Accepts file a → Accepts file b → a ≡ b
 same_apart file a b h g = one_layout file a b h.laid g.laid

@@ -21,8 +21,8 @@ use Rattle.ans_players_laws.proofs.Everywhere.{good_is_shown}
 use Rattle.ans_players.proofs.OneSpelling.{one_spelling}
 use Rattle.ans_walks.specs.SaidOfPlayers.{IsSameWhereCleared}
 use Rattle.ans_mend.specs.declared.outcome.Mended.{Mended}
-use Rattle.ans_options.specs.declared.command.Mends.{Mends}
-use Rattle.ans_check.specs.Mending.{IsMended}
+use Rattle.ans_model.specs.declared.mends.Mends.{Mends}
+use Rattle.ans_mend.specs.Mending.{IsMended}
 use Rattle.ans_check_laws.proofs.Covering.{covers_both_ways}
 use Rattle.ans_check_laws.proofs.MendedTwice.{still}
 

@@ -18,11 +18,11 @@ use Rattle.ans_mend.specs.EndMark.{lacks_end_mark, with_end_mark}
 use Rattle.ans_mend.specs.declared.outcome.Edits.{Edits}
 use Rattle.ans_mend.specs.declared.outcome.Unmended.{Unmended}
 use Rattle.ans_mend.specs.declared.outcome.Unmended.TheVariants.{Refused, TakesNoRecord, Torn, NoLines, TooLong}
-use Rattle.ans_options.specs.declared.command.TheConstants.Mends as no_mends
-use Rattle.ans_check.specs.FileVerdict.{Passes}
-use Rattle.ans_check.specs.Mending.{IsEditedAsStated, IsRead, IsReason, IsReasonFor, IsReasonOfContent}
-use Rattle.ans_check.specs.Mending.{IsReasonOfEdited, IsSettled, lacks_lines, opened}
-use Rattle.ans_check.proofs.VerdictLemmas.{not_good}
+use Rattle.ans_model.specs.declared.mends.TheConstants.Mends as no_mends
+use Rattle.ans_verdict.specs.FileVerdict.{Passes}
+use Rattle.ans_mend.specs.Mending.{IsEditedAsStated, IsRead, IsReason, IsReasonFor, IsReasonOfContent}
+use Rattle.ans_mend.specs.Mending.{IsReasonOfEdited, IsSettled, lacks_lines, opened}
+use Rattle.ans_verdict.proofs.VerdictLemmas.{not_good}
 use Rattle.ans_check_laws.proofs.MarkedContents.{content_marked, marked_content, marked_laid, marked_parts}
 use Rattle.ans_check_laws.proofs.MarkedContents.{marked_file, marked_record, unmarked}
 use Rattle.ans_mend.proofs.EndMarks.{byte_more}

@@ -17,8 +17,8 @@ use Rattle.ans_redraw_file.specs.RedrawnFile.{redrawn_file}
 use Rattle.ans_redraw_file.specs.declared.outcome.Redrawn.{Redrawn}
 use Rattle.ans_picture_laws.proofs.RedrawnContents.{content_tells_the_picture}
 use Rattle.ans_picture_laws.proofs.RedrawnFiles.{redrawn_files_pass}
-use Rattle.ans_check.specs.FileVerdict.{Passes}
-use Rattle.ans_check.specs.Redrawing.{IsRedrawn}
+use Rattle.ans_verdict.specs.FileVerdict.{Passes}
+use Rattle.ans_redraw_file.specs.Redrawing.{IsRedrawn}
 use Rattle.ans_check_laws.proofs.OnePicture.{same_picture}
 
 -- The file passes with this picture and has room for its form, and the new file is the redrawn one.

@@ -17,8 +17,8 @@ use Rattle.ans_redraw_file.specs.declared.outcome.Redrawn.{Redrawn}
 use Rattle.ans_picture_laws.proofs.RedrawnContents.{only_its_bytes_part}
 use Rattle.ans_walks.specs.SaidOfPlayers.{IsSaidOfPlayers}
 use Rattle.ans_walks.specs.declared.players.Players.TheVariants.{Any}
-use Rattle.ans_check.specs.FileVerdict.{Passes}
-use Rattle.ans_check.specs.Redrawing.{IsRedrawn}
+use Rattle.ans_verdict.specs.FileVerdict.{Passes}
+use Rattle.ans_redraw_file.specs.Redrawing.{IsRedrawn}
 use Rattle.ans_check_laws.proofs.OnePicture.{same_picture}
 use Rattle.ans_check_laws.proofs.PlayersShown.{none_agreed, same_is_shown}
 use Rattle.ans_check_laws.proofs.RedrawnPictures.{IsNew, is_new, new_parts, new_passes}

@@ -14,8 +14,8 @@ use Rattle.ans_model.proofs.OneAnswer.{good_or_first, good_or_last}
 use Rattle.ans_redraw_file.specs.RedrawnFile.{IsTooLong}
 use Rattle.ans_redraw_file.specs.declared.outcome.Unredrawn.{Unredrawn}
 use Rattle.ans_redraw_file.specs.declared.outcome.Unredrawn.TheVariants.{Refused, TooLong}
-use Rattle.ans_check.specs.FileVerdict.{Passes}
-use Rattle.ans_check.specs.Redrawing.{IsReasonNot, IsRefusedFromCleared}
+use Rattle.ans_verdict.specs.FileVerdict.{Passes}
+use Rattle.ans_redraw_file.specs.Redrawing.{IsReasonNot, IsRefusedFromCleared}
 use Rattle.ans_check_laws.proofs.OnePicture.{same_apart, same_picture}
 
 good_deserves_none : (z : Size) (class : Start) (bytes : List ℕ) (f : Fault) → IsGood z class bytes

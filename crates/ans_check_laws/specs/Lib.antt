@@ -1,3 +1,4 @@
 pub mod Starts
 pub mod CleanTexts
 pub mod KeptReturns
+pub mod BegunFile

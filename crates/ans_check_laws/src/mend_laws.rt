@@ -14,16 +14,23 @@ ghost use Rattle.ans_mend.specs.EndMark.{with_end_mark};
 ghost use Rattle.ans_mend.specs.declared.outcome.Mended.{Mended};
 ghost use Rattle.ans_mend.specs.declared.outcome.Unmended.{Unmended};
 ghost use Rattle.ans_mend.specs.declared.outcome.Unmended.TheVariants.{TooLong};
-ghost use Rattle.ans_options.specs.declared.command.Mends.{Mends};
-ghost use Rattle.ans_options.specs.declared.command.TheConstants.Mends as no_mends;
+ghost use Rattle.ans_model.specs.declared.mends.Mends.{Mends};
+ghost use Rattle.ans_model.specs.declared.mends.TheConstants.Mends as no_mends;
 ghost use Rattle.ans_names_laws.specs.NameLaws.{NeverOwn};
-ghost use Rattle.ans_check.specs.FileVerdict.{Passes};
-ghost use Rattle.ans_check.specs.Mending.{IsMended, IsReason, front_bytes};
+ghost use Rattle.ans_verdict.specs.FileVerdict.{Passes};
+ghost use Rattle.ans_mend.specs.Mending.{IsMended, IsReason, front_bytes};
+ghost use Rattle.ans_check_laws.specs.BegunFile.{BegunFilePasses};
 ghost use Rattle.ans_check_laws.specs.KeptReturns.{KeepsReturns};
 
 use ans_names_laws::{
     cells_stay, named_content_is_read, naming_twice_is_naming_once, no_own_colours_are_left,
 };
+
+/// An accepted file that passes from the cleared start passes from every start once the safe
+/// beginning is before its content and its FileSize is 25 more. It keeps its size and its notes.
+pub fn begun_file_passes()
+    ensures { BegunFilePasses }
+{}
 
 /// Mending by itself changes no cell of a drawing. What is written of a file that passes from the
 /// cleared start is accepted, states the same size, and passes from every start with the same picture.

@@ -16,12 +16,12 @@ ghost use Rattle.ans_walks.specs.declared.players.Players.TheVariants.{Agreeing,
 ghost use Rattle.ans_walks.specs.declared.times.Times.{Times};
 ghost use Rattle.ans_players.specs.declared.kind.Kind.TheVariants.{OwnColours};
 ghost use Rattle.ans_mend.specs.declared.outcome.Mended.{Mended};
-ghost use Rattle.ans_options.specs.declared.command.Mends.{Mends};
+ghost use Rattle.ans_model.specs.declared.mends.Mends.{Mends};
 ghost use Rattle.ans_picture_laws.specs.Drawable.{BytesAreAgreed};
 ghost use Rattle.ans_redraw_file.specs.declared.outcome.Redrawn.{Redrawn};
-ghost use Rattle.ans_check.specs.FileVerdict.{Passes};
-ghost use Rattle.ans_check.specs.Mending.{IsMended};
-ghost use Rattle.ans_check.specs.Redrawing.{IsRedrawn};
+ghost use Rattle.ans_verdict.specs.FileVerdict.{Passes};
+ghost use Rattle.ans_mend.specs.Mending.{IsMended};
+ghost use Rattle.ans_redraw_file.specs.Redrawing.{IsRedrawn};
 
 use ans_players::player::Player;
 

@@ -5,8 +5,8 @@ ghost use Rattle.ans_model.specs.File.Layout.{FileParts};
 ghost use Rattle.ans_model.specs.Screen.StartClass.{Covers};
 ghost use Rattle.ans_model.specs.declared.start.Start.{Start};
 ghost use Rattle.ans_check.specs.CommandText.{ReportsCheck, ReportsNeeds};
-ghost use Rattle.ans_check.specs.FileNeeds.{NeedsClass};
-ghost use Rattle.ans_check.specs.FileVerdict.{IsGoodFile};
+ghost use Rattle.ans_verdict.specs.FileNeeds.{NeedsClass};
+ghost use Rattle.ans_verdict.specs.FileVerdict.{IsGoodFile};
 
 /// Where the parts that a file needs are found, it is good for exactly those classes that know each
 /// of them, and a check passes from exactly those. Where a file is refused instead, it is good for no

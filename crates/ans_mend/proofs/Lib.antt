@@ -24,3 +24,9 @@ mod NamedGrowth
 mod NamedWriting
 mod NamedFiles
 pub mod NamedBound
+pub mod MendLemmas
+pub mod MendedLemmas
+mod MendRoomLemmas
+mod EditLemmas
+mod DraftRoomLemmas
+mod FrontsPass

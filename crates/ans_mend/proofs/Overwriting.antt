@@ -5,7 +5,7 @@ use Rattle.std.proofs.Math.Seq.{take-add, take-append_seam}
 use Rattle.std.proofs.lemmas.List.{drop-drop, length-take-le}
 use Rattle.std.proofs.lemmas.Slice.{drop-append-drop}
 use Rattle.ans_sauce.specs.Found.{front_in, record_in}
-use Rattle.ans_mend.specs.Drafts.{overwritten}
+use Rattle.ans_sauce.specs.Fields.{overwritten}
 
 -- in a record, at the end of a file
 pub of_record : (file bytes : List ℕ) (offset : ℕ) → 128 ≤ length file

@@ -5,8 +5,8 @@ use Rattle.std.proofs.lemmas.List.{length-drop, length-take-le}
 use Rattle.std.specs.Prelude.{◌%◌, if◌then◌else◌}
 use Rattle.ans_model.specs.File.Record.{flags}
 use Rattle.ans_sauce.specs.Found.{front_in, record_in}
-use Rattle.ans_mend.specs.Drafts.{overwritten}
-use Rattle.ans_mend.specs.Fields.{with_record}
+use Rattle.ans_sauce.specs.Fields.{overwritten}
+use Rattle.ans_sauce.specs.Fields.{with_record}
 use Rattle.ans_mend.specs.TakingOut.{flagged}
 
 pub overwritten_length : (offset : ℕ) (bytes file : List ℕ) → offset + length bytes ≤ length file

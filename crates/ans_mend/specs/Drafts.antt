@@ -13,10 +13,6 @@ draft_of file room = record { file = file; room = room }
 abbrev pub memory_of : DraftView → ℕ
 memory_of draft = length draft.file + draft.room
 
--- these bytes in the place of as many, from the offset on
-abbrev pub overwritten : ℕ → List ℕ → List ℕ → List ℕ
-overwritten offset bytes file = take offset file ++ (bytes ++ drop (offset + length bytes) file)
-
 -- this byte at the offset, before what stands there
 abbrev pub with_byte : ℕ → ℕ → List ℕ → List ℕ
 with_byte offset byte file = take offset file ++ byte ∷ drop offset file

@@ -1,5 +1,4 @@
 pub mod Drafts
-pub mod Fields
 pub mod Tail
 pub mod EndMark
 pub mod Contents
@@ -11,3 +10,6 @@ pub mod MendedText
 pub mod LastEnds
 pub mod NamedColours
 pub mod NameSearch
+pub mod Mending
+pub mod MendingRoom
+pub mod MendingSteps

@@ -15,7 +15,7 @@ use Rattle.ans_mend.specs.declared.outcome.Unmended.{Unmended}
 use Rattle.ans_mend.specs.declared.outcome.Unmended.TheVariants as unmended
 use Rattle.ans_mend.specs.declared.taking_out.Excerpt.{Excerpt}
 use Rattle.ans_mend.specs.declared.taking_out.TakenOut.{TakenOut}
-use Rattle.ans_options.specs.declared.command.Mends.{Mends}
+use Rattle.ans_model.specs.declared.mends.Mends.{Mends}
 
 -- ---- what was changed, a line each
 

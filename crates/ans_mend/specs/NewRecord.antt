@@ -8,7 +8,7 @@ use Rattle.ans_model.specs.File.Refusals.{has_record}
 use Rattle.ans_model.specs.declared.fault.Cause.{Cause}
 use Rattle.ans_model.specs.declared.fault.Cause.TheVariants.{NoRecord}
 use Rattle.ans_model.specs.declared.fault.Fault.{Fault}
-use Rattle.ans_mend.specs.Fields.{two_bytes}
+use Rattle.ans_sauce.specs.Fields.{two_bytes}
 use Rattle.ans_mend.specs.Tail.{is_tail_byte}
 use Rattle.ans_mend.specs.declared.outcome.GivenRecord.{GivenRecord}
 use Rattle.ans_mend.specs.declared.outcome.Unmended.{Unmended}

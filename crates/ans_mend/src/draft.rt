@@ -2,12 +2,11 @@
 
 ghost use Rattle.std.specs.Prelude.{◌≡◌, ◌+◌, ◌-◌, ◌≤◌, ◌<◌, ◌++◌, length, take};
 ghost use Rattle.ans_sauce.specs.Found.{front_in, record_in};
-ghost use Rattle.ans_mend.specs.Drafts.{draft_of, memory_of, overwritten, with_byte};
+ghost use Rattle.ans_mend.specs.Drafts.{draft_of, memory_of, with_byte};
+ghost use Rattle.ans_sauce.specs.Fields.{overwritten};
 
+use ans_sauce::fields::RECORD_SIZE;
 use std::marker::Model;
-
-/// SAUCE 00.5, record layout: how many bytes a record has.
-pub(crate) const RECORD_SIZE: usize = 128;
 
 /// There is no room in the memory for what is to be put into the file.
 #[derive(Debug, Clone, Copy, PartialEq, Eq)]

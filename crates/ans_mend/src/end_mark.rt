@@ -9,10 +9,8 @@ ghost use Rattle.ans_mend.specs.Drafts.{memory_of};
 ghost use Rattle.ans_mend.specs.EndMark.{end_mark_put, with_end_mark};
 
 use crate::draft::{Draft, NoRoom};
+use ans_sauce::fields::END_MARK;
 use ans_sauce::{body_before, cut_record};
-
-/// SAUCE 00.5: the end of file character.
-pub(crate) const END_MARK: u8 = 0x1A;
 
 fn has_end_mark(body: &[u8]) -> bool
     ensures { result ≡ list_any is_end_mark body.now }

@@ -3,18 +3,12 @@
 ghost use Rattle.std.specs.Prelude.{◌≡◌, ◌+◌, ◌-◌, ◌%◌, ◌≤◌, length, if◌then◌else◌};
 ghost use Rattle.ans_model.specs.File.Record.{flags};
 ghost use Rattle.ans_sauce.specs.Found.{record_in};
-ghost use Rattle.ans_walks.specs.MendedFile.{with_file_size};
+ghost use Rattle.ans_sauce.specs.Fields.{with_file_size};
 ghost use Rattle.ans_mend.specs.Drafts.{draft_of};
-ghost use Rattle.ans_mend.specs.Fields.{with_lines, with_non_blink, with_record};
+ghost use Rattle.ans_sauce.specs.Fields.{with_lines, with_non_blink, with_record};
 
-use crate::draft::{Draft, RECORD_SIZE};
-
-/// Where the fields stand in a record (SAUCE 00.5, record layout).
-const FILE_SIZE: usize = 90;
-
-const TINFO_2: usize = 98;
-
-const FLAGS: usize = 105;
+use crate::draft::Draft;
+use ans_sauce::fields::{FILE_SIZE, FLAGS, RECORD_SIZE, TINFO_2};
 
 /// The flags of the record (TFlags).
 #[tactic(auto, using(crate::proofs::RecordFlags::flag_byte))]

@@ -1,16 +1,106 @@
 //! Line ends at the very end of a content that are taken out.
 
-ghost use Rattle.std.specs.Prelude.{◌≡◌, ◌≤◌, length, drop};
+ghost use Rattle.std.specs.Prelude.{◌≡◌, ℕ, ◌<◌, ◌≤◌, true, false, IfNone, IfSome, length, drop};
+ghost use Rattle.std.specs.List.{list_all};
 ghost use Rattle.ans_model.specs.Bytes.{longest_file};
-ghost use Rattle.ans_walks.specs.LastEnds.{line_ends};
 ghost use Rattle.ans_mend.specs.Drafts.{memory_of};
-ghost use Rattle.ans_mend.specs.LastEnds.{HasFewerEnds, times_at};
+ghost use Rattle.ans_mend.specs.LastEnds.{FrontPasses, HasFewerEnds, LeavesMost, NeverPasses, is_line_end, line_ends};
+ghost use Rattle.ans_mend.specs.LastEnds.{splits_line_end, times_at};
 
 use crate::draft::Draft;
 use crate::keeping::keep;
 use crate::line_ends::content_of;
 use ans_model::size::Size;
-use ans_walks::{Times, count_line_ends, count_passing};
+use ans_walks::{Times, is_good};
+
+fn is_line_end(byte: u8) -> bool
+    ensures { result ≡ is_line_end byte }
+{
+    byte == b'\n' || byte == b'\r'
+}
+
+/// Whether a return stands before the offset and its line feed behind it.
+fn splits_line_end(bytes: &[u8], at: usize) -> bool
+    ensures { result ≡ splits_line_end bytes.now at }
+{
+    at > 0 && at < bytes.len() && bytes[at - 1] == b'\r' && bytes[at] == b'\n'
+}
+
+/// How many bytes stand before the line feeds and returns at the end.
+fn count_before_ends(bytes: &[u8]) -> usize
+    ensures within { result ≤ length bytes.now }
+    ensures ends { list_all is_line_end (drop result bytes.now) ≡ true }
+    ensures others { (count : ℕ) → count < result → list_all is_line_end (drop count bytes.now) ≡ false }
+{
+    let mut count = bytes.len();
+    'ends: while count > 0 && is_line_end(bytes[count - 1]) {
+        count -= 1;
+    }
+    count
+}
+
+/// How many of the first bytes at most pass from the cleared start, where enough of them do and behind
+/// these there are line feeds and returns alone.
+fn most_passing(size: Size, bytes: &[u8], enough: usize) -> usize
+    requires length { length bytes.now ≤ longest_file }
+    requires within { enough ≤ length bytes.now }
+    requires ends { list_all is_line_end (drop enough bytes.now) ≡ true }
+    requires passes { FrontPasses size bytes.now enough }
+    ensures from { enough ≤ result }
+    ensures within { result ≤ length bytes.now }
+    ensures passes { FrontPasses size bytes.now result }
+    ensures most { (more : ℕ) → result < more → more ≤ length bytes.now → ¬ FrontPasses size bytes.now more }
+{
+    let mut passing = enough;
+    let mut refused = bytes.len() + 1;
+    'halves: while passing + 1 < refused {
+        let middle = passing + (refused - passing) / 2;
+        if is_good(size, &bytes[..middle]) {
+            passing = middle;
+        } else {
+            refused = middle;
+        }
+    }
+    passing
+}
+
+/// How many bytes of a content are left if as few line ends at its very end go as must for it to pass from
+/// the cleared start. None where it does not pass, however many go. It takes no memory.
+pub fn count_passing(size: Size, content: &[u8]) -> Option<usize>
+    requires { length content.now ≤ longest_file }
+    ensures some { IfSome result (LeavesMost size content.now) }
+    ensures none { IfNone result (NeverPasses size content.now) }
+{
+    if is_good(size, content) {
+        return Some(content.len());
+    }
+    let enough = count_before_ends(content);
+    if !is_good(size, &content[..enough]) {
+        return None;
+    }
+    let count = most_passing(size, content, enough);
+    if splits_line_end(content, count) {
+        return Some(count - 1);
+    }
+    Some(count)
+}
+
+/// How many line ends the bytes are, where they are nothing but line feeds and returns: a return and a line
+/// feed are one.
+pub fn count_line_ends(bytes: &[u8]) -> usize
+    ensures count { result ≡ line_ends bytes.now }
+    ensures within { result ≤ length bytes.now }
+{
+    let mut count = 0;
+    let mut last = 0;
+    for byte in bytes {
+        if !(last == b'\r' && *byte == b'\n') {
+            count += 1;
+        }
+        last = *byte;
+    }
+    count
+}
 
 /// So many, from this offset on.
 pub(crate) fn times_at(count: usize, first: usize) -> Option<Times>

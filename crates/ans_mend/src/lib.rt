@@ -1,18 +1,22 @@
 //! How a drawing is mended: its file is changed in place, one change after the other.
 //!
 //! [`Draft`] is the file. Each change is a method of it, whose contract says by a definition which file
-//! is left. Which changes are made, and whether what they leave passes from every start, is for the crate
-//! above to say.
+//! is left. [`mend_on`] makes the changes that are asked for, and sees that what they leave passes from
+//! every start; what a mended file is, and why there is none, is in `specs/Mending.antt`.
 #![tactic(auto)]
 
 mod draft;
+mod editing;
 mod end_mark;
 mod fields;
 mod full_rows;
+mod judging;
 mod keeping;
 mod last_ends;
 mod line_ends;
+mod lines;
 mod mended_text;
+mod mending;
 mod name_colours;
 mod name_search;
 mod names;
@@ -23,8 +27,10 @@ mod tail;
 mod taking_out;
 
 pub use draft::{Draft, NoRoom};
+pub use last_ends::{count_line_ends, count_passing};
 pub use line_ends::count_line_feeds;
 pub use mended_text::{put_end_mark_line, put_mended, put_reset_line, put_unmended};
+pub use mending::mend_on;
 pub use name_search::begins_unnamed;
 pub use new_record::refusal_of;
 pub use outcome::{Edits, GivenRecord, Mended, NonBlink, Reset, Unmended};

@@ -11,7 +11,7 @@ ghost use Rattle.ans_write.specs.Puts.{Puts};
 use crate::outcome::{GivenRecord, Mended, NonBlink, Reset, Unmended};
 use crate::taking_out::{Excerpt, TakenOut};
 use ans_model::fault::Cause;
-use ans_options::Mends;
+use ans_model::mends::Mends;
 use ans_report::{put_counted, put_fault_line, put_quoted_bytes, put_times};
 use ans_walks::Times;
 use ans_write::Outbox;

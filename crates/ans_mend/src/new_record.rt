@@ -6,11 +6,11 @@ ghost use Rattle.ans_mend.specs.Drafts.{memory_of};
 ghost use Rattle.ans_mend.specs.NewRecord.{begins_sauce, holds_sauce, new_record, record_given};
 ghost use Rattle.ans_mend.specs.NewRecord.{refusal_of, takes_record, with_new_record};
 
-use crate::draft::{Draft, NoRoom, RECORD_SIZE};
-use crate::end_mark::END_MARK;
+use crate::draft::{Draft, NoRoom};
 use crate::outcome::{GivenRecord, Unmended};
 use crate::tail::is_tail;
 use ans_model::fault::{Cause, Fault};
+use ans_sauce::fields::{END_MARK, RECORD_SIZE};
 use ans_sauce::{cut_content, cut_record};
 
 /// The record but for its width: version 00, blank texts, a date of eight zeros, Character/ANSi (SAUCE

@@ -6,8 +6,9 @@ ghost use Rattle.ans_mend.specs.Drafts.{memory_of};
 ghost use Rattle.ans_mend.specs.LastEnds.{times_at};
 ghost use Rattle.ans_mend.specs.Tail.{IsTailCut, ends_in_ansi, is_tail_byte};
 
-use crate::draft::{Draft, RECORD_SIZE};
+use crate::draft::Draft;
 use crate::last_ends::times_at;
+use ans_sauce::fields::RECORD_SIZE;
 use ans_sauce::{cut_record, last_record_place};
 use ans_walks::Times;
 

@@ -2,6 +2,8 @@
 #![tactic(auto)]
 
 #[cfg(test)]
+mod last_ends;
+#[cfg(test)]
 mod names;
 #[cfg(test)]
 mod tests;

@@ -4,7 +4,7 @@ use ans_mend::{
     put_unmended,
 };
 use ans_model::fault::{Cause, Fault};
-use ans_options::Mends;
+use ans_model::mends::Mends;
 use ans_samples::puts;
 use ans_walks::Times;
 

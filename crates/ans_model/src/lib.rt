@@ -12,6 +12,7 @@ pub mod fault;
 pub mod kind;
 pub mod limits;
 pub mod mark;
+pub mod mends;
 pub mod note;
 pub mod size;
 pub mod start;

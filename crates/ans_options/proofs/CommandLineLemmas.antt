@@ -20,7 +20,7 @@ use Rattle.clap.specs.Simple.{argument_words, built, entered, label_of, names_of
 use Rattle.ans_options.specs.declared.command.Command.TheVariants.{Why, Check, Show, Sauce, Tokens, Needs, Table, Mend}
 use Rattle.ans_options.specs.declared.command.Command.TheVariants.{Redraw}
 use Rattle.ans_options.specs.declared.command.Form.TheVariants.{Terminal}
-use Rattle.ans_options.specs.declared.command.TheConstants.Mends as no_mends
+use Rattle.ans_model.specs.declared.mends.TheConstants.Mends as no_mends
 use Rattle.ans_options.specs.declared.command.TableForm.TheVariants.{Headed}
 use Rattle.clap.specs.declared.builder.command.Command.{Command}
 use Rattle.clap.proofs.CallerLemmas.{subcommand_required}

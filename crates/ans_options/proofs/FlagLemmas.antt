@@ -16,7 +16,7 @@ use Rattle.ans_options.specs.declared.command.Asked.TheVariants as asked
 use Rattle.ans_options.specs.declared.command.Command.{Command}
 use Rattle.ans_options.specs.declared.command.Command.TheVariants.{Why, Check, Show, Sauce, Tokens, Needs, Table, Mend}
 use Rattle.ans_options.specs.declared.command.Command.TheVariants.{Redraw}
-use Rattle.ans_options.specs.declared.command.Mends.{Mends}
+use Rattle.ans_model.specs.declared.mends.Mends.{Mends}
 use Rattle.ans_options.specs.declared.command.Options.{Options}
 use Rattle.ans_options.specs.declared.command.TableForm.{TableForm}
 use Rattle.ans_options.specs.declared.topic.Topic.{Topic}

@@ -11,11 +11,11 @@ use Rattle.ans_options.specs.declared.command.Command.{Command}
 use Rattle.ans_options.specs.declared.command.Command.TheVariants.{Why, Check, Show, Sauce, Tokens, Needs, Table, Mend}
 use Rattle.ans_options.specs.declared.command.Command.TheVariants.{Redraw}
 use Rattle.ans_options.specs.declared.command.Form.TheVariants.{Terminal}
-use Rattle.ans_options.specs.declared.command.TheConstants.Mends as no_mends
+use Rattle.ans_model.specs.declared.mends.TheConstants.Mends as no_mends
 use Rattle.ans_options.specs.declared.command.TableForm.TheVariants.{Headed}
 use Rattle.ans_options.specs.CommandLine.{IsNoCommand, command_names, help_on, is_mend, is_redraw, is_table}
 use Rattle.ans_options.specs.CommandLine.{words_meant}
-use Rattle.ans_options.specs.declared.command.Mends.{Mends}
+use Rattle.ans_model.specs.declared.mends.Mends.{Mends}
 use Rattle.ans_options.specs.declared.command.TableForm.{TableForm}
 use Rattle.ans_model.specs.Text.Words.{texts_of}
 use Rattle.ans_options.proofs.CommandLineLemmas.{not_true}

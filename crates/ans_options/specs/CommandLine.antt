@@ -22,8 +22,8 @@ use Rattle.ans_options.specs.declared.command_line.WordsError.TheVariants as wor
 use Rattle.ans_options.specs.declared.command.Command.{Command}
 use Rattle.ans_options.specs.declared.command.Command.TheVariants.{Why, Check, Show, Sauce, Tokens, Needs, Table, Mend}
 use Rattle.ans_options.specs.declared.command.Command.TheVariants.{Redraw}
-use Rattle.ans_options.specs.declared.command.TheConstants.Mends as no_mends
-use Rattle.ans_options.specs.declared.command.Mends.{Mends}
+use Rattle.ans_model.specs.declared.mends.TheConstants.Mends as no_mends
+use Rattle.ans_model.specs.declared.mends.Mends.{Mends}
 use Rattle.ans_options.specs.declared.command.Form.{Form}
 use Rattle.ans_options.specs.declared.command.Form.TheVariants.{Terminal, Vga, Page}
 use Rattle.ans_options.specs.declared.command.TableForm.{TableForm}

@@ -17,13 +17,14 @@ ghost use Rattle.ans_model.specs.Text.Words.{texts_of};
 ghost use Rattle.ans_options.specs.CommandLine.{AsksAs, IsAskedBy, IsReadAs, files_of, is_table, table_form_asked};
 ghost use Rattle.ans_options.specs.Topics.{topic_of};
 ghost use Rattle.ans_options.specs.declared.command.Command.TheVariants.{Check, Show, Table, Mend};
-ghost use Rattle.ans_options.specs.declared.command.TheConstants.Mends as no_mends;
+ghost use Rattle.ans_model.specs.declared.mends.TheConstants.Mends as no_mends;
 ghost use Rattle.ans_options.specs.declared.command.Form.TheVariants.{Terminal};
 ghost use Rattle.ans_options.specs.declared.command.TableForm.TheVariants.{Headed};
 ghost use Rattle.ans_options.specs.declared.command_line.WordsError.TheVariants.{Clap};
 
-use crate::command::{Asked, Command, Form, Mends, Options, TableForm};
+use crate::command::{Asked, Command, Form, Options, TableForm};
 use crate::topic::topic_of;
+use ans_model::mends::Mends;
 use ans_model::start::Start;
 use clap::builder::ValueParser;
 use clap::{Arg, ArgAction, ArgMatches, value_parser};

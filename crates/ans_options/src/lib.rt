@@ -20,6 +20,7 @@ mod command_line;
 pub mod laws;
 mod topic;
 
-pub use command::{Asked, Command, Form, Mends, Options, TableForm};
+pub use ans_model::mends::Mends;
+pub use command::{Asked, Command, Form, Options, TableForm};
 pub use command_line::{WordsError, asked, options};
 pub use topic::Topic;

@@ -16,9 +16,9 @@ use Rattle.ans_model.specs.Screen.State.{Size}
 use Rattle.ans_model.specs.Verdict.Good.{Picture, GoodWith}
 use Rattle.ans_sauce.specs.Found.{body_in, record_in}
 use Rattle.ans_sauce.proofs.LaidParts.{laid_record}
-use Rattle.ans_walks.specs.MendedFile.{resized_parts, with_file_size}
-use Rattle.ans_walks.proofs.MendedFiles.{resized_accepted, resized_content, resized_date, resized_file_size}
-use Rattle.ans_walks.proofs.MendedFiles.{resized_flags, resized_size, resized_width}
+use Rattle.ans_sauce.specs.Fields.{resized_parts, with_file_size}
+use Rattle.ans_sauce.proofs.ResizedFiles.{resized_accepted, resized_content, resized_date, resized_file_size}
+use Rattle.ans_sauce.proofs.ResizedFiles.{resized_flags, resized_size, resized_width}
 use Rattle.ans_picture_laws.specs.Drawable.{IsDrawable}
 use Rattle.ans_redraw.specs.Form.{form_bytes}
 use Rattle.ans_picture_laws.proofs.FormLaws.{form_has_no_end_mark, form_is_good}

@@ -1,15 +1,14 @@
 -- A file that is redrawn again stays as it is.
-use Rattle.std.proofs.Common.{◌≡◌, ℕ, ◌+◌, List, ◌++◌, length, take, drop, sym, ap, ap₂, ◌∙◌, arith}
+use Rattle.std.proofs.Common.{◌≡◌, ℕ, List, ◌++◌, length, sym, ap, ap₂, ◌∙◌}
 use Rattle.std.proofs.Common.{append_assoc, subst}
-use Rattle.std.proofs.lemmas.List.{length-append, length-take-le}
-use Rattle.std.proofs.Math.Seq.{take-append_seam, drop-append_seam}
 use Rattle.ans_model.specs.File.Layout.{FileParts, comment_block}
 use Rattle.ans_model.specs.File.Record.{comment_count, stated_size}
 use Rattle.ans_model.specs.Screen.State.{Size}
 use Rattle.ans_model.specs.Verdict.Good.{Picture, GoodWith}
 use Rattle.ans_sauce.specs.Found.{body_in, record_in}
 use Rattle.ans_sauce.proofs.LaidParts.{laid_record}
-use Rattle.ans_walks.specs.MendedFile.{four_bytes, with_file_size}
+use Rattle.ans_sauce.specs.Fields.{with_file_size}
+use Rattle.ans_sauce.proofs.ResizedFiles.{resized_again}
 use Rattle.ans_picture_laws.specs.Drawable.{IsDrawable}
 use Rattle.ans_redraw.specs.Form.{form_bytes}
 use Rattle.ans_picture_laws.proofs.Redrawn.{form_is_kept}
@@ -18,22 +17,6 @@ use Rattle.ans_redraw_file.specs.RedrawnFile.{block_in, marked_end, redrawn_file
 use Rattle.ans_picture_laws.proofs.EndMarks.{marked_ends}
 use Rattle.ans_redraw_file.proofs.NewFiles.{block_is, its_body}
 use Rattle.ans_picture_laws.proofs.RedrawnFiles.{its_accepts, its_drawable, its_ends, its_mark, its_whole, parts}
-
--- of two FileSizes the last stands
-resized_again : (m n : ℕ) (r : List ℕ) → length r ≡ 128
-    → with_file_size n (with_file_size m r) ≡ with_file_size n r
-resized_again m n r size =
-    let front : List ℕ = take 90 r in
-    let long : length front ≡ 90 = length-take-le 90 r (omega (arith, size)) in
-    let first : take 90 (with_file_size m r) ≡ front =
-    ap (λ (v : ℕ). take v (with_file_size m r)) (sym long)
-    ∙ take-append_seam front (four_bytes m ++ drop 94 r) in
-    let longer : length (front ++ four_bytes m) ≡ 94 =
-    length-append front (four_bytes m) ∙ ap (λ (v : ℕ). v + 4) long in
-    let last : drop 94 (with_file_size m r) ≡ drop 94 r =
-    ap₂ drop (sym longer) (sym (append_assoc front (four_bytes m) (drop 94 r)))
-    ∙ drop-append_seam (front ++ four_bytes m) (drop 94 r) in
-    ap₂ (λ (v w : List ℕ). v ++ (four_bytes n ++ w)) first last
 
 -- it can be drawn at the size that the redrawn file states
 pub drawable_there : (file : List ℕ) (apart new : FileParts) (picture : Picture) → CanBeRedrawn file apart picture

@@ -8,7 +8,7 @@ ghost use Rattle.ans_model.specs.File.Layout.{is_end_mark};
 ghost use Rattle.ans_sauce.specs.Found.{front_in};
 ghost use Rattle.ans_sauce.specs.Split.{IsSplit};
 ghost use Rattle.ans_mend.specs.Contents.{content_in};
-ghost use Rattle.ans_walks.specs.MendedFile.{with_file_size};
+ghost use Rattle.ans_sauce.specs.Fields.{with_file_size};
 ghost use Rattle.ans_write.specs.Puts.{Puts};
 ghost use Rattle.ans_redraw_file.specs.RedrawnFile.{IsRedrawnWith, IsTooLong, redrawn_file};
 
@@ -18,19 +18,10 @@ use ans_model::limits::MAX_FILE;
 use ans_play::Picture;
 use ans_redraw::{copy_form, form_length, put_form};
 use ans_sauce::Parts;
+use ans_sauce::fields::{END_MARK, FILE_SIZE, RECORD_SIZE};
 use ans_screen::Screen;
 use ans_write::Outbox;
 use std::io::Write;
-
-/// SAUCE 00.5, record layout: how many bytes a record has, and where its FileSize begins and ends.
-const RECORD_SIZE: usize = 128;
-
-const FILE_SIZE: usize = 90;
-
-const FILE_SIZE_END: usize = 94;
-
-/// SAUCE 00.5: the end of file character.
-const END_MARK: u8 = 0x1A;
 
 /// What stands between a file's content and its record: end marks, and the comments.
 fn behind_content<'a>(file: &'a [u8], parts: &Parts<'_>) -> &'a [u8]
@@ -98,7 +89,7 @@ fn put_resized<W: Write>(out: &mut Outbox<'_, W>, sauce: &[u8], size: u32)
 {
     out.put(&sauce[..FILE_SIZE]);
     out.put(&size.to_le_bytes());
-    out.put(&sauce[FILE_SIZE_END..]);
+    out.put(&sauce[FILE_SIZE + 4..]);
 }
 
 /// Puts the file that is redrawn with this picture, of which `redrawn` says what is changed.
@@ -141,7 +132,7 @@ fn copy_resized(array: &mut [u8], end: usize, sauce: &[u8], size: u32)
 {
     let before = copy(array, end, &sauce[..FILE_SIZE]);
     let behind = copy(array, before, &size.to_le_bytes());
-    copy(array, behind, &sauce[FILE_SIZE_END..]);
+    copy(array, behind, &sauce[FILE_SIZE + 4..]);
 }
 
 /// Copies the file that is redrawn with this picture, of which `redrawn` says what is changed, to the front of

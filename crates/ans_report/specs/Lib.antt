@@ -9,3 +9,4 @@ pub mod Message
 pub mod Meanings
 pub mod Counted
 pub mod Quoted
+pub mod RecordReports

@@ -2,3 +2,4 @@ pub mod Splitting
 pub mod FoundLemmas
 pub mod Lacking
 pub mod LaidParts
+pub mod ResizedFiles

@@ -4,3 +4,4 @@ pub mod Split
 pub mod Found
 pub mod Judged
 pub mod WithoutLines
+pub mod Fields

@@ -9,14 +9,12 @@ ghost use Rattle.ans_model.specs.File.Refusals.{first_refusal, record_fault};
 ghost use Rattle.ans_sauce.specs.RecordBytes.{bytes_of};
 ghost use Rattle.ans_sauce.specs.Split.{IsSplit, EndsInRecord, IsCut, PassesRecord, record_refusals};
 
+use crate::fields::{COMMENT_COUNT, DATA_TYPE, END_MARK, RECORD_SIZE, TINFO_1, TINFO_2, VERSION};
 use crate::note_conditions::notes_on;
 use crate::parts::{COMMENT_SIZE, Parts};
-use crate::record::{COMMENT_COUNT, DATA_TYPE, RECORD_SIZE, Record, TINFO_1, TINFO_2, VERSION};
+use crate::record::Record;
 use ans_model::fault::{Cause, Fault};
 use memchr::memchr;
-
-/// SAUCE 00.5: the end of file character.
-const END_MARK: u8 = 0x1A;
 
 fn fault(offset: usize, cause: Cause) -> Fault
     ensures { result ≡ fault_at offset cause }

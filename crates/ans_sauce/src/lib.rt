@@ -10,6 +10,7 @@
 //! there is of one that lacks nothing but the number of its lines.
 #![tactic(auto)]
 
+pub mod fields;
 mod found;
 mod judged;
 mod layout;

@@ -6,22 +6,13 @@ ghost use Rattle.ans_model.specs.File.Record.{date_field, font_field, file_size,
 ghost use Rattle.ans_model.specs.File.Record.{comment_count, flags, is_non_blink, letter_spacing, aspect_ratio};
 ghost use Rattle.ans_model.specs.File.Record.{stated_width, stated_lines};
 
+use crate::fields::{
+    AUTHOR, COMMENT_COUNT, DATA_TYPE, DATE, FILE_SIZE, FILE_TYPE, FLAGS, FONT, GROUP, TINFO_1,
+    TITLE, VERSION,
+};
 use crate::padding::trimmed;
 use ans_model::limits::{MAX_LINES, MAX_WIDTH};
 use byteorder::{ByteOrder, LittleEndian};
-
-pub(crate) const RECORD_SIZE: usize = 128;
-
-/// Where the fields that may be refused stand in a record.
-pub(crate) const VERSION: usize = 5;
-
-pub(crate) const DATA_TYPE: usize = 94;
-
-pub(crate) const TINFO_1: usize = 96;
-
-pub(crate) const TINFO_2: usize = 98;
-
-pub(crate) const COMMENT_COUNT: usize = 104;
 
 /// The record of a file (SAUCE 00.5, record layout), by its fields. It has 128 bytes. Numbers are
 /// unsigned, their least byte first. Texts come without their trailing blanks and zero bytes; a
@@ -46,21 +37,21 @@ impl<'a> Record<'a> {
     pub fn title(&self) -> &'a [u8]
         ensures { result.now ≡ trimmed (title_field (bytes_of self.now)) }
     {
-        trimmed(self.field(7, 35))
+        trimmed(self.field(TITLE, 35))
     }
 
     /// The author's name, of at most 20 bytes.
     pub fn author(&self) -> &'a [u8]
         ensures { result.now ≡ trimmed (author_field (bytes_of self.now)) }
     {
-        trimmed(self.field(42, 20))
+        trimmed(self.field(AUTHOR, 20))
     }
 
     /// The name of the author's group, of at most 20 bytes.
     pub fn group(&self) -> &'a [u8]
         ensures { result.now ≡ trimmed (group_field (bytes_of self.now)) }
     {
-        trimmed(self.field(62, 20))
+        trimmed(self.field(GROUP, 20))
     }
 
     /// The date, as CCYYMMDD where the record keeps to its layout; `Note::OddDate` says
@@ -75,7 +66,7 @@ impl<'a> Record<'a> {
     pub fn font(&self) -> &'a [u8]
         ensures { result.now ≡ trimmed (font_field (bytes_of self.now)) }
     {
-        trimmed(self.field(106, 22))
+        trimmed(self.field(FONT, 22))
     }
 
     /// The stated size in bytes of the file without its record (FileSize). Nothing else rests on
@@ -83,7 +74,7 @@ impl<'a> Record<'a> {
     pub fn file_size(&self) -> u32
         ensures { result ≡ file_size (bytes_of self.now) }
     {
-        LittleEndian::read_u32(self.field(90, 4))
+        LittleEndian::read_u32(self.field(FILE_SIZE, 4))
     }
 
     /// The kind of file (DataType). A record that is accepted has 1, Character.
@@ -97,7 +88,7 @@ impl<'a> Record<'a> {
     pub(crate) fn file_type(&self) -> u8
         ensures { result ≡ file_type (bytes_of self.now) }
     {
-        self.byte(95)
+        self.byte(FILE_TYPE)
     }
 
     /// TInfo1 to TInfo4, by their numbers from 1. For Character/ANSi the first is the width in
@@ -107,7 +98,7 @@ impl<'a> Record<'a> {
         requires last { i ≤ 4 }
         ensures { result ≡ tinfo i (bytes_of self.now) }
     {
-        LittleEndian::read_u16(self.field(94 + 2 * i, 2))
+        LittleEndian::read_u16(self.field(TINFO_1 - 2 + 2 * i, 2))
     }
 
     /// How many lines of 64 bytes the comment block has (Comments), from 0 to 255.
@@ -121,7 +112,7 @@ impl<'a> Record<'a> {
     pub fn flags(&self) -> u8
         ensures { result ≡ flags (bytes_of self.now) }
     {
-        self.byte(105)
+        self.byte(FLAGS)
     }
 
     /// Whether the flags' bit 0, non-blink, is set: bit 7 of an attribute is then a bright background,
@@ -168,7 +159,7 @@ impl<'a> Record<'a> {
     pub(crate) fn date_bytes(&self) -> &'a [u8]
         ensures { result.now ≡ date_field (bytes_of self.now) }
     {
-        self.field(82, 8)
+        self.field(DATE, 8)
     }
 
     pub(crate) fn is_version_00(&self) -> bool

@@ -1,8 +1,8 @@
 -- The kinds that have arisen, with one token more.
-use Rattle.std.proofs.Common.{◌≡◌, ℕ, zero, suc, ◌+◌, ◌<◌, Bool, true, false, List, [], ◌∷◌, ◌++◌, length, map}
+use Rattle.std.proofs.Common.{◌≡◌, ℕ, zero, suc, ◌+◌, ◌<◌, ◌≤◌, Bool, true, false, List, [], ◌∷◌, ◌++◌, length, map}
 use Rattle.std.proofs.Common.{take, fold, refl, sym, ap, ◌∙◌, arith, subst, Option, None, Some, append_assoc}
 use Rattle.std.proofs.Common.{append-nil, length-append}
-use Rattle.std.specs.Prelude.{IsTrue, is_none, Result, slice_get, if◌then◌else◌}
+use Rattle.std.specs.Prelude.{◌≢◌, IsTrue, is_none, Result, slice_get, slice_index_or, if◌then◌else◌}
 use Rattle.std.specs.List.{concat, list_all, list_any}
 use Rattle.std.proofs.Math.Seq.{take-append_seam, take-length}
 use Rattle.std.proofs.lemmas.Bool.{and_parts, false≢true}
@@ -29,11 +29,11 @@ use Rattle.ans_players.specs.declared.kind.Kind.TheVariants.{SavePlaceOnly, DosC
 use Rattle.ans_players.specs.declared.kind.Kind.TheVariants.{StopsAtEdge, PageControls, TerminalControls, OwnColours}
 use Rattle.ans_tokens.specs.Walk.{Front, front_with, WalksTo}
 use Rattle.ans_tokens.proofs.Walked.{walked_whole}
-use Rattle.ans_walks.specs.Counted.{counted}
+use Rattle.ans_walks.specs.Counted.{count_of, counted}
 use Rattle.ans_walks.specs.GripsShown.{shown_grip}
 use Rattle.ans_walks.specs.NamesShown.{shown_names}
-use Rattle.ans_walks.specs.KindsUsed.{IsTold, used_of}
-use Rattle.ans_walks.specs.KindsWalked.{others_used, has_no_others, HasFoundKinds, IsFound}
+use Rattle.ans_walks.specs.KindsUsed.{IsTold, used_at, used_of}
+use Rattle.ans_walks.specs.KindsWalked.{AreFew, has_no_others, HasFoundKinds, IsFound}
 use Rattle.ans_walks.specs.Pens.{pen_of}
 use Rattle.ans_walks.specs.declared.kinds.KindsUsed.{KindsUsed}
 use Rattle.ans_walks.specs.declared.kinds.KindsWalk.{KindsWalk}
@@ -139,76 +139,92 @@ module _ (kind : Kind) (z : Size) where
         let n = counts true is in
         record { some = omega arith; count = omega (arith, n, a.count); first = still_first xs x t.first a.first }
 
--- ---- none of any kind
+-- ---- the kinds by their numbers
+number_within : (kind : Kind) → kind_number kind < 13
+number_within WrapAtOnce = omega arith
+number_within LineEnds = omega arith
+number_within HomeOnClear = omega arith
+number_within ClearInColour = omega arith
+number_within SavePlaceOnly = omega arith
+number_within DosColours = omega arith
+number_within TabPrints = omega arith
+number_within LineErased = omega arith
+number_within WrapOff = omega arith
+number_within StopsAtEdge = omega arith
+number_within PageControls = omega arith
+number_within TerminalControls = omega arith
+number_within OwnColours = omega arith
+
+-- own colours are the last
+other_within : (kind : Kind) → IsTrue (all_but OwnColours kind) → kind_number kind < 12
+other_within kind is =
+    let within = number_within kind in
+    let other : kind_number kind ≢ 12 = λ last. absurd (cc) in
+    omega (arith, within, other)
+
+one_more_few : (times : Option Times) (more : Bool) (offset most : ℕ) → count_of times ≤ most
+    → count_of (counted times more offset) ≤ most + 1
+one_more_few times false offset most few = omega (arith, few)
+one_more_few None true offset most few = omega arith
+one_more_few (Some t) true offset most few = omega (arith, few)
+
+-- of no kind more than once more was counted
+pub few_more : (old new : KindsUsed) (more : ℕ → Bool) (offset : ℕ) → AreFew old offset
+    → ((n : ℕ) → n < 13 → used_at new n ≡ counted (used_at old n) (more n) offset) → AreFew new (offset + 1)
+few_more old new more offset few each n within =
+    rw (each n within) (one_more_few (used_at old n) (more n) offset offset (few n within))
+
 no_times : (times : Option Times) → IsTrue (is_none times) → times ≡ None
 no_times None h = refl
 no_times (Some times) h = absurd (let no : false ≡ true = h in let none : ⊥ = cc in none)
 
-none_at : (all : List (Option Times)) (k : ℕ) (times : Option Times) → IsTrue (list_all is_none all)
-    → slice_get all k ≡ Some times → times ≡ None
-none_at [] k times h e = absurd (let no : ⊥ = cc in no)
-none_at (first ∷ all) zero times h e =
-    let same : first ≡ times = cc in sym same ∙ no_times first (and_parts _ _ h).0
-none_at (first ∷ all) (suc k) times h e = none_at all k times (and_parts _ _ h).1 e
-
--- what was counted of each kind, in their order
-abbrev all_used : KindsUsed → List (Option Times)
-all_used used = others_used used ++ used.own_colours ∷ []
-
-used_at : (used : KindsUsed) (kind : Kind) → slice_get (all_used used) (kind_number kind) ≡ Some (used_of used kind)
-used_at used WrapAtOnce = refl
-used_at used LineEnds = refl
-used_at used HomeOnClear = refl
-used_at used ClearInColour = refl
-used_at used SavePlaceOnly = refl
-used_at used DosColours = refl
-used_at used TabPrints = refl
-used_at used LineErased = refl
-used_at used WrapOff = refl
-used_at used StopsAtEdge = refl
-used_at used PageControls = refl
-used_at used TerminalControls = refl
-used_at used OwnColours = refl
-
-other_at : (used : KindsUsed) (kind : Kind) → IsTrue (all_but OwnColours kind)
-    → slice_get (others_used used) (kind_number kind) ≡ Some (used_of used kind)
-other_at used WrapAtOnce is = refl
-other_at used LineEnds is = refl
-other_at used HomeOnClear is = refl
-other_at used ClearInColour is = refl
-other_at used SavePlaceOnly is = refl
-other_at used DosColours is = refl
-other_at used TabPrints is = refl
-other_at used LineErased is = refl
-other_at used WrapOff is = refl
-other_at used StopsAtEdge is = refl
-other_at used PageControls is = refl
-other_at used TerminalControls is = refl
-other_at used OwnColours is = let no : false ≡ true = is in absurd (let none : ⊥ = cc in none)
+none_at : (all : List (Option Times)) (k n : ℕ) → IsTrue (list_all is_none (take n all)) → k < n
+    → slice_index_or all k None ≡ None
+none_at [] k n h within = refl
+none_at (first ∷ all) zero zero h within = absurd (omega (arith, within))
+none_at (first ∷ all) zero (suc n) h within = no_times first (and_parts _ _ h).0
+none_at (first ∷ all) (suc k) zero h within = absurd (omega (arith, within))
+none_at (first ∷ all) (suc k) (suc n) h within = none_at all k n (and_parts _ _ h).1 (omega (arith, within))
 
 pub each_other_none : (used : KindsUsed) → IsTrue (has_no_others used) → (kind : Kind)
     → IsTrue (all_but OwnColours kind) → used_of used kind ≡ None
-each_other_none used h kind is =
-    none_at (others_used used) (kind_number kind) (used_of used kind) h (other_at used kind is)
+each_other_none used h kind is = none_at used.times (kind_number kind) 12 h (other_within kind is)
+
+none_of : (times : Option Times) → times ≡ None → IsTrue (is_none times)
+none_of times is = rw is refl
+
+-- the kind of each number below that of own colours
+other_of : (k : ℕ) → k < 12 → (kind : Kind) × (kind_number kind ≡ k) × IsTrue (all_but OwnColours kind)
+other_of zero within = (WrapAtOnce, refl, refl)
+other_of (suc zero) within = (LineEnds, refl, refl)
+other_of (suc (suc zero)) within = (HomeOnClear, refl, refl)
+other_of (suc (suc (suc zero))) within = (ClearInColour, refl, refl)
+other_of (suc (suc (suc (suc zero)))) within = (SavePlaceOnly, refl, refl)
+other_of (suc (suc (suc (suc (suc zero))))) within = (DosColours, refl, refl)
+other_of (suc (suc (suc (suc (suc (suc zero)))))) within = (TabPrints, refl, refl)
+other_of (suc (suc (suc (suc (suc (suc (suc zero))))))) within = (LineErased, refl, refl)
+other_of (suc (suc (suc (suc (suc (suc (suc (suc zero)))))))) within = (WrapOff, refl, refl)
+other_of (suc (suc (suc (suc (suc (suc (suc (suc (suc zero))))))))) within = (StopsAtEdge, refl, refl)
+other_of (suc (suc (suc (suc (suc (suc (suc (suc (suc (suc zero)))))))))) within = (PageControls, refl, refl)
+other_of (suc (suc (suc (suc (suc (suc (suc (suc (suc (suc (suc zero))))))))))) within = (TerminalControls, refl, refl)
+other_of (suc (suc (suc (suc (suc (suc (suc (suc (suc (suc (suc (suc k)))))))))))) within =
+    absurd (omega (arith, within))
+
+all_none : (all : List (Option Times)) (n : ℕ) → ((k : ℕ) → k < n → slice_index_or all k None ≡ None)
+    → IsTrue (list_all is_none (take n all))
+all_none [] zero each = refl
+all_none [] (suc n) each = refl
+all_none (first ∷ all) zero each = refl
+all_none (first ∷ all) (suc n) each =
+    let first_none : first ≡ None = each 0 (omega arith) in
+    rw first_none (all_none all n (λ k within. each (suc k) (omega (arith, within))))
 
 pub all_others_none : (used : KindsUsed) → ((kind : Kind) → IsTrue (all_but OwnColours kind) → used_of used kind ≡ None)
     → IsTrue (has_no_others used)
 all_others_none used each =
-    rw (
-      each WrapAtOnce refl,
-      each LineEnds refl,
-      each HomeOnClear refl,
-      each ClearInColour refl,
-      each SavePlaceOnly refl,
-      each DosColours refl,
-      each TabPrints refl,
-      each LineErased refl,
-      each WrapOff refl,
-      each StopsAtEdge refl,
-      each PageControls refl,
-      each TerminalControls refl,
-    )
-    refl
+    all_none used.times 12 (λ k within.
+    let (kind, number_is, is) = other_of k within in
+    ap (λ (n : ℕ). slice_index_or used.times n None) (sym number_is) ∙ each kind is)
 
 -- ---- the walk
 module _ (first old : KindsWalk) (front : Front) (t : TokenKind) (text behind : List ℕ)

@@ -1,6 +1,5 @@
 pub mod PenSteps
 pub mod Mended
-pub mod MendedFiles
 pub mod Printed
 pub mod MoreLines
 pub mod TallerSteps
@@ -23,7 +22,6 @@ pub mod LastPrint
 pub mod KindsFound
 pub mod CalmFound
 pub mod NamedPlayers
-mod FrontsPass
 mod LineEndBytes
 mod FullRowsFound
 mod FullRowsEnded

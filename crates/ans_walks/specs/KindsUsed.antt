@@ -1,31 +1,20 @@
 -- What is told of the kinds in which players part.
-use Rattle.std.specs.Prelude.{ℕ, ◌<◌, Bool, is_some, List, map, Option, None, Some}
+use Rattle.std.specs.Prelude.{ℕ, ◌<◌, Bool, is_some, List, map, Option, None, Some, slice_index_or}
 use Rattle.std.specs.List.{filter}
 use Rattle.ans_model.specs.Screen.State.{Size}
-use Rattle.ans_players.specs.Kinds.{all_kinds, kind_word}
+use Rattle.ans_players.specs.Kinds.{all_kinds, kind_number, kind_word}
 use Rattle.ans_players.specs.Named.{IsNamed}
 use Rattle.ans_players.specs.declared.kind.Kind.{Kind}
-use Rattle.ans_players.specs.declared.kind.Kind.TheVariants.{WrapAtOnce, LineEnds, HomeOnClear, ClearInColour}
-use Rattle.ans_players.specs.declared.kind.Kind.TheVariants.{SavePlaceOnly, DosColours, TabPrints, LineErased, WrapOff}
-use Rattle.ans_players.specs.declared.kind.Kind.TheVariants.{StopsAtEdge, PageControls, TerminalControls, OwnColours}
 use Rattle.ans_walks.specs.declared.kinds.KindsUsed.{KindsUsed}
 use Rattle.ans_walks.specs.declared.times.Times.{Times}
 
+-- what is told of the kind of this number
+abbrev pub used_at : KindsUsed → ℕ → Option Times
+used_at used number = slice_index_or used.times number None
+
 -- `used.of(kind)`
 abbrev pub used_of : KindsUsed → Kind → Option Times
-used_of used WrapAtOnce = used.wrap_at_once
-used_of used LineEnds = used.line_ends
-used_of used HomeOnClear = used.home_on_clear
-used_of used ClearInColour = used.clear_in_colour
-used_of used SavePlaceOnly = used.save_place_only
-used_of used DosColours = used.dos_colours
-used_of used TabPrints = used.tab_prints
-used_of used LineErased = used.line_erased
-used_of used WrapOff = used.wrap_off
-used_of used StopsAtEdge = used.stops_at_edge
-used_of used PageControls = used.page_controls
-used_of used TerminalControls = used.terminal_controls
-used_of used OwnColours = used.own_colours
+used_of used kind = used_at used (kind_number kind)
 
 -- the kind is one of those that arise
 abbrev pub is_used : KindsUsed → Kind → Bool

@@ -1,5 +1,5 @@
 -- What the walk over the kinds in which players part has found so far. Only private contracts cite it.
-use Rattle.std.specs.Prelude.{◌≡◌, ℕ, ◌<◌, ◌≤◌, Bool, is_none, IsTrue, List, [], ◌∷◌, ◌++◌, length, Option, None, Some}
+use Rattle.std.specs.Prelude.{◌≡◌, ℕ, ◌<◌, ◌≤◌, Bool, is_none, IsTrue, List, ◌++◌, length, take, Option, None, Some}
 use Rattle.std.specs.List.{concat, list_all}
 use Rattle.ans_model.specs.Screen.State.{Size}
 use Rattle.ans_model.specs.Screen.StartClass.{cleared}
@@ -11,7 +11,7 @@ use Rattle.ans_tokens.specs.Walk.{Front}
 use Rattle.ans_walks.specs.Counted.{count_of}
 use Rattle.ans_walks.specs.GripsShown.{shown_grip}
 use Rattle.ans_walks.specs.NamesShown.{shown_names}
-use Rattle.ans_walks.specs.KindsUsed.{used_of}
+use Rattle.ans_walks.specs.KindsUsed.{used_at, used_of}
 use Rattle.ans_walks.specs.Pens.{pen_of, StandsOn}
 use Rattle.ans_walks.specs.declared.grip.Grip.{Grip}
 use Rattle.ans_walks.specs.declared.kinds.KindsUsed.{KindsUsed}
@@ -20,32 +20,13 @@ use Rattle.ans_walks.specs.declared.names.Names.{Names}
 use Rattle.ans_walks.specs.declared.pen.Pen.{Pen}
 use Rattle.ans_walks.specs.declared.times.Times.{Times}
 
--- of each kind no more was counted than this
-pub record AreFew (used : KindsUsed) (most : ℕ) : Type 0 where
-  pub wrap_at_once : count_of used.wrap_at_once ≤ most
-  pub line_ends : count_of used.line_ends ≤ most
-  pub home_on_clear : count_of used.home_on_clear ≤ most
-  pub clear_in_colour : count_of used.clear_in_colour ≤ most
-  pub save_place_only : count_of used.save_place_only ≤ most
-  pub dos_colours : count_of used.dos_colours ≤ most
-  pub tab_prints : count_of used.tab_prints ≤ most
-  pub line_erased : count_of used.line_erased ≤ most
-  pub wrap_off : count_of used.wrap_off ≤ most
-  pub stops_at_edge : count_of used.stops_at_edge ≤ most
-  pub page_controls : count_of used.page_controls ≤ most
-  pub terminal_controls : count_of used.terminal_controls ≤ most
-  pub own_colours : count_of used.own_colours ≤ most
+-- of no kind more was counted than this
+abbrev pub AreFew : KindsUsed → ℕ → Type 0
+AreFew used most = (number : ℕ) → number < 13 → count_of (used_at used number) ≤ most
 
--- what was counted of each kind but own colours, in their order
-abbrev pub others_used : KindsUsed → List (Option Times)
-others_used used =
-    used.wrap_at_once ∷ used.line_ends ∷ used.home_on_clear ∷ used.clear_in_colour
-    ∷ used.save_place_only ∷ used.dos_colours ∷ used.tab_prints ∷ used.line_erased
-    ∷ used.wrap_off ∷ used.stops_at_edge ∷ used.page_controls ∷ used.terminal_controls ∷ []
-
--- none of any kind but own colours was
+-- none of any kind but own colours, the last, was
 abbrev pub has_no_others : KindsUsed → Bool
-has_no_others used = list_all is_none (others_used used)
+has_no_others used = list_all is_none (take 12 used.times)
 
 -- from the cleared start the kind arises so often at the tokens, and there first
 pub record AriseFrom (z : Size) (xs : List Spelled) (kind : Kind) (times : Times) : Type 0 where

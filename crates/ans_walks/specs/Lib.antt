@@ -1,5 +1,4 @@
 pub mod Mend
-pub mod MendedFile
 pub mod Pens
 pub mod Lines
 pub mod Taller
@@ -18,7 +17,6 @@ pub mod RowLaws
 pub mod RowEndLaws
 pub mod FullRowEnds
 pub mod FullRowSearch
-pub mod LastEnds
 pub mod GripsShown
 pub mod NamesShown
 pub mod KindsUsed

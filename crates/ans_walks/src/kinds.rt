@@ -21,68 +21,28 @@ use crate::situations::Situations;
 use crate::times::{Times, count};
 use ans_model::size::Size;
 use ans_players::kind::Kind as PlayerKind;
-use ans_players::kind::Kind::{
-    ClearInColour, DosColours, HomeOnClear, LineEnds, LineErased, OwnColours, PageControls,
-    SavePlaceOnly, StopsAtEdge, TabPrints, TerminalControls, WrapAtOnce, WrapOff,
-};
 use ans_tokens::{Token, Walker, walk};
 use arrayvec::ArrayVec;
+
+/// The number of own colours, the last of the kinds.
+const OWN_COLOURS: usize = 12;
 
 /// How often each kind in which players part arises in a content, and where first.
 #[derive(Debug, Clone, Copy, PartialEq, Eq)]
 pub struct KindsUsed {
-    pub(crate) wrap_at_once: Option<Times>,
-    pub(crate) line_ends: Option<Times>,
-    pub(crate) home_on_clear: Option<Times>,
-    pub(crate) clear_in_colour: Option<Times>,
-    pub(crate) save_place_only: Option<Times>,
-    pub(crate) dos_colours: Option<Times>,
-    pub(crate) tab_prints: Option<Times>,
-    pub(crate) line_erased: Option<Times>,
-    pub(crate) wrap_off: Option<Times>,
-    pub(crate) stops_at_edge: Option<Times>,
-    pub(crate) page_controls: Option<Times>,
-    pub(crate) terminal_controls: Option<Times>,
-    pub(crate) own_colours: Option<Times>,
+    // by the kinds' numbers
+    pub(crate) times: [Option<Times>; 13],
 }
 
 impl KindsUsed {
-    const NONE: KindsUsed = KindsUsed {
-        wrap_at_once: None,
-        line_ends: None,
-        home_on_clear: None,
-        clear_in_colour: None,
-        save_place_only: None,
-        dos_colours: None,
-        tab_prints: None,
-        line_erased: None,
-        wrap_off: None,
-        stops_at_edge: None,
-        page_controls: None,
-        terminal_controls: None,
-        own_colours: None,
-    };
+    const NONE: KindsUsed = KindsUsed { times: [None; 13] };
 
     /// How often this kind arises, and where first, in bytes from the content's start. None where it
     /// never does.
     pub fn of(&self, kind: PlayerKind) -> Option<Times>
         ensures { result ≡ used_of self.now kind }
     {
-        match kind {
-            WrapAtOnce => self.wrap_at_once,
-            LineEnds => self.line_ends,
-            HomeOnClear => self.home_on_clear,
-            ClearInColour => self.clear_in_colour,
-            SavePlaceOnly => self.save_place_only,
-            DosColours => self.dos_colours,
-            TabPrints => self.tab_prints,
-            LineErased => self.line_erased,
-            WrapOff => self.wrap_off,
-            StopsAtEdge => self.stops_at_edge,
-            PageControls => self.page_controls,
-            TerminalControls => self.terminal_controls,
-            OwnColours => self.own_colours,
-        }
+        self.times[kind.number()]
     }
 
     /// The words of the kinds that arise, in the order of `Kind::ALL`.
@@ -98,21 +58,13 @@ impl KindsUsed {
         words
     }
 
+    /// Own colours are the last of the kinds.
     fn has_no_others(&self) -> bool
         ensures { result ≡ has_no_others self.now }
     {
-        self.wrap_at_once.is_none()
-            && self.line_ends.is_none()
-            && self.home_on_clear.is_none()
-            && self.clear_in_colour.is_none()
-            && self.save_place_only.is_none()
-            && self.dos_colours.is_none()
-            && self.tab_prints.is_none()
-            && self.line_erased.is_none()
-            && self.wrap_off.is_none()
-            && self.stops_at_edge.is_none()
-            && self.page_controls.is_none()
-            && self.terminal_controls.is_none()
+        self.times[..OWN_COLOURS]
+            .iter()
+            .all(|times| times.is_none())
     }
 
     /// Whether no kind arises but own colours.
@@ -140,7 +92,7 @@ impl KindsUsed {
         self.has(situations.loose)
             && self.has(situations.own)
             && self.has(situations.other)
-            && (!situations.unnamed || self.own_colours.is_some())
+            && (!situations.unnamed || self.times[OWN_COLOURS].is_some())
     }
 
     /// One time more of each kind of the situations.
@@ -153,19 +105,9 @@ impl KindsUsed {
         ensures used { (kind : Kind) → used_of self.new kind
             ≡ counted (used_of self.old kind) (list_any (is_kind kind) (kinds_of situations.now)) offset }
     {
-        situations.count(&mut self.wrap_at_once, WrapAtOnce, offset);
-        situations.count(&mut self.line_ends, LineEnds, offset);
-        situations.count(&mut self.home_on_clear, HomeOnClear, offset);
-        situations.count(&mut self.clear_in_colour, ClearInColour, offset);
-        situations.count(&mut self.save_place_only, SavePlaceOnly, offset);
-        situations.count(&mut self.dos_colours, DosColours, offset);
-        situations.count(&mut self.tab_prints, TabPrints, offset);
-        situations.count(&mut self.line_erased, LineErased, offset);
-        situations.count(&mut self.wrap_off, WrapOff, offset);
-        situations.count(&mut self.stops_at_edge, StopsAtEdge, offset);
-        situations.count(&mut self.page_controls, PageControls, offset);
-        situations.count(&mut self.terminal_controls, TerminalControls, offset);
-        situations.count(&mut self.own_colours, OwnColours, offset);
+        for number in 0..self.times.len() {
+            situations.count(&mut self.times[number], number, offset);
+        }
     }
 
     /// The kinds that arise at a token at this offset count; mostly none does but own colours.
@@ -178,7 +120,7 @@ impl KindsUsed {
             ≡ counted (used_of self.old kind) (list_any (is_kind kind) (kinds_of situations.now)) offset }
     {
         if situations.are_own_colours_at_most() {
-            count(&mut self.own_colours, situations.unnamed, offset);
+            count(&mut self.times[OWN_COLOURS], situations.unnamed, offset);
         } else {
             self.count_each(situations, offset);
         }

@@ -3,7 +3,6 @@
 ghost use Rattle.std.specs.Prelude.{◌≡◌};
 ghost use Rattle.ans_walks.specs.Lines.{OneLineMoreIsGood};
 ghost use Rattle.ans_walks.specs.Mend.{LeavesClearedScreen, MakesGood, mending};
-ghost use Rattle.ans_walks.specs.MendedFile.{MendedFilePasses};
 ghost use Rattle.ans_walks.specs.RowEndLaws.{CountsBeforeLastPrint, LineFeedEndsFullRow};
 ghost use Rattle.ans_walks.specs.RowLaws.{EmptyRowsHoldNothing, NoMoreRowsAreEmpty};
 ghost use Rattle.ans_walks.specs.SaidOfPlayers.{MendedIsSameWhereCleared};
@@ -24,12 +23,6 @@ pub fn mended_content_is_good()
 /// from the cleared start, it is so from every start.
 pub fn mended_content_is_same_where_cleared()
     ensures { MendedIsSameWhereCleared }
-{}
-
-/// An accepted file that passes from the cleared start passes from every start once these 25 bytes
-/// are before its content and its FileSize is 25 more. It keeps its size and its notes.
-pub fn mended_file_passes()
-    ensures { MendedFilePasses }
 {}
 
 /// From the cleared start, content that is good with some lines stated is good with one line more,

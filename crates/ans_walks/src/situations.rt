@@ -5,12 +5,11 @@ ghost use Rattle.std.specs.List.{list_all, list_any};
 ghost use Rattle.ans_model.specs.Bytes.{bracket, longest_file, semicolon};
 ghost use Rattle.ans_model.specs.Screen.State.{State};
 ghost use Rattle.ans_model.specs.Inside.ShownKind.{shown_kind};
-ghost use Rattle.ans_players.specs.Kinds.{is_kind};
 ghost use Rattle.ans_players.specs.Situations.{is_common_colour, is_page_control, is_terminal_control, kind_if};
 ghost use Rattle.ans_players.specs.Situations.{omits, own_kinds, situations};
 ghost use Rattle.ans_walks.specs.Counted.{count_of, counted};
 ghost use Rattle.ans_players.specs.declared.kind.Kind.TheVariants.{OwnColours};
-ghost use Rattle.ans_walks.specs.GripsShown.{kinds_in, kinds_of, shown_grip};
+ghost use Rattle.ans_walks.specs.GripsShown.{has_number, kinds_in, kinds_of, shown_grip};
 ghost use Rattle.ans_walks.specs.NamesShown.{shown_names};
 ghost use Rattle.ans_walks.specs.Pens.{pen_of, StandsOn};
 
@@ -138,12 +137,12 @@ fn own_kinds(
     }
 }
 
-/// Whether it is this kind.
-fn is_in(some: Option<PlayerKind>, kind: PlayerKind) -> bool
-    ensures { result ≡ list_any (is_kind kind) (kinds_in some) }
+/// Whether it is the kind of this number.
+fn is_in(some: Option<PlayerKind>, number: usize) -> bool
+    ensures { result ≡ list_any (has_number number) (kinds_in some) }
 {
     match some {
-        Some(other) => kind.number() == other.number(),
+        Some(kind) => number == kind.number(),
         None => false,
     }
 }
@@ -186,23 +185,23 @@ impl Situations {
         self.loose.is_none() && self.own.is_none() && self.other.is_none()
     }
 
-    /// One time more of a kind at this offset, where it arises.
-    pub(crate) fn count(&self, times: &mut Option<Times>, kind: PlayerKind, offset: usize)
+    /// One time more of the kind of this number at this offset, where it arises.
+    pub(crate) fn count(&self, times: &mut Option<Times>, number: usize, offset: usize)
         requires { count_of times.old ≤ longest_file }
         ensures value { times.new
-            ≡ counted times.old (list_any (is_kind kind) (kinds_of self.now)) offset }
+            ≡ counted times.old (list_any (has_number number) (kinds_of self.now)) offset }
         ensures within { count_of times.new ≤ count_of times.old + 1 }
     {
-        count(times, self.have(kind), offset);
+        count(times, self.have(number), offset);
     }
 
-    /// Whether this kind arises.
-    fn have(&self, kind: PlayerKind) -> bool
-        ensures { result ≡ list_any (is_kind kind) (kinds_of self.now) }
+    /// Whether the kind of this number arises.
+    fn have(&self, number: usize) -> bool
+        ensures { result ≡ list_any (has_number number) (kinds_of self.now) }
     {
-        is_in(self.loose, kind)
-            || is_in(self.own, kind)
-            || is_in(self.other, kind)
-            || (self.unnamed && kind.number() == PlayerKind::OwnColours.number())
+        is_in(self.loose, number)
+            || is_in(self.own, number)
+            || is_in(self.other, number)
+            || (self.unnamed && number == PlayerKind::OwnColours.number())
     }
 }

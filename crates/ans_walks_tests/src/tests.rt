@@ -8,7 +8,6 @@ ghost use Rattle.ans_model.specs.Verdict.LastFault.{IsDeserved};
 
 mod full_rows;
 mod kinds;
-mod last_ends;
 mod lines;
 mod taller;
 

@@ -1,5 +1,5 @@
 -- The text of `why`.
-use Rattle.std.specs.Prelude.{ℕ, Bool, true, false, List, [], ◌∷◌, ◌++◌, length, codes, decimal}
+use Rattle.std.specs.Prelude.{◌≡◌, ℕ, Bool, true, false, List, [], ◌∷◌, ◌++◌, length, codes, decimal}
 use Rattle.std.specs.Prelude.{Option, Some, None, is_some, if◌then◌else◌}
 use Rattle.std.specs.List.{flat_map}
 use Rattle.ans_model.specs.declared.cell.Cell.{Cell}
@@ -22,8 +22,9 @@ use Rattle.ans_walks.specs.declared.hints.Hints.{Hints}
 use Rattle.ans_why.specs.HintsText.{hints_text}
 use Rattle.ans_why.specs.Known.{known_behind_end_mark, known_text}
 use Rattle.ans_why.specs.PlayersText.{players_lines}
+use Rattle.ans_sauce.specs.Judged.{is_pass}
 use Rattle.ans_sauce.specs.declared.judged.Judged.TheVariants.{NoContent, Refused, Passes}
-use Rattle.ans_why.specs.Explained.{Why}
+use Rattle.ans_why.specs.Explained.{IsTrueOf, Why}
 use Rattle.ans_why.specs.declared.known_bytes.Known.{Known}
 use Rattle.ans_why.specs.declared.why.Enough.{Enough}
 use Rattle.ans_why.specs.declared.why.Pass.{Pass}
@@ -144,3 +145,10 @@ why_text (NoContent said) =
     ++ (found_line said.found ++ (known_line (known_found said.found) ++ enough_lines said.enough))
 why_text (Refused parts refusal) = heading_lines parts ++ refusal_lines parts refusal
 why_text (Passes parts pass) = heading_lines parts ++ pass_lines parts pass
+
+-- What is said is true of the file, and the text says it. The file passes where it passes from the cleared start.
+pub record ReportsWhy (file : List ℕ) (passed : Bool) (text : List ℕ) : Type 0 where
+  pub said : Why
+  pub is_true : IsTrueOf file said
+  pub passed_is : passed ≡ is_pass said
+  pub text_is : text ≡ why_text said

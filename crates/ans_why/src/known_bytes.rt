@@ -11,6 +11,7 @@ use ans_forms::{
     begins_with_form,
 };
 use ans_model::fault::Cause;
+use ans_sauce::fields::END_MARK;
 
 /// What bytes are that are refused: things that artists and their programs are known to write.
 #[derive(Debug, Clone, Copy, PartialEq, Eq)]
@@ -56,9 +57,6 @@ impl Known {
         }
     }
 }
-
-/// SAUCE 00.5: the end of file character.
-const END_MARK: u8 = 0x1A;
 
 /// The first form that the bytes begin with.
 fn known_form(bytes: &[u8]) -> Option<Known>

@@ -2,8 +2,8 @@ use Rattle.std.proofs.Common.{ap, inl, inr, length, subst, sym}
 use Rattle.std.specs.Prelude.{is_err}
 use Rattle.ans_c.proofs.Verdicts.{lent_lacking, record_told, refusal_told}
 use Rattle.ans_model.specs.Screen.StartClass.{all_known}
-use Rattle.ans_check.specs.FileNeeds.{NeedsClass}
-use Rattle.ans_check.proofs.VerdictLemmas.{needs_class}
+use Rattle.ans_verdict.specs.FileNeeds.{NeedsClass}
+use Rattle.ans_verdict.proofs.VerdictLemmas.{needs_class}
 use Rattle.ans_c.proofs.files.ans_needs_on.Goals as goal
 
 pub returns-in-Passes-clause-pass : goal.returns-in-Passes-clause-pass

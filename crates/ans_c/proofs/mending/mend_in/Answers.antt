@@ -1,6 +1,6 @@
 use Rattle.std.proofs.Common.{◌≡◌, ◌∙◌, ◌+◌, ◌≤◌, ◌++◌, ap, ap₂, length, List, ℕ, [], refl, subst, subst₂, sym}
-use Rattle.ans_check.specs.Mending.{IsMended, IsReason}
-use Rattle.ans_check.specs.MendingRoom.{most_put}
+use Rattle.ans_mend.specs.Mending.{IsMended, IsReason}
+use Rattle.ans_mend.specs.MendingRoom.{most_put}
 use Rattle.ans_c.proofs.MendingRooms.{lacks_draft, lacks_place}
 use Rattle.ans_c.proofs.mending.mend_in.Goals as goal
 

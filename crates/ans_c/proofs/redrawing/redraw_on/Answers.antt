@@ -1,6 +1,6 @@
 use Rattle.std.proofs.Common.{inr}
 use Rattle.ans_model.specs.Screen.StartClass.{all_known}
-use Rattle.ans_check.proofs.VerdictLemmas.{refuses}
+use Rattle.ans_verdict.proofs.VerdictLemmas.{refuses}
 use Rattle.ans_c.proofs.Redrawings.{held_with}
 use Rattle.ans_c.proofs.redrawing.redraw_on.Goals as goal
 

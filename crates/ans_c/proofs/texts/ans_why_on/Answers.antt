@@ -2,7 +2,6 @@ use Rattle.std.proofs.Common.{◌∙◌, ap, inl, inr, length, refl}
 use Rattle.std.specs.Prelude.{is_err}
 use Rattle.ans_why.specs.WhyText.{why_text}
 use Rattle.ans_write.specs.Tried.{has_failed}
-use Rattle.ans_check.proofs.ReportLemmas.{why_reported}
 use Rattle.ans_c.proofs.Verdicts.{lent_lacking}
 use Rattle.ans_c.proofs.texts.ans_why_on.Goals as goal
 
@@ -20,7 +19,12 @@ returns-clause-handed c = λ _.
     inl (record {
       passed = c.is_pass.result;
       text = why_text c.in-Ok.why;
-      reported = why_reported c.args.file.now c.in-Ok.why c.is_pass.result c.in-Ok.ensures.why c.is_pass.ensures;
+      reported = record {
+        said = c.in-Ok.why;
+        is_true = c.in-Ok.ensures.why;
+        passed_is = c.is_pass.ensures;
+        text_is = refl;
+      };
       handed = c.hand_over.ensures.handed c.new-out.result (why_text c.in-Ok.why) c.new-out.ensures.empty
           (ap has_failed c.new-out.ensures.unchanged ∙ c.new-nowhere.ensures.failed) c.put_why.ensures;
     })

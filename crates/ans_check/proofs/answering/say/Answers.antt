@@ -1,8 +1,19 @@
-use Rattle.ans_check.proofs.AnswerLemmas.{says_else}
+use Rattle.std.proofs.Common.{rules, sym}
+use Rattle.ans_write.specs.Puts.{device_of}
+use Rattle.ans_check.specs.Answer.{said_text}
+use Rattle.ans_check.proofs.AnswerLemmas.{put_out, said, said_nothing, said_something}
 use Rattle.ans_check.proofs.answering.say.Goals as goal
 
-pub returns-in_default : goal.returns-in_default
-returns-in_default g c =
-    says_else g.E.Write.contents c.args.errors.now c.say_message.new.errors c.args.ending c.requires.told
-    c.in_default.not-Table c.in_default.not-Mended c.in_default.not-NotMended c.in_default.not-Redrawn
-    c.in_default.not-NotRedrawn c.say_message.ensures
+pub returns-then-says_nothing : goal.returns-then-says_nothing
+returns-then-says_nothing g c =
+    said g.E.Write.contents c.args.errors.now c.args.errors.now c.args.ending c.requires.told
+    (said_nothing g.E.Write.contents c.args.errors.now (said_text c.args.ending) (sym c.if-says_nothing.ensures))
+
+pub returns : goal.returns
+returns g c =
+    let told = put_out c.args.errors.now c.finish.result c.new-out.ensures.unchanged c.new-out.ensures.empty
+    c.put_said.ensures c.finish.ensures.handed c.finish.ensures.device c.finish.ensures.empty in
+    let done = said g.E.Write.contents c.args.errors.now (device_of c.finish.new.self) c.args.ending c.requires.told
+    (said_something g.E.Write.contents c.args.errors.now (device_of c.finish.new.self) (said_text c.args.ending)
+    (sym c.if-says_nothing.ensures) told) in
+    search (rules, done)

@@ -8,7 +8,7 @@ returns-in-Table-clause-ends g c =
     rw c.in-Table.is (rw c.as_slice.ensures.value at c.serve_table.ensures.ends)
 
 pub returns-in-Mend-clause-ends : goal.returns-in-Mend-clause-ends
-returns-in-Mend-clause-ends g c = rw c.in-Mend.is c.serve_mend.ensures.ends
+returns-in-Mend-clause-ends g c = rw c.in-Mend.is c.serve_one-in-Mend.ensures.ends
 
 pub returns-in-Redraw-clause-ends : goal.returns-in-Redraw-clause-ends
-returns-in-Redraw-clause-ends g c = rw c.in-Redraw.is c.serve_redraw.ensures.ends
+returns-in-Redraw-clause-ends g c = rw c.in-Redraw.is c.serve_one-in-Redraw.ensures.ends

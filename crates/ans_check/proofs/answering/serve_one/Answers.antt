@@ -1,4 +1,4 @@
-use Rattle.std.proofs.Common.{refl, subst, sym, inl}
+use Rattle.std.proofs.Common.{subst, sym, inl}
 use Rattle.std.specs.Prelude.{option_map, string_bytes}
 use Rattle.ans_check.specs.Answer.{IsNamed}
 use Rattle.ans_check.proofs.answering.serve_one.Goals as goal
@@ -6,11 +6,11 @@ use Rattle.ans_check.proofs.answering.serve_one.Goals as goal
 pub returns-clause-ends : goal.returns-clause-ends
 returns-clause-ends g c = inl (record {
   reader = c.new-reader.result;
-  reader_after = c.serve.new.reader;
+  reader_after = c.serve_task.new.reader;
   input = subst (IsNamed (g.I.Inputs.is_file c.args.inputs) (g.I.Inputs.is_standard c.args.inputs)
       (option_map string_bytes c.args.name.now)) (sym c.new-reader.ensures.inner) c.in-Some.ensures.some;
   unread = c.new-reader.ensures.calls;
-  answer = c.serve.result;
-  serves = c.serve.ensures;
-  ends = refl;
+  answer = c.serve_task.result;
+  serves = c.serve_task.ensures;
+  ends = c.ending.ensures;
 })

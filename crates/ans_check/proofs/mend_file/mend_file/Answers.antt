@@ -1,8 +1,9 @@
 use Rattle.std.proofs.Common.{◌≡◌, ◌≤◌, ◌-◌, ◌∙◌, ℕ, List, length, replicate, take, ap, ap₂, subst, sym}
 use Rattle.std.specs.Vec.{vec_len}
 use Rattle.std.proofs.lemmas.List.{length-replicate}
-use Rattle.ans_check.specs.MendingRoom.{most_put}
-use Rattle.ans_check.specs.Reported.{PutsMended}
+use Rattle.ans_mend.specs.MendingRoom.{most_put}
+use Rattle.ans_check.specs.Reported.{PutsTold}
+use Rattle.ans_mend.specs.Mending.{TellsMended}
 use Rattle.ans_check.proofs.MendFileLemmas.{grown_front, roomy, saturated}
 use Rattle.ans_check.proofs.mend_file.mend_file.Goals as goal
 
@@ -33,5 +34,5 @@ returns g c =
     let front : take c.len-count.result c.as_mut_slice.result.now ≡ bytes =
     ap₂ (λ (n : ℕ) (v : List ℕ). take n v) count (c.as_mut_slice.ensures.value ∙ c.in_ok-resize.ensures.items)
     ∙ grown_front bytes c.saturating_add.result _ within in
-    subst (λ (file : List ℕ). PutsMended g.W.Write.contents c.args.mends.now file c.args.out.now c.mend_in.new.out
-    c.mend_in.result) front c.mend_in.ensures
+    subst (λ (file : List ℕ). PutsTold g.W.Write.contents (TellsMended c.args.mends.now file) c.args.out.now
+    c.mend_in.new.out c.mend_in.result) front c.mend_in.ensures

@@ -1,7 +1,8 @@
 use Rattle.std.proofs.Common.{◌≡◌, ℕ, List, take, ap, refl, subst, subst₂, sym}
 use Rattle.std.specs.Prelude.{IfErr, IfOk}
-use Rattle.ans_check.specs.Mending.{IsMended, IsReason}
-use Rattle.ans_check.specs.Served.{mended_bytes}
+use Rattle.ans_mend.specs.Mending.{IsMended, IsReason}
+use Rattle.ans_mend.specs.Mending.{mended_bytes}
+use Rattle.ans_check.proofs.ReportedLemmas.{is_put}
 use Rattle.ans_check.proofs.mend_file.mend_in.Goals as goal
 
 pub returns : goal.returns
@@ -14,4 +15,4 @@ returns g c =
     let reason =
     subst (λ (f : List ℕ). IfErr answer (IsReason c.args.mends.now f)) file c.in_ok-answer.ensures.reason in
     let draft = c.file.result.now in
-    (mended_bytes answer draft, (draft, mended, reason, refl), c.put_answer.ensures)
+    is_put answer (mended_bytes answer draft) (draft, mended, reason, refl) c.put_answer.ensures

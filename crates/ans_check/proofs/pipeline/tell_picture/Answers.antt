@@ -3,7 +3,7 @@ use Rattle.std.specs.Prelude.{is_some}
 use Rattle.ans_report.specs.ReportBytes.{report_bytes}
 use Rattle.ans_sauce.specs.Parts.{record_of}
 use Rattle.ans_check.specs.CommandText.{ReportsShow, shown_text}
-use Rattle.ans_check.specs.FileVerdict.{fault_of}
+use Rattle.ans_verdict.specs.FileVerdict.{fault_of}
 use Rattle.ans_check.proofs.ReportLemmas.{picture_reported, refused_reported}
 use Rattle.ans_check.proofs.ReportedLemmas.{is_put}
 use Rattle.ans_check.proofs.pipeline.tell_picture.Goals.{in-Pass, in-Refused}

@@ -2,7 +2,7 @@ use Rattle.std.proofs.Common.{true, false, sym, subst}
 use Rattle.ans_model.specs.Text.ReportText.{refusal_text}
 use Rattle.ans_report.specs.RecordLines.{parts_text}
 use Rattle.ans_report.proofs.RecordLemmas.{parts_text_is}
-use Rattle.ans_check.specs.CommandText.{ReportsSauce}
+use Rattle.ans_report.specs.RecordReports.{ReportsSauce}
 use Rattle.ans_check.proofs.ReportLemmas.{record_reported, sauce_reported}
 use Rattle.ans_check.proofs.ReportedLemmas.{is_put}
 use Rattle.ans_check.proofs.pipeline.tell_record.Goals as goal

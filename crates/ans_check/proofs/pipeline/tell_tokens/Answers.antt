@@ -9,9 +9,9 @@ pub returns-in-Ok : goal.returns-in-Ok
 returns-in-Ok g c =
     let told = c.put_tokens.ensures in
     record {
-      passed = not (is_some told.fault);
+      told = not (is_some told.fault);
       text = told.text;
-      reported = tokens_reported c.args.file.now c.in-Ok.parts c.content.result.now told.fault
+      right = tokens_reported c.args.file.now c.in-Ok.parts c.content.result.now told.fault
           (not (is_some told.fault)) told.text c.in-Ok.ensures.ok c.content.ensures told.is_text
           (some_by_none told.fault);
       puts = told.puts;

@@ -1,4 +1,4 @@
-use Rattle.ans_check.proofs.VerdictLemmas.{content_within}
+use Rattle.ans_verdict.proofs.VerdictLemmas.{content_within}
 use Rattle.ans_check.proofs.rows.finding_by.Goals as goal
 
 pub of-said-requires-clause-length : goal.of-said-requires-clause-length

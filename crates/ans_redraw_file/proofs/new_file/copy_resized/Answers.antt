@@ -1,6 +1,6 @@
 use Rattle.std.proofs.Common.{◌≡◌, ◌+◌, ℕ, length, take, drop, sym, ap, ◌∙◌, arith}
 use Rattle.std.proofs.lemmas.List.{length-drop, length-take-le}
-use Rattle.ans_walks.specs.MendedFile.{four_bytes}
+use Rattle.ans_sauce.specs.Fields.{four_bytes}
 use Rattle.ans_redraw_file.proofs.NewFiles.{joined, record_end}
 use Rattle.ans_redraw_file.proofs.new_file.copy_resized.Goals as goal
 

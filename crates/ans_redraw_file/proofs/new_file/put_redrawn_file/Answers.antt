@@ -1,5 +1,5 @@
 use Rattle.std.proofs.Common.{ap₂, sym}
-use Rattle.ans_walks.specs.MendedFile.{with_file_size}
+use Rattle.ans_sauce.specs.Fields.{with_file_size}
 use Rattle.ans_write.proofs.PutsLemmas.{Puts-same, Puts-then}
 use Rattle.ans_redraw_file.proofs.NewFiles.{sauce_is, whole_is}
 use Rattle.ans_redraw_file.proofs.new_file.put_redrawn_file.Goals as goal

@@ -1,0 +1,188 @@
+-- How much longer a file gets where it is mended, by its line feeds.
+use Rattle.std.proofs.Common.{◌≡◌, ℕ, ◌+◌, ◌-◌, ◌≤◌, Bool, true, false, List, [], ◌∷◌, ◌++◌, length, take, drop}
+use Rattle.std.proofs.Common.{inl, inr, refl, sym, ap, ◌∙◌, arith, subst, append_assoc, Option, Some, None}
+use Rattle.std.specs.Prelude.{if◌then◌else◌, ◌&&◌}
+use Rattle.std.specs.List.{position_or_len}
+use Rattle.std.specs.Option.{option_map_or}
+use Rattle.std.proofs.lemmas.List.{length-append, length-drop, take-append-drop}
+use Rattle.std.proofs.lemmas.List.Sums.{sum_by-append, sum_by-cons, sum_by-take-le}
+use Rattle.std.proofs.Math.Seq.{take-append_seam}
+use Rattle.ans_model.specs.Bytes.{end_mark}
+use Rattle.ans_model.specs.File.Layout.{content, is_end_mark}
+use Rattle.ans_model.specs.File.Record.{comment_count}
+use Rattle.ans_model.specs.File.Refusals.{block_size, has_record}
+use Rattle.ans_sauce.specs.Found.{body_in, front_in, record_in}
+use Rattle.ans_mend.specs.Contents.{content_in, with_content}
+use Rattle.ans_mend.specs.LineEnds.{is_line_feed, line_feeds, returned as returned_byte, wants_returns, with_line_ends}
+use Rattle.ans_mend.specs.LineEnds.{with_returns}
+use Rattle.ans_mend.specs.NewRecord.{new_record, takes_record, with_new_record}
+use Rattle.ans_mend.specs.Tail.{IsTailCut}
+use Rattle.ans_model.specs.declared.mends.Mends.{Mends}
+use Rattle.ans_mend.specs.Mending.{asked_for, recorded}
+use Rattle.ans_mend.specs.MendingRoom.{most_returns}
+
+-- ---- the line feeds of a front, and how long it is
+
+front_feeds : (n : ℕ) (bytes : List ℕ) → line_feeds (take n bytes) ≤ line_feeds bytes
+front_feeds n bytes = sum_by-take-le (λ (b : ℕ). if is_line_feed b then 1 else 0) bytes n
+
+front_short : (n : ℕ) (bytes : List ℕ) → length (take n bytes) ≤ length bytes
+front_short n bytes =
+    let sum : length (take n bytes) + length (drop n bytes) ≡ length bytes =
+    sym (length-append (take n bytes) (drop n bytes)) ∙ ap length (take-append-drop n bytes) in
+    omega (arith, sum)
+
+pub content_short : (bytes : List ℕ) → length (content bytes) ≤ length bytes
+content_short bytes = front_short (position_or_len is_end_mark bytes) bytes
+
+content_feeds : (bytes : List ℕ) → line_feeds (content bytes) ≤ line_feeds bytes
+content_feeds bytes = front_feeds (position_or_len is_end_mark bytes) bytes
+
+pub content_in_feeds : (file : List ℕ) → line_feeds (content_in file) ≤ line_feeds (front_in file)
+content_in_feeds file =
+    let inner = content_feeds (body_in file) in
+    let outer = front_feeds (length (front_in file) - block_size (comment_count (record_in file))) (front_in file) in
+    omega (arith, inner, outer)
+
+content_in_short : (file : List ℕ) → length (content_in file) ≤ length file
+content_in_short file =
+    let inner = content_short (body_in file) in
+    let body = front_short (length (front_in file) - block_size (comment_count (record_in file))) (front_in file) in
+    let front = front_short (length file - 128) file in
+    omega (arith, inner, body, front)
+
+-- ---- returns
+
+feeds_few : (bytes : List ℕ) → line_feeds bytes ≤ length bytes
+feeds_few [] = omega arith
+feeds_few (b ∷ bytes) =
+    let feeds = sum_by-cons (λ (v : ℕ). if is_line_feed v then 1 else 0) b bytes in
+    let rest = feeds_few bytes in
+    let one = at_most_one (is_line_feed b) in
+    omega (arith, feeds, rest, one)
+  where
+    at_most_one : (feed : Bool) → (if feed then 1 else 0) ≤ 1
+    at_most_one true = omega arith
+    at_most_one false = omega arith
+
+-- one for each byte, at most
+pub returns_few : (mends : Mends) (bytes : List ℕ) → most_returns mends bytes ≤ length bytes
+returns_few mends bytes = go mends.line_ends
+  where
+    go : (asked : Bool) → (if asked then line_feeds bytes else 0) ≤ length bytes
+    go true = feeds_few bytes
+    go false = omega arith
+
+returns_length : (bytes : List ℕ) → length (with_returns bytes) ≡ length bytes + line_feeds bytes
+returns_length [] = refl
+returns_length (b ∷ bytes) =
+    let more = length-append (returned_byte b) (with_returns bytes) in
+    let feeds = sum_by-cons (λ (v : ℕ). if is_line_feed v then 1 else 0) b bytes in
+    let rest = returns_length bytes in
+    let one = byte_length (is_line_feed b) in
+    omega (arith, more, feeds, rest, one)
+  where
+    byte_length : (feed : Bool)
+        → length (if feed then 0x0D ∷ b ∷ [] else b ∷ []) ≡ 1 + (if feed then 1 else 0)
+    byte_length true = refl
+    byte_length false = refl
+
+pub line_ends_length : (file : List ℕ) → length (with_line_ends file) ≤ length file + line_feeds (front_in file)
+line_ends_length file = go (has_record file && wants_returns (content_in file))
+  where
+    go : (wants : Bool) → length (if wants then with_content (with_returns (content_in file)) file else file)
+        ≤ length file + line_feeds (front_in file)
+    go false = omega arith
+    go true =
+        let all = length-append (with_returns (content_in file)) (drop (length (content_in file)) file) in
+        let behind = length-drop (length (content_in file)) file in
+        let grown = returns_length (content_in file) in
+        let few = content_in_feeds file in
+        let short = content_in_short file in
+        omega (arith, all, behind, grown, few, short)
+
+-- ---- a record of 128 bytes
+
+pub front_before : (front record_bytes : List ℕ) → length record_bytes ≡ 128
+    → front_in (front ++ record_bytes) ≡ front
+front_before front record_bytes long =
+    let all = length-append front record_bytes in
+    let count : length (front ++ record_bytes) - 128 ≡ length front = omega (arith, all, long) in
+    ap (λ (n : ℕ). take n (front ++ record_bytes)) count ∙ take-append_seam front record_bytes
+
+new_record_length : (width : ℕ) → length (new_record width) ≡ 128
+new_record_length width = refl
+
+module _ (width : ℕ) (cut : List ℕ) where
+  -- the content and its end mark
+  abbrev marked : List ℕ
+  marked = content cut ++ end_mark ∷ []
+
+  with_record_behind : content cut ++ end_mark ∷ new_record width ≡ marked ++ new_record width
+  with_record_behind = sym (append_assoc (content cut) (end_mark ∷ []) (new_record width))
+
+  marked_feeds : line_feeds marked ≤ line_feeds cut
+  marked_feeds =
+      let sum = sum_by-append (λ (b : ℕ). if is_line_feed b then 1 else 0) (content cut) (end_mark ∷ []) in
+      let few = content_feeds cut in
+      omega (arith, sum, few)
+
+  pub new_feeds : line_feeds (front_in (with_new_record width cut)) ≤ line_feeds cut
+  new_feeds = go (takes_record cut)
+    where
+      go : (takes : Bool)
+          → line_feeds (front_in (if takes then content cut ++ end_mark ∷ new_record width else cut)) ≤ line_feeds cut
+      go false = front_feeds (length cut - 128) cut
+      go true =
+          let front : front_in (content cut ++ end_mark ∷ new_record width) ≡ marked =
+          ap front_in with_record_behind ∙ front_before marked (new_record width) (new_record_length width) in
+          let same = ap line_feeds front in
+          let few = marked_feeds in
+          omega (arith, same, few)
+
+  pub new_length : length (with_new_record width cut) ≤ length cut + 129
+  new_length = go (takes_record cut)
+    where
+      go : (takes : Bool)
+          → length (if takes then content cut ++ end_mark ∷ new_record width else cut) ≤ length cut + 129
+      go false = omega arith
+      go true =
+          let all = length-append (content cut) (end_mark ∷ new_record width) in
+          let long = new_record_length width in
+          let short = content_short cut in
+          omega (arith, all, long, short)
+
+pub recorded_length : (mends : Mends) (cut : List ℕ) → length (recorded mends cut) ≤ length cut + 129
+recorded_length mends cut = go mends.width
+  where
+    go : (width : Option ℕ) → length (option_map_or (λ w. with_new_record w cut) width cut) ≤ length cut + 129
+    go None = omega arith
+    go (Some width) = new_length width cut
+
+recorded_feeds : (mends : Mends) (cut : List ℕ) → line_feeds (front_in (recorded mends cut)) ≤ line_feeds cut
+recorded_feeds mends cut = go mends.width
+  where
+    go : (width : Option ℕ) → line_feeds (front_in (option_map_or (λ w. with_new_record w cut) width cut))
+        ≤ line_feeds cut
+    go None = front_feeds (length cut - 128) cut
+    go (Some width) = new_feeds width cut
+
+-- ---- in all
+
+cut_feeds : (file cut : List ℕ) → IsTailCut file cut → line_feeds cut ≤ line_feeds file
+cut_feeds file cut (inl (place, tail, is)) =
+    subst (λ (v : List ℕ). line_feeds v ≤ line_feeds file) (sym is) (front_feeds (place + 128) file)
+cut_feeds file cut (inr (none, is)) = subst (λ (v : List ℕ). line_feeds v ≤ line_feeds file) (sym is) (omega arith)
+
+-- no more returns are put than the file has line feeds
+pub few_returns : (mends : Mends) (file cut : List ℕ) → IsTailCut file cut
+    → most_returns (asked_for mends cut) (front_in (recorded mends cut)) ≤ most_returns mends file
+few_returns mends file cut is = go mends.line_ends
+  where
+    go : (asked : Bool) → (if asked then line_feeds (front_in (recorded mends cut)) else 0)
+        ≤ (if asked then line_feeds file else 0)
+    go false = omega arith
+    go true =
+        let put = recorded_feeds mends cut in
+        let left = cut_feeds file cut is in
+        omega (arith, put, left)

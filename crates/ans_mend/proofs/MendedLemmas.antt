@@ -1,0 +1,385 @@
+-- A file that is mended passes from every start.
+use Rattle.std.proofs.Common.{◌≡◌, inl, inr, ℕ, ◌+◌, ◌-◌, ◌≤◌, ◌==◌, Bool, true, false, List, ◌++◌}
+use Rattle.std.proofs.Common.{length, take, refl, sym, ap, ap₂, ◌∙◌, arith, subst, subst₂}
+use Rattle.std.proofs.Common.{append_assoc, true≢false, Result, Ok, Err}
+use Rattle.std.specs.Prelude.{if◌then◌else◌, ◌&&◌, ◌||◌, IfOk, IfErr, nat_le, bytes_eq, codes, Option, None, Some}
+use Rattle.std.specs.Prelude.{is_some, option_and_then}
+use Rattle.std.specs.List.{list_any}
+use Rattle.std.proofs.lemmas.Bool.{eqb-true, leb-true}
+use Rattle.std.proofs.lemmas.List.{length-append, length-drop, length-take-le}
+use Rattle.std.proofs.lemmas.List.Folds.{list_any-append}
+use Rattle.ans_model.specs.Bytes.{most_lines}
+use Rattle.ans_model.specs.File.Layout.{FileParts, Laid, after_content, comment_block, content, is_end_mark, laid_file}
+use Rattle.ans_model.specs.File.Record.{comment_count, file_size, is_non_blink, stated_lines, stated_size}
+use Rattle.ans_model.specs.File.Refusals.{Accepts, block_size, has_record}
+use Rattle.ans_model.specs.Screen.State.{Size}
+use Rattle.ans_model.specs.Screen.StartClass.{all_known, none_known}
+use Rattle.ans_model.specs.Verdict.Good.{Picture, GoodWith, IsGood}
+use Rattle.ans_model.proofs.ClassLemmas.{covers_all_known, covers_good}
+use Rattle.ans_sauce.specs.Found.{front_in, record_in}
+use Rattle.ans_sauce.proofs.LaidParts.{laid_body, laid_front, laid_has_record, laid_lengths, laid_record}
+use Rattle.ans_sauce.specs.Fields.{resized_parts, with_file_size}
+use Rattle.ans_walks.proofs.Mended.{makes_good}
+use Rattle.ans_sauce.proofs.ResizedFiles.{resized_accepted, resized_comments, resized_content, resized_size}
+use Rattle.ans_sauce.specs.Fields.{two_bytes, with_lines, with_record}
+use Rattle.ans_mend.specs.declared.outcome.Mended.{Mended}
+use Rattle.ans_mend.specs.Contents.{content_in}
+use Rattle.ans_mend.specs.NewRecord.{takes_record}
+use Rattle.ans_mend.specs.declared.outcome.GivenRecord.{GivenRecord}
+use Rattle.ans_mend.specs.declared.outcome.Unmended.{Unmended}
+use Rattle.ans_mend.specs.declared.outcome.Unmended.TheVariants.{Refused}
+use Rattle.ans_model.specs.declared.fault.Fault.{Fault}
+use Rattle.ans_mend.proofs.EndMarks.{ended}
+use Rattle.ans_mend.proofs.SameLength.{overwritten_length, recorded_length}
+use Rattle.ans_model.specs.declared.mends.Mends.{Mends}
+use Rattle.std.specs.Prelude.{IsTrue, ◌↔◌}
+use Rattle.ans_mend.specs.Mending.{IsEditedAsStated, IsSettled, WantsMending, asked_for, recorded}
+use Rattle.ans_mend.specs.Mending.{IsFaulty, IsMended, IsRead, IsReason, IsReasonFor}
+use Rattle.ans_mend.specs.MendingSteps.{IsEditedTooLong, IsFinished, IsJudgement, IsPrepared, IsSurvey, IsTooLong}
+use Rattle.ans_mend.specs.Mending.{asks_for_lines, first_lines, front_bytes, gives_record, lacks_lines, lined, opened}
+use Rattle.ans_mend.specs.Mending.{record_put}
+use Rattle.ans_mend.specs.MendingRoom.{LacksScreenFor, LacksScreenInTheEnd}
+use Rattle.ans_mend.proofs.MendRoomLemmas.{front_before}
+use Rattle.ans_mend.specs.declared.judging.Judgement.{Judgement}
+use Rattle.ans_mend.specs.declared.judging.Survey.{Survey}
+use Rattle.ans_mend.specs.declared.mending.Prepared.{Prepared}
+
+-- ---- the record that is put
+
+pub put_where_given : (mends : Mends) (cut : List ℕ) → is_some (record_put mends cut) ≡ gives_record mends cut
+put_where_given mends cut = go mends.width (takes_record cut)
+  where
+    given : ℕ → GivenRecord
+    given width = record { width = width; place = length (content cut); cut = length (after_content cut) }
+
+    go : (width : Option ℕ) (takes : Bool)
+        → is_some (option_and_then (λ w. if takes then Some (given w) else None) width) ≡ (is_some width && takes)
+    go None takes = refl
+    go (Some width) true = refl
+    go (Some width) false = refl
+
+-- what is then asked for
+pub asked_where_given : (mends : Mends) (cut : List ℕ) (put : Option GivenRecord) (is_put : Bool) (asked : Mends)
+    → put ≡ record_put mends cut → is_put ≡ is_some put
+    → asked ≡ record mends { least_lines = mends.least_lines || is_put } → asked ≡ asked_for mends cut
+asked_where_given mends cut put is_put asked put_is some asked_is =
+    asked_is
+    ∙ ap (λ (b : Bool). record mends { least_lines = mends.least_lines || b })
+    (some ∙ ap is_some put_is ∙ put_where_given mends cut)
+
+-- ---- the opened file
+
+both : (a b : Bool) → (a && b) ≡ true → (a ≡ true) × (b ≡ true)
+both true true is = (refl, refl)
+both true false is = absurd (true≢false (sym is))
+both false b is = absurd (true≢false (sym is))
+
+-- a record has 128 bytes
+long_of_record : (file : List ℕ) → has_record file ≡ true → 128 ≤ length file
+long_of_record file is =
+    let starts : Bool = bytes_eq (take 5 (record_in file)) (codes "SAUCE") in
+    leb-true 128 (length file) (both (nat_le 128 (length file)) starts is).0
+
+-- so has the one that lacks lines
+long_of_lacking : (mends : Mends) (file : List ℕ) → lacks_lines mends file ≡ true → 128 ≤ length file
+long_of_lacking mends file is =
+    long_of_record file (both (has_record file) (stated_lines (record_in file) == 0 && asks_for_lines mends) is).0
+
+-- a record that states other lines has as many bytes
+lines_record_length : (n : ℕ) (file : List ℕ) → 128 ≤ length file → length (with_lines n (record_in file)) ≡ 128
+lines_record_length n file long =
+    let record_long : length (record_in file) ≡ 128 = length-drop (length file - 128) file ∙ omega (arith, long) in
+    overwritten_length 98 (two_bytes n) (record_in file) (omega (arith, record_long)) ∙ record_long
+
+lines_length : (n : ℕ) (file : List ℕ) → 128 ≤ length file
+    → length (with_record (with_lines n (record_in file)) file) ≡ length file
+lines_length n file long = recorded_length 98 (two_bytes n) file long (omega arith)
+
+pub opened_length : (mends : Mends) (file : List ℕ) → length (opened mends file) ≡ length file
+opened_length mends file = go (lacks_lines mends file) refl
+  where
+    go : (lacks : Bool) → lacks_lines mends file ≡ lacks
+        → length (if lacks then with_record (with_lines (first_lines mends) (record_in file)) file else file)
+        ≡ length file
+    go false is = refl
+    go true is = lines_length (first_lines mends) file (long_of_lacking mends file is)
+
+-- it begins as the file does
+pub opened_front : (mends : Mends) (file : List ℕ) → front_in (opened mends file) ≡ front_in file
+opened_front mends file = go (lacks_lines mends file) refl
+  where
+    go : (lacks : Bool) → lacks_lines mends file ≡ lacks
+        → front_in (if lacks then with_record (with_lines (first_lines mends) (record_in file)) file else file)
+        ≡ front_in file
+    go false is = refl
+    go true is =
+        let long : 128 ≤ length file = long_of_lacking mends file is in
+        front_before (front_in file) (with_lines (first_lines mends) (record_in file))
+        (lines_record_length (first_lines mends) file long)
+
+-- and so long is the file of which the lines are settled
+pub lined_length : (lines : Option ℕ) (file : List ℕ) → 128 ≤ length file → length (lined lines file) ≡ length file
+lined_length None file long = refl
+lined_length (Some lines) file long = lines_length lines file long
+
+-- it lacks lines where a number is asked for
+pub lacking_asks : (mends : Mends) (file : List ℕ) → lacks_lines mends file ≡ true → asks_for_lines mends ≡ true
+lacking_asks mends file is =
+    (both (stated_lines (record_in file) == 0) (asks_for_lines mends)
+    (both (has_record file) (stated_lines (record_in file) == 0 && asks_for_lines mends) is).1).1
+
+-- the lines that were stated before
+pub opened_stated : (mends : Mends) (file : List ℕ) (stated : ℕ)
+    → stated ≡ (if lacks_lines mends file then 0 else stated_lines (record_in (opened mends file)))
+    → stated ≡ stated_lines (record_in file)
+opened_stated mends file stated = go (lacks_lines mends file) refl
+  where
+    go : (lacks : Bool) → lacks_lines mends file ≡ lacks
+        → stated ≡ (if lacks then 0 else stated_lines (record_in (if lacks
+        then with_record (with_lines (first_lines mends) (record_in file)) file else file)))
+        → stated ≡ stated_lines (record_in file)
+    go false is same = same
+    go true is same =
+        let inner = (both (has_record file) (stated_lines (record_in file) == 0 && asks_for_lines mends) is).1 in
+        let none : stated_lines (record_in file) ≡ 0 =
+        eqb-true (stated_lines (record_in file)) 0
+        (both (stated_lines (record_in file) == 0) (asks_for_lines mends) inner).0 in
+        same ∙ sym none
+
+-- ---- the numbers of a survey
+
+pub surveyed_stated : (lacks : Bool) (file : List ℕ) (survey : Survey) → IsSurvey lacks file survey
+    → survey.stated ≤ most_lines
+surveyed_stated lacks file survey h =
+    let limit : stated_lines (record_in file) ≤ most_lines =
+    rw (laid_record file h.apart h.accepts.laid) h.accepts.lines_in_limit in
+    go lacks h.stated limit
+  where
+    go : (lacks : Bool) → survey.stated ≡ (if lacks then 0 else stated_lines (record_in file))
+        → stated_lines (record_in file) ≤ most_lines → survey.stated ≤ most_lines
+    go true is limit = omega (arith, is)
+    go false is limit = omega (arith, is, limit)
+
+pub surveyed_counted : (lacks : Bool) (file : List ℕ) (survey : Survey) → IsSurvey lacks file survey
+    → survey.end_mark_counted ≤ 1
+surveyed_counted lacks file survey h =
+    go (file_size (record_in file) == length (content_in file) + 1) h.counted
+  where
+    go : (more : Bool) → survey.end_mark_counted ≡ (if more then 1 else 0) → survey.end_mark_counted ≤ 1
+    go true is = omega (arith, is)
+    go false is = omega (arith, is)
+
+-- ---- the file that is written
+
+unmarked : (front : Bool) → list_any is_end_mark (front_bytes front) ≡ false
+unmarked true = refl
+unmarked false = refl
+
+any_behind : (xs ys : List ℕ) → list_any is_end_mark ys ≡ true → list_any is_end_mark (xs ++ ys) ≡ true
+any_behind xs ys there =
+    list_any-append is_end_mark xs ys ∙ ap (λ (b : Bool). list_any is_end_mark xs || b) there
+    ∙ or_on (list_any is_end_mark xs)
+  where
+    or_on : (b : Bool) → (b || true) ≡ true
+    or_on true = refl
+    or_on false = refl
+
+-- the bytes in front and the file with another FileSize are laid out as its parts are
+laid_behind : (front : List ℕ) (none : list_any is_end_mark front ≡ false) (n : ℕ) (file : List ℕ) (apart : FileParts)
+    (accepts : Accepts file apart)
+    → front ++ with_record (with_file_size n (record_in file)) file ≡ laid_file (resized_parts front n apart)
+laid_behind front none n file apart accepts =
+    let r : List ℕ = with_file_size n apart.record_bytes in
+    let block : List ℕ = comment_block (comment_count apart.record_bytes) apart.comment_bytes in
+    let record_is : with_file_size n (record_in file) ≡ r =
+    ap (with_file_size n) (laid_record file apart accepts.laid) in
+    let same_block : comment_block (comment_count r) apart.comment_bytes ≡ block =
+    ap (λ (v : ℕ). comment_block v apart.comment_bytes) (resized_comments front none n file apart accepts) in
+    ap₂ (λ (f v : List ℕ). front ++ (f ++ v)) (laid_front file apart accepts.laid) record_is
+    ∙ ap (λ (v : List ℕ). front ++ v) (append_assoc apart.body block r)
+    ∙ sym (append_assoc front apart.body (block ++ r))
+    ∙ ap (λ (v : List ℕ). (front ++ apart.body) ++ (v ++ r)) (sym same_block)
+
+-- the length of a file by its parts
+parts_length : (file : List ℕ) (apart : FileParts) → Accepts file apart
+    → length file ≡ length apart.body + block_size (comment_count apart.record_bytes) + 128
+parts_length file apart accepts =
+    let long : 128 ≤ length file = long_of_record file (laid_has_record file apart accepts.laid) in
+    let front : length (front_in file) ≡ length file - 128 =
+    length-take-le (length file - 128) file (omega arith) in
+    let parts = laid_lengths file apart accepts.laid in omega (arith, long, front, parts)
+
+-- a content that passes from the cleared start passes from every start, behind the mending where it is wanted
+record Passing (z : Size) (front : Bool) (bytes : List ℕ) : Type 0 where
+  picture : Picture
+  cleared : GoodWith z all_known bytes picture
+  every : GoodWith z none_known (front_bytes front ++ bytes) picture
+
+passing : (z : Size) (front : Bool) (bytes : List ℕ) → IsGood z all_known bytes
+    → (front ≡ false → IsGood z none_known bytes) → Passing z front bytes
+passing z true bytes good every = record {
+  picture = good.0;
+  cleared = good.1;
+  every = makes_good z bytes good.0 good.1;
+}
+passing z false bytes good every =
+    let from_every = every refl in
+    record {
+      picture = from_every.0;
+      cleared = covers_good z none_known all_known bytes from_every.0 (covers_all_known none_known) from_every.1;
+      every = from_every.1;
+    }
+
+pub mended : (mends : Mends) (file : List ℕ) (prepared : Prepared) (settled : List ℕ) (judgement : Judgement)
+    (m : Mended) (draft : List ℕ) → IsPrepared mends file prepared settled → IsJudgement mends settled judgement
+    → IsFinished prepared judgement settled m draft → IsMended mends file m draft
+mended mends file prepared settled judgement m draft prep judged done =
+    let front : List ℕ = front_bytes m.front in
+    let none : list_any is_end_mark front ≡ false = unmarked m.front in
+    let n : ℕ = m.file_size.is in
+    let apart : FileParts = judged.apart in
+    let accepts : Accepts settled apart = judged.accepts in
+    let whole : front ++ draft ≡ laid_file (resized_parts front n apart) =
+    ap (λ (v : List ℕ). front ++ v) done.draft_is ∙ laid_behind front none n settled apart accepts in
+    let body_is : content_in settled ≡ content apart.body = ap content (laid_body settled apart accepts.laid) in
+    let content_is : content (front ++ apart.body) ≡ front ++ content apart.body =
+    resized_content front none n settled apart accepts in
+    let size_is : stated_size (with_file_size n apart.record_bytes) ≡ stated_size apart.record_bytes =
+    resized_size front none n settled apart accepts in
+    let accepted : Accepts (front ++ draft) (resized_parts front n apart) =
+    subst (λ (v : List ℕ). Accepts v (resized_parts front n apart)) (sym whole)
+    (resized_accepted front none n settled apart accepts) in
+    let passes : Passing (stated_size apart.record_bytes) m.front (content apart.body) =
+    passing (stated_size apart.record_bytes) m.front (content apart.body) judged.cleared
+    (λ off. judged.every (sym done.front ∙ off)) in
+    record {
+      cut = prep.cut;
+      is_cut = prep.is_cut;
+      asked = asked_for mends prep.cut;
+      asked_is = refl;
+      based = recorded mends prep.cut;
+      based_is = refl;
+      based_fits = prep.fits;
+      opened_read = (prep.done.survey.apart, prep.done.survey.accepts);
+      settled = settled;
+      edited = prep.done.edited;
+      is_edited = subst (IsEditedAsStated (asked_for mends prep.cut) (opened (asked_for mends prep.cut) (recorded mends
+          prep.cut)) prep.done.edited) (sym done.edits) prep.done.is_edited;
+      edited_sound = prep.done.edited_sound;
+      lines = prepared.done.lines;
+      are_lines = prep.done.lines;
+      settled_is = prep.done.settled_is;
+      settled_sound = ((apart, accepts), prep.done.settled_fits);
+      draft_is = done.draft_is;
+      apart = resized_parts front n apart;
+      accepts = accepted;
+      content_is = content_is ∙ ap (λ (v : List ℕ). front ++ v) (sym body_is);
+      room =
+          let now = parts_length (front ++ draft) (resized_parts front n apart) accepted in
+          let was = parts_length settled apart accepts in
+          let body = length-append front apart.body in
+          let block = ap block_size (resized_comments front none n settled apart accepts) in
+          let same : length front ≡ length (front_bytes judgement.front) =
+          ap (λ (b : Bool). length (front_bytes b)) done.front in
+          let room = done.room in omega (arith, now, was, body, block, same, room);
+      fits =
+          let all : length (content (front ++ apart.body)) ≡ length front + length (content apart.body) =
+          ap length content_is ∙ length-append front (content apart.body) in
+          let same : length front ≡ length (front_bytes judgement.front) =
+          ap (λ (b : Bool). length (front_bytes b)) done.front in
+          let size = done.size in
+          let count = judged.count in
+          let counted = prep.done.survey.counted in omega (arith, all, same, size, count, counted);
+      ended = any_behind front apart.body
+          (ended (lined prepared.done.lines prep.done.edited) apart
+          (subst (λ (v : List ℕ). Laid v apart) prep.done.settled_is accepts.laid));
+      picture = passes.picture;
+      from_cleared = subst₂ (λ (z : Size) (bytes : List ℕ). GoodWith z all_known bytes passes.picture) (sym size_is)
+          (sym body_is) passes.cleared;
+      from_every = subst₂ (λ (z : Size) (bytes : List ℕ). GoodWith z none_known bytes passes.picture) (sym size_is)
+          (sym content_is) passes.every;
+      front = subst (λ (b : Bool). IsTrue b ↔ WantsMending mends
+          (stated_size (resized_parts front n apart).record_bytes) (content_in settled)) (sym done.front)
+          (subst₂ (λ (z : Size) (bytes : List ℕ). IsTrue judgement.front ↔ WantsMending mends z bytes) (sym size_is)
+          (sym body_is) judged.wants);
+      tail = done.tail ∙ prep.tail;
+      given_record = done.given_record ∙ prep.given_record;
+      flag_was = done.flag_was ∙ prep.done.survey.non_blink;
+      flag_is = done.flag_is ∙ judged.non_blink
+          ∙ ap is_non_blink (sym (laid_record settled apart accepts.laid));
+      end_mark = done.end_mark ∙ prep.done.end_mark;
+      lines_were = done.lines_were ∙ prep.done.stated;
+      lines_are = done.lines_are ∙ judged.lines ∙ ap stated_lines (sym (laid_record settled apart accepts.laid));
+      size_was = done.size_was ∙ prep.done.survey.size;
+    }
+
+-- ---- and where it is not
+
+was_settled : (mends : Mends) (file : List ℕ) (prepared : Prepared) (settled : List ℕ)
+    → (prep : IsPrepared mends file prepared settled)
+    → IsSettled (asked_for mends prep.cut) (recorded mends prep.cut) settled
+was_settled mends file prepared settled prep = record {
+  opened_read = (prep.done.survey.apart, prep.done.survey.accepts);
+  edited = prep.done.edited;
+  edits = prepared.done.edits;
+  is_edited = prep.done.is_edited;
+  edited_read = prep.done.edited_sound.0;
+  lines = prepared.done.lines;
+  are_lines = prep.done.lines;
+  settled_is = prep.done.settled_is;
+}
+
+-- a fault of the settled file is a reason
+pub faulty : (mends : Mends) (file : List ℕ) (prepared : Prepared) (settled : List ℕ) (fault : Fault)
+    → IsPrepared mends file prepared settled → IsFaulty settled fault → IsReason mends file (Refused fault)
+faulty mends file prepared settled fault prep is =
+    (prep.cut, prep.is_cut, inr (inr (inr (settled, was_settled mends file prepared settled prep, is))))
+
+-- and so is want of room for the mending
+pub too_long : (mends : Mends) (file : List ℕ) (prepared : Prepared) (settled : List ℕ) (judgement : Judgement)
+    (reason : Unmended) → IsPrepared mends file prepared settled → IsJudgement mends settled judgement
+    → IsTooLong judgement settled reason → IsReason mends file reason
+too_long mends file prepared settled judgement reason prep judged is =
+    let apart : FileParts = judged.apart in
+    let wants : WantsMending mends (stated_size (record_in settled)) (content_in settled) =
+    subst₂ (λ (r b : List ℕ). WantsMending mends (stated_size r) (content b))
+    (sym (laid_record settled apart judged.accepts.laid)) (sym (laid_body settled apart judged.accepts.laid))
+    (judged.wants.0 is.1) in
+    let passes : IsGood (stated_size (record_in settled)) all_known (content_in settled) =
+    subst₂ (λ (r b : List ℕ). IsGood (stated_size r) all_known (content b))
+    (sym (laid_record settled apart judged.accepts.laid)) (sym (laid_body settled apart judged.accepts.laid))
+    judged.cleared in
+    subst (λ (r : Unmended). IsReason mends file r) (sym is.0) (
+      prep.cut,
+      prep.is_cut,
+      inr (inr (inr (settled, was_settled mends file prepared settled prep, inr (is.2, wants, passes)))),
+    )
+
+-- nor is there a screen for it in the end, where there is none for the settled file
+pub lacks_screen : (lacks : Size → Type 0) (mends : Mends) (file : List ℕ) (prepared : Prepared) (settled : List ℕ)
+    → IsPrepared mends file prepared settled → LacksScreenFor lacks settled → LacksScreenInTheEnd lacks mends file
+lacks_screen lacks mends file prepared settled prep none =
+    (prep.cut, prep.is_cut, (settled, was_settled mends file prepared settled prep, none))
+
+-- what finishing comes to
+module _ (mends : Mends) (file : List ℕ) (prepared : Prepared) (settled : List ℕ) (judgement : Judgement)
+    (prep : IsPrepared mends file prepared settled) (judged : IsJudgement mends settled judgement)
+    (draft : List ℕ) where
+  pub finished : (r : Result Mended Unmended) → IfOk r (λ m. IsFinished prepared judgement settled m draft)
+      → IfOk r (λ m. IsMended mends file m draft)
+  finished (Ok m) done = mended mends file prepared settled judgement m draft prep judged done
+  finished (Err reason) done = done
+
+  pub unfinished : (r : Result Mended Unmended) → IfErr r (IsTooLong judgement settled)
+      → IfErr r (IsReason mends file)
+  unfinished (Ok m) is = is
+  unfinished (Err reason) is = too_long mends file prepared settled judgement reason prep judged is
+
+-- a file that is too long with its returns, or with its content changed, is not mended for that
+pub too_long_edited : (asked : Mends) (based : List ℕ) (reason : Unmended) → IsRead (opened asked based)
+    → IsEditedTooLong asked (stated_size (record_in (opened asked based))) (opened asked based) reason
+    → IsReasonFor asked based reason
+too_long_edited asked based reason read (is, why) = elim why [
+  | inl long ↦ inl (is, inr long)
+  | inr (edited, edits, is_edited, long) ↦ inr (inr (inl (read, edited, edits, is_edited, inl (is, long))))
+]

@@ -1,0 +1,150 @@
+//! What is changed of the content of a file that is mended.
+ghost use Rattle.std.specs.Prelude.{◌≡◌, ◌+◌, ◌-◌, ◌*◌, ◌≤◌, ◌<◌, length, IfOk, IfErr, IsTrue, OnErr, OnOk};
+ghost use Rattle.ans_model.specs.Bytes.{longest_file};
+ghost use Rattle.ans_mend.specs.declared.outcome.Unmended.TheVariants.{TooLong};
+ghost use Rattle.ans_mend.specs.Mending.{AreLastEndsGone, AreNamed, AreRowsJoined, AreSequencesOut, IsEdited};
+ghost use Rattle.ans_mend.specs.Mending.{TellsReturns};
+ghost use Rattle.ans_mend.specs.Mending.{returned};
+ghost use Rattle.ans_mend.specs.MendingRoom.{most_added, most_returns};
+ghost use Rattle.ans_mend.specs.MendingSteps.{IsEditedTooLong, IsNamedTooLong, LacksNameRoom};
+ghost use Rattle.ans_mend.specs.NamedColours.{IsTooLongNamed};
+ghost use Rattle.ans_mend.specs.Drafts.{memory_of};
+ghost use Rattle.ans_sauce.specs.Found.{front_in};
+
+use crate::draft::{Draft, NoRoom};
+use crate::outcome::{Edits, Unmended};
+use crate::taking_out::Told;
+use ans_model::limits::{MAX_FILE, MAX_LINES};
+use ans_model::mends::Mends;
+use ans_model::size::Size;
+use ans_walks::Times;
+
+/// Puts returns before line feeds, where that is asked for.
+fn put_returns(draft: &mut Draft<'_>, mends: &Mends) -> Result<Option<Times>, NoRoom>
+    ensures file { OnOk result (draft.new.file ≡ returned mends.now draft.old.file) }
+    ensures returns { IfOk result (TellsReturns mends.now draft.old.file) }
+    ensures longer { OnOk result
+        (length draft.new.file ≤ length draft.old.file + most_returns mends.now (front_in draft.old.file)) }
+    ensures memory { memory_of draft.new ≡ memory_of draft.old }
+    ensures no_room { OnErr result (draft.old.room < most_returns mends.now (front_in draft.old.file)) }
+{
+    if mends.line_ends {
+        return draft.put_returns();
+    }
+    Ok(None)
+}
+
+/// Takes sequences out, where that is asked for.
+fn take_out_sequences(draft: &mut Draft<'_>, mends: &Mends) -> Told
+    requires { length draft.old.file ≤ longest_file }
+    ensures file { AreSequencesOut mends.now draft.old.file draft.new.file result }
+    ensures no_longer { length draft.new.file ≤ length draft.old.file }
+    ensures memory { memory_of draft.new ≡ memory_of draft.old }
+{
+    if mends.take_out {
+        return draft.take_out();
+    }
+    Told::nothing()
+}
+
+/// Takes the line ends behind full rows out, where that is asked for.
+fn join_rows(draft: &mut Draft<'_>, mends: &Mends, size: Size) -> Option<Times>
+    requires { length draft.old.file ≤ longest_file }
+    ensures file { AreRowsJoined mends.now size draft.old.file draft.new.file result }
+    ensures no_longer { length draft.new.file ≤ length draft.old.file }
+    ensures memory { memory_of draft.new ≡ memory_of draft.old }
+{
+    if mends.full_rows {
+        return draft.take_out_row_ends(Size::new(size.width(), MAX_LINES));
+    }
+    None
+}
+
+/// Takes line ends at the very end out, where sequences are to be taken out.
+fn take_out_last_ends(draft: &mut Draft<'_>, mends: &Mends, size: Size) -> Option<Times>
+    requires { length draft.old.file ≤ longest_file }
+    ensures file { AreLastEndsGone mends.now size draft.old.file draft.new.file result }
+    ensures no_longer { length draft.new.file ≤ length draft.old.file }
+    ensures memory { memory_of draft.new ≡ memory_of draft.old }
+{
+    if mends.take_out {
+        return draft.take_out_last_ends(size);
+    }
+    None
+}
+
+/// Names the colours, where that is asked for.
+fn name_colours(draft: &mut Draft<'_>, mends: &Mends) -> Result<Option<Times>, NoRoom>
+    requires { length draft.old.file ≤ longest_file }
+    ensures file { IfOk result (AreNamed mends.now draft.old.file draft.new.file) }
+    ensures memory { memory_of draft.new ≡ memory_of draft.old }
+    ensures no_room { OnErr result (IsTrue mends.now.name_colours
+        × IsTooLongNamed draft.old.file (memory_of draft.old)
+        × (memory_of draft.old < length draft.old.file + 4 * (length draft.old.file - 128))) }
+{
+    if mends.name_colours {
+        return draft.name_colours();
+    }
+    Ok(None)
+}
+
+/// The same. An error in the answer says that the file is too long with the names. `Err` says that it is not, or may
+/// not be, and that there is no room for them in the draft.
+fn name_within(
+    draft: &mut Draft<'_>,
+    mends: &Mends,
+) -> Result<Result<Option<Times>, Unmended>, NoRoom>
+    requires { length draft.old.file ≤ longest_file }
+    ensures named { IfOk result (λ answer. IfOk answer (AreNamed mends.now draft.old.file draft.new.file)) }
+    ensures length { IfOk result (λ answer. OnOk answer (length draft.new.file ≤ longest_file)) }
+    ensures reason { IfOk result (λ answer. IfErr answer (λ reason.
+        (reason ≡ TooLong) × IsNamedTooLong mends.now draft.old.file)) }
+    ensures memory { memory_of draft.new ≡ memory_of draft.old }
+    ensures no_room { OnErr result (LacksNameRoom mends.now draft.old) }
+{
+    let Ok(named) = name_colours(draft, mends) else {
+        if draft.capacity() < MAX_FILE {
+            return Err(NoRoom);
+        }
+        return Ok(Err(Unmended::TooLong));
+    };
+    if draft.file().len() > MAX_FILE {
+        return Ok(Err(Unmended::TooLong));
+    }
+    Ok(Ok(named))
+}
+
+/// Changes of the content what is asked for, on a screen of this size. An error in the answer says that the
+/// file is too long with its returns, or with names of colours. `Err` says that there is no room for these in
+/// the draft.
+pub(crate) fn edit(
+    draft: &mut Draft<'_>,
+    mends: &Mends,
+    size: Size,
+) -> Result<Result<Edits, Unmended>, NoRoom>
+    ensures edits { IfOk result (λ answer. IfOk answer (IsEdited mends.now size draft.old.file draft.new.file)) }
+    ensures length { IfOk result (λ answer. OnOk answer (length draft.new.file ≤ longest_file)) }
+    ensures reason { IfOk result (λ answer. IfErr answer (IsEditedTooLong mends.now size draft.old.file)) }
+    ensures longer { IfOk result (λ answer. OnOk answer
+        (length draft.new.file ≤ length draft.old.file + most_added mends.now draft.old.file)) }
+    ensures memory { memory_of draft.new ≡ memory_of draft.old }
+    ensures no_room { OnErr result (draft.old.room < most_added mends.now draft.old.file) }
+{
+    let returns = put_returns(draft, mends)?;
+    if draft.file().len() > MAX_FILE {
+        return Ok(Err(Unmended::TooLong));
+    }
+    let told = take_out_sequences(draft, mends);
+    let row_ends = join_rows(draft, mends, size);
+    let last_ends = take_out_last_ends(draft, mends, size);
+    match name_within(draft, mends)? {
+        Ok(named_colours) => Ok(Ok(Edits {
+            returns,
+            told,
+            row_ends,
+            last_ends,
+            named_colours,
+        })),
+        Err(reason) => Ok(Err(reason)),
+    }
+}

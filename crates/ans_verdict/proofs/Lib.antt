@@ -1,0 +1,4 @@
+pub mod PlayLemmas
+pub mod VerdictLemmas
+pub mod RoomLemmas
+pub mod LeastLemmas

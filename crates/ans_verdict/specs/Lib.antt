@@ -1,0 +1,6 @@
+pub mod FileVerdict
+pub mod ScreenRoom
+pub mod LentScreen
+pub mod StartParts
+pub mod FileNeeds
+pub mod FilePlayed
