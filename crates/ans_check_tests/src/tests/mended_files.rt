@@ -153,8 +153,8 @@ fn a_reader_that_fails_leaves_nothing_mended(rt: HostRuntime) -> Result<(), Allo
             let mut reader = Tried::new(input);
             let mut writer = Tried::new(Narrow::new(4096));
             let answer = mend(rt.alloc(), &mut reader, &mut writer, &Mends::NONE);
+            let came = came(&rt, answer, writer.calls())?;
             if reader.failed() {
-                let came = came(&rt, answer, writer.calls())?;
                 assert_eq!(rt; (came, writer.calls()), (Err(RunError::Read), 0));
             }
         }

@@ -218,8 +218,8 @@ fn a_reader_that_fails_leaves_nothing_redrawn(rt: HostRuntime) -> Result<(), All
             let mut reader = Tried::new(input);
             let mut writer = Tried::new(Narrow::new(4096));
             let answer = redraw(rt.alloc(), &mut reader, &mut writer);
+            let came = came(&rt, answer, writer.calls())?;
             if reader.failed() {
-                let came = came(&rt, answer, writer.calls())?;
                 assert_eq!(rt; (came, writer.calls()), (Err(RunError::Read), 0));
             }
         }

@@ -129,7 +129,7 @@ impl Drawings {
 
 /// Whether a line is the row, or the object, of a file for which memory ran out.
 fn is_of_memory(line: &[u8]) -> bool {
-    line.starts_with(b"error\t\t\tout of memory\t")
+    line.starts_with(b"error\t\t\t\t\tout of memory\t")
         || line.starts_with(b"{\"fault\":\"out of memory\"")
 }
 
