@@ -15,7 +15,7 @@ use Rattle.ans_players.proofs.OneSpelling.{one_spelling}
 use Rattle.ans_sauce.specs.Found.{IsLastRecord, record_in}
 use Rattle.ans_forms.specs.declared.kinds.Before.{Before}
 use Rattle.ans_forms.specs.declared.kinds.TheConstants.Before as before
-use Rattle.ans_forms.proofs.OneGoing.{goes_or_not, one_goes_first}
+use Rattle.ans_check_laws.proofs.OneGoing.{goes_or_not, one_goes_first}
 use Rattle.ans_walks.specs.FullRowEnds.{full_row_ends, without_ends}
 use Rattle.ans_walks.specs.Hints.{are_torn}
 use Rattle.ans_mend.specs.LastEnds.{LeavesMost}

@@ -1,4 +1,5 @@
 pub mod Covering
+mod HelpLemmas
 pub mod NeedsAndChecks
 pub mod CleanPieces
 pub mod CleanPictures
@@ -18,6 +19,7 @@ pub mod MarkedContents
 pub mod CutFiles
 pub mod NothingGone
 pub mod MendedItself
+mod OneGoing
 pub mod EditedOnce
 pub mod MendedOrNot
 pub mod ReasonsItself

@@ -11,7 +11,7 @@ use Rattle.ans_model.specs.Screen.StartClass.{all_known, none_known}
 use Rattle.ans_model.specs.Verdict.Good.{Picture, GoodWith}
 use Rattle.ans_sauce.specs.Found.{front_in, record_in}
 use Rattle.ans_sauce.proofs.LaidParts.{laid_record}
-use Rattle.ans_play.proofs.OneEnd.{one_picture}
+use Rattle.ans_play_laws.proofs.OneEnd.{one_picture}
 use Rattle.ans_sauce.specs.Fields.{with_file_size}
 use Rattle.ans_sauce.proofs.ResizedFiles.{resized_accepted, resized_size}
 use Rattle.ans_mend.specs.Contents.{content_in}

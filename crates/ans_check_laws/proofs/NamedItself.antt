@@ -10,7 +10,7 @@ use Rattle.ans_players.specs.Situations.{spelled}
 use Rattle.ans_players.proofs.OneSpelling.{one_spelling}
 use Rattle.ans_sauce.specs.Found.{record_in}
 use Rattle.ans_sauce.proofs.LaidParts.{laid_body, laid_record}
-use Rattle.ans_play.proofs.OneEnd.{one_picture}
+use Rattle.ans_play_laws.proofs.OneEnd.{one_picture}
 use Rattle.ans_sauce.specs.Fields.{with_file_size}
 use Rattle.ans_sauce.proofs.ResizedFiles.{resized_size}
 use Rattle.ans_mend.specs.Contents.{content_in}

@@ -6,7 +6,7 @@ use Rattle.ans_model.specs.File.Refusals.{Accepts}
 use Rattle.ans_model.specs.Verdict.Good.{GoodWith, Picture}
 use Rattle.ans_model.specs.declared.start.Start.{Start}
 use Rattle.ans_model.proofs.AcceptedFiles.{one_layout}
-use Rattle.ans_play.proofs.OneEnd.{one_picture}
+use Rattle.ans_play_laws.proofs.OneEnd.{one_picture}
 use Rattle.ans_verdict.specs.FileVerdict.{Passes}
 
 pub same_apart : (file : List ℕ) (a b : FileParts) → Accepts file a → Accepts file b → a ≡ b

@@ -2,3 +2,4 @@ pub mod Starts
 pub mod CleanTexts
 pub mod KeptReturns
 pub mod BegunFile
+pub mod Requests

@@ -2,7 +2,8 @@
 //! of the checker stands in `ans_judge`.
 //!
 //! Each law is the contract of a function that does nothing; what a body names are laws that it rests
-//! on. [`class_laws`] say which classes of starts cover which. [`text_laws`] say that the texts are
+//! on. [`class_laws`] say which classes of starts cover which. [`command_line_laws`] say that the words
+//! alone tell whether help or the version is shown. [`text_laws`] say that the texts are
 //! clean: of the control characters only line feeds are in them, and no byte of a file is shown by one.
 //! [`report_laws`] say that what `needs` finds is what each check finds. [`mend_laws`] say that mending by
 //! itself keeps the picture, that once is enough, and that no own colours are left where they are named.
@@ -12,6 +13,7 @@
 #![tactic(auto)]
 
 pub mod class_laws;
+pub mod command_line_laws;
 pub mod mend_laws;
 pub mod player_laws;
 pub mod redraw_laws;

@@ -3,4 +3,3 @@ pub mod FormEnds
 mod SomeText
 pub mod HereLemmas
 pub mod KeptSteps
-pub mod OneGoing

@@ -8,6 +8,7 @@
 
 pub mod attribute;
 pub mod cell;
+pub mod destination;
 pub mod fault;
 pub mod kind;
 pub mod limits;

@@ -7,12 +7,11 @@ use Rattle.std.specs.Option.{option_map_or}
 use Rattle.std.specs.Str.{bytes_eq}
 use Rattle.std.specs.Str.Parse.{IsNumeral, digits_value, without_leading_plus}
 use Rattle.clap.specs.Words.{App, Row, Rule, Text, all_of, first_of, kind_of, one_of, new_app, new_rule, subcommand_of}
-use Rattle.clap.specs.Words.{HasKind, IsAmong, Kinds, fault_of, takes, with_rule, with_subcommand}
+use Rattle.clap.specs.Words.{HasKind, Kinds, fault_of, takes, with_rule, with_subcommand}
 use Rattle.clap.specs.declared.builder.ArgAction.TheVariants.{Append, SetTrue}
 use Rattle.clap.specs.declared.builder.value_parser.ValueParser.{ValueParser}
 use Rattle.clap.specs.declared.builder.value_parser.ValueParser.TheVariants as value_parser
-use Rattle.clap.specs.declared.error.ErrorKind.TheVariants.{DisplayHelp, DisplayVersion, OutOfMemory}
-use Rattle.clap.specs.declared.error.ErrorKind.{ErrorKind}
+use Rattle.clap.specs.declared.error.ErrorKind.TheVariants.{OutOfMemory}
 use Rattle.ans_model.specs.declared.start.Start.{Start}
 use Rattle.ans_model.specs.Screen.StartClass.{all_known, none_known}
 use Rattle.ans_options.specs.declared.command.Asked.{Asked}
@@ -344,12 +343,3 @@ pub record IsErrorOf (words : List Text) (e : WordsError) : Type 0 where
   pub refuses : takes anscheck (words_meant words) ≡ true → RanOutOfMemory e
   pub faultless : faults_of words ≡ [] → RanOutOfMemory e
   pub kinds : HasKindAmong (faults_of words) e
-
--- the kind is the only one, or is none of them
-abbrev pub IsAloneOrNotAtAll : ErrorKind → Kinds → Type 0
-IsAloneOrNotAtAll kind kinds = IsAmong kind kinds → kinds ≡ kind ∷ []
-
--- a request, for help or for the version, is the only one of the kinds, or is none of them
-pub record IsRequestAloneOrNotAtAll (kinds : Kinds) : Type 0 where
-  pub help : IsAloneOrNotAtAll DisplayHelp kinds
-  pub version : IsAloneOrNotAtAll DisplayVersion kinds

@@ -6,8 +6,7 @@
 //! help on a [`Topic`], a fault or a note by its name, which `clap` knows nothing of.
 //! [`options`] gives the options alone with the one name. Which words ask for what stands in
 //! `specs/CommandLine.antt`, the topics in `specs/Topics.antt`; there `help` stands for `--help`, and
-//! `help COMMAND` for `COMMAND --help`. That the command line is of `clap`'s simple kind, and no argument has
-//! a rule on another, is a law, in [`laws`]; so is it that help on a topic takes no words from `clap`.
+//! `help COMMAND` for `COMMAND --help`. Laws of it are in `ans_check_laws`.
 //!
 //! But for want of memory the answer is a function of the words: there are options exactly where the
 //! words have no fault (`faults_of`), and an error has one of the kinds that their first fault may
@@ -17,7 +16,6 @@
 
 mod command;
 mod command_line;
-pub mod laws;
 mod topic;
 
 pub use ans_model::mends::Mends;

@@ -29,7 +29,5 @@ pub mod PictureCells
 pub mod PictureRows
 pub mod TwoStarts
 pub mod WholeBytes
-pub mod OneOfThree
 pub mod GoodFromBoth
 pub mod LeastClass
-pub mod OneEnd

@@ -9,7 +9,6 @@
 //! every other byte by itself.
 #![tactic(auto)]
 
-pub mod laws;
 mod picture;
 mod play;
 mod player;

@@ -2,8 +2,6 @@ pub mod PenSteps
 pub mod Mended
 pub mod Printed
 pub mod MoreLines
-pub mod TallerSteps
-pub mod TallerScreens
 pub mod WatchedCells
 pub mod WatchedSteps
 pub mod CleanSteps
@@ -15,10 +13,7 @@ pub mod TallerFound
 pub mod GoodFound
 pub mod WatchedSoFar
 pub mod TextTests
-pub mod EmptyRows
 pub mod HintsFound
-pub mod FullRows
-pub mod LastPrint
 pub mod KindsFound
 pub mod CalmFound
 pub mod NamedPlayers

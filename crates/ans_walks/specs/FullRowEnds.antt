@@ -9,7 +9,7 @@ use Rattle.ans_model.specs.Screen.Step.{step}
 use Rattle.ans_model.specs.Screen.StartClass.{cleared}
 use Rattle.ans_walks.specs.Pens.{pen_of}
 use Rattle.ans_walks.specs.RowEnds.{are_all_ended, first_row, is_wrapped, row_with}
-use Rattle.ans_walks.specs.RowEndLaws.{written_by}
+use Rattle.ans_walks.specs.RowEnds.{written_by}
 use Rattle.ans_walks.specs.declared.full_row_ends.FullRowEnd.{FullRowEnd}
 use Rattle.ans_walks.specs.declared.row_play.RowPlay.{RowPlay}
 use Rattle.ans_walks.specs.declared.row.Row.{Row}

@@ -13,8 +13,6 @@ pub mod Counted
 pub mod RowEnds
 pub mod Hints
 pub mod Walks
-pub mod RowLaws
-pub mod RowEndLaws
 pub mod FullRowEnds
 pub mod FullRowSearch
 pub mod GripsShown

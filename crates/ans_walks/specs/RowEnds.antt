@@ -5,6 +5,7 @@ use Rattle.std.specs.Prelude.{◌∷◌, length, Option, None, Some, if◌then�
 use Rattle.ans_model.specs.Sequence.TokenKind.{TokenKind, Glyph, Bell, LineFeed, CarriageReturn, Tab, Up, Down, Place}
 use Rattle.ans_model.specs.Sequence.TokenKind.{Clear, EraseLine, Save, Restore, Colours, Wrap}
 use Rattle.ans_model.specs.Screen.State.{Size, State}
+use Rattle.ans_model.specs.Screen.StartClass.{cleared}
 use Rattle.ans_model.specs.Screen.Step.{step}
 use Rattle.ans_walks.specs.Counted.{count_of, counted}
 use Rattle.ans_walks.specs.declared.row.EndedRow.{EndedRow}
@@ -158,6 +159,10 @@ written_after z s offset w [] texts = w
 written_after z s offset w (t ∷ tokens) [] = w
 written_after z s offset w (t ∷ tokens) (text ∷ texts) =
     written_after z (step z s t) (offset + length text) (written_with z s offset w t) tokens texts
+
+-- what is written by these tokens with these texts, in the play from the cleared start
+abbrev pub written_by : Size → List TokenKind → List (List ℕ) → Written
+written_by z tokens texts = written_after z (cleared z) 0 (nothing_written z) tokens texts
 
 -- before the first token
 abbrev pub nothing_written : Size → Written

@@ -9,7 +9,7 @@ ghost use Rattle.ans_model.specs.Sequence.TokenKind.{TokenKind};
 ghost use Rattle.ans_walks.specs.FullRowEnds.{AreEndsOver, EndsFullRows, IsFirstEnd, full_row_ends};
 ghost use Rattle.ans_walks.specs.FullRowSearch.{Agrees, SeenBetween, end_by, line_end};
 ghost use Rattle.ans_walks.specs.Pens.{pen_of};
-ghost use Rattle.ans_walks.specs.RowEndLaws.{written_by};
+ghost use Rattle.ans_walks.specs.RowEnds.{written_by};
 ghost use Rattle.ans_walks.specs.RowEnds.{are_all_ended, row_with};
 ghost use Rattle.ans_walks.specs.declared.full_row_ends.FullRowEnd.{FullRowEnd};
 ghost use Rattle.ans_walks.specs.declared.row.Row.{Row};

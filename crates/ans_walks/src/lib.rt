@@ -25,7 +25,6 @@ mod full_row_ends;
 mod grip;
 mod hints;
 mod kinds;
-pub mod laws;
 mod lines;
 mod names;
 mod pen;

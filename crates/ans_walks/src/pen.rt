@@ -9,6 +9,7 @@ ghost use Rattle.ans_walks.specs.Pens.{pen_of, cleared_pen, before_last_blank, g
 
 use ans_model::attribute::attribute_after_all;
 use ans_model::cell::Position;
+use ans_model::destination::destination;
 use ans_model::kind::Kind;
 use ans_model::size::Size;
 use ans_model::tab::tab_blanks;
@@ -110,25 +111,10 @@ impl Pen {
         ensures pen { (s : State) → self.old ≡ pen_of s
             → self.new ≡ pen_of (step size s (shown_kind kind.now)) }
     {
-        let last_row = size.lines();
-        let last_column = size.width() - 1;
-        let Position { row, column } = self.cursor;
         match kind {
             Kind::Glyph(_) => self.advance(size),
-            Kind::Tab => self.blanks(size, tab_blanks(column)),
+            Kind::Tab => self.blanks(size, tab_blanks(self.cursor.column)),
             Kind::LineFeed => self.line_feed(size),
-            Kind::CarriageReturn => self.cursor.column = 0,
-            Kind::BackSpace => self.cursor.column = column.saturating_sub(1),
-            Kind::Up(n) => self.cursor.row = row.saturating_sub(*n as usize),
-            Kind::Down(n) => self.cursor.row = (row + *n as usize).min(last_row),
-            Kind::Forward(n) => self.cursor.column = (column + *n as usize).min(last_column),
-            Kind::Backward(n) => self.cursor.column = column.saturating_sub(*n as usize),
-            Kind::Place(row, column) => {
-                self.cursor = Position {
-                    row: (*row as usize).saturating_sub(1).min(last_row),
-                    column: (*column as usize).saturating_sub(1).min(last_column),
-                }
-            }
             Kind::Clear => self.cursor = HOME,
             Kind::Save => self.saved = self.cursor,
             Kind::Restore => self.cursor = self.saved,
@@ -136,7 +122,7 @@ impl Pen {
                 self.attribute = attribute_after_all(self.attribute, parameters)
             }
             Kind::Wrap(on) => self.wrap = *on,
-            Kind::Bell | Kind::EraseLine | Kind::Keys | Kind::Mode | Kind::Ask => {}
+            kind => self.cursor = destination(self.cursor, kind, size),
         }
     }
 }

@@ -12,8 +12,9 @@ ghost use Rattle.ans_play.specs.Plays.{Plays, PlaysLetter, after_token};
 
 use super::Play;
 use super::sequence::{ReadSequence, read_front};
-use crate::span::{Span, destination};
+use crate::span::Span;
 use ans_model::cell::Position;
+use ans_model::destination::destination;
 use ans_model::fault::Cause;
 use ans_model::kind::Kind;
 use ans_screen::{Attr, HalfCell, Screen};

@@ -1,5 +1,0 @@
-use Rattle.ans_play.proofs.OneOfThree.{has_an_answer}
-use Rattle.ans_play.proofs.laws.some_answer.Goals as goal
-
-pub returns : goal.returns
-returns c z class bytes size all = has_an_answer z class size bytes all

@@ -1,5 +1,0 @@
-use Rattle.ans_play.proofs.GoodFromBoth.{good_from_both}
-use Rattle.ans_play.proofs.laws.what_both_do_without.Goals as goal
-
-pub returns : goal.returns
-returns c = good_from_both

@@ -1,0 +1,6 @@
+//! Laws of plays, each the contract of a function without a body: in [`play_laws`] of what `ans_play` finds, in
+//! [`walk_laws`] of what `ans_walks` tells. No program is built on them.
+#![tactic(auto)]
+
+pub mod play_laws;
+pub mod walk_laws;

@@ -1,5 +1,0 @@
-use Rattle.ans_walks.proofs.FullRows.{line_feed_ends_full_row}
-use Rattle.ans_walks.proofs.laws.full_rows_end_in_a_line_end.Goals as goal
-
-pub returns : goal.returns
-returns c = line_feed_ends_full_row

@@ -1,5 +1,0 @@
-use Rattle.ans_walks.proofs.NamedPlayers.{mended_is_same_where_cleared}
-use Rattle.ans_walks.proofs.laws.mended_content_is_same_where_cleared.Goals as goal
-
-pub returns : goal.returns
-returns c = mended_is_same_where_cleared

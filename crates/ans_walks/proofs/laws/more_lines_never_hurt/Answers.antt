@@ -1,5 +1,0 @@
-use Rattle.ans_walks.proofs.MoreLines.{one_line_more}
-use Rattle.ans_walks.proofs.laws.more_lines_never_hurt.Goals as goal
-
-pub returns : goal.returns
-returns c = one_line_more
