@@ -160,10 +160,6 @@ written_after z s offset w (t ∷ tokens) [] = w
 written_after z s offset w (t ∷ tokens) (text ∷ texts) =
     written_after z (step z s t) (offset + length text) (written_with z s offset w t) tokens texts
 
--- what is written by these tokens with these texts, in the play from the cleared start
-abbrev pub written_by : Size → List TokenKind → List (List ℕ) → Written
-written_by z tokens texts = written_after z (cleared z) 0 (nothing_written z) tokens texts
-
 -- before the first token
 abbrev pub nothing_written : Size → Written
 nothing_written z = record { row = first_row; ends = no_row_ends z.width }
@@ -198,3 +194,7 @@ pub record CountsRows (ends : RowEnds) (offset : ℕ) : Type 0 where
   pub over : count_of ends.over.times ≤ offset
   pub as_wide : ends.over.as_wide ≤ offset
   pub overprints : count_of ends.overprints ≤ offset
+
+-- what is written by these tokens with these texts, in the play from the cleared start
+abbrev pub written_by : Size → List TokenKind → List (List ℕ) → Written
+written_by z tokens texts = written_after z (cleared z) 0 (nothing_written z) tokens texts

@@ -2,12 +2,10 @@
 use Rattle.std.specs.Prelude.{◌≡◌, ℕ, ◌+◌, ◌≤◌, List, take, slice_get, Some}
 use Rattle.ans_model.specs.Sequence.TokenKind.{TokenKind, Up, Down}
 use Rattle.ans_model.specs.Sequence.Reads.{Reads}
-use Rattle.ans_model.specs.Screen.State.{Size, State, IsStated, cell_at, sized}
+use Rattle.ans_model.specs.Screen.State.{Size, State}
 use Rattle.ans_model.specs.Screen.Step.{final}
 use Rattle.ans_model.specs.Screen.StartClass.{IsStart}
-use Rattle.ans_model.specs.Verdict.Good.{Picture, GoodWith, PlaysWell}
 use Rattle.ans_model.specs.Verdict.TokenFault.{FromEvery}
-use Rattle.ans_model.specs.declared.cell.Position.{Position}
 use Rattle.ans_model.specs.declared.start.Start.{Start}
 
 -- after these tokens the cursor's row is the same from every start

@@ -48,6 +48,7 @@ pub use kinds::{KindsUsed, kinds_used};
 pub use lines::{is_good, least_lines};
 pub use names::{Names, paints};
 pub use players::{Players, is_same_where_cleared};
+pub use row::{EndedRow, Row, Seam};
 pub use row_ends::{RowEnds, RowsOver, WiderRows};
 pub use row_play::RowPlay;
 pub use situations::omits_number;

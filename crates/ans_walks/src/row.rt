@@ -15,18 +15,18 @@ use ans_model::size::Size;
 
 /// A row that has ended, with a line end or with a return.
 #[derive(Debug, Clone, Copy, PartialEq, Eq)]
-pub(crate) struct EndedRow {
+pub struct EndedRow {
     /// The offset of the line end.
-    pub(crate) offset: usize,
+    pub offset: usize,
     /// How many columns the row has taken, in as many rows of the screen as it needs.
-    pub(crate) columns: usize,
+    pub columns: usize,
     /// Whether it ended in a glyph that wrapped.
-    pub(crate) is_full: bool,
+    pub is_full: bool,
 }
 
 /// What stands right behind in a row; colours, wrap, a save, a bell and an erased line may stand between.
 #[derive(Debug, Clone, Copy, PartialEq, Eq)]
-pub(crate) enum Seam {
+pub enum Seam {
     /// Something else.
     Other,
     /// A glyph that has wrapped.
@@ -39,12 +39,12 @@ pub(crate) enum Seam {
 
 /// The row that is being written.
 #[derive(Debug, Clone, Copy, PartialEq, Eq)]
-pub(crate) struct Row {
+pub struct Row {
     /// The column in which it began, from 0.
-    pub(crate) begun: usize,
+    pub begun: usize,
     /// How many of its glyphs have wrapped.
-    pub(crate) wraps: usize,
-    pub(crate) seam: Seam,
+    pub wraps: usize,
+    pub seam: Seam,
 }
 
 impl Row {

@@ -1,4 +1,4 @@
-use Rattle.std.specs.Prelude.{◌≡◌, ℕ, ◌<◌, ◌&&◌, nat_lt, length}
+use Rattle.std.specs.Prelude.{◌≡◌, ℕ, ◌<◌, ◌&&◌, nat_lt}
 use Rattle.std.specs.List.{list_any}
 use Rattle.ans_walks.specs.Counted.{counted}
 use Rattle.ans_walks.specs.GripsShown.{has_number, kinds_of}
