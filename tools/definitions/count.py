@@ -31,7 +31,8 @@ def lines_of(paths):
 def files_of_check():
     """What `check` says of a file's bytes."""
     specs = TOP / "crates" / "ans_model" / "specs"
-    rooms = [file for room in ROOMS for file in sorted((specs / room).glob("*.antt")) if file.stem != "Needs"]
+    rooms = [file for room in ROOMS for file in sorted((specs / room).glob("*.antt"))
+             if file.stem not in ("Beginning", "Needs")]
     return [specs / "Bytes.antt", *rooms, path_of("ans_verdict", "FileVerdict"), path_of("ans_sauce", "Parts"),
             path_of("ans_sauce", "RecordBytes")]
 

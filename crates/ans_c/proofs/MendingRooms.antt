@@ -2,7 +2,7 @@
 use Rattle.std.proofs.Common.{◌≡◌, ◌⊎◌, inl, inr, ℕ, ◌+◌, ◌-◌, ◌<◌, ◌≤◌, Bool, true, false, List, ◌++◌, length, ap}
 use Rattle.std.proofs.Common.{arith, subst}
 use Rattle.std.proofs.lemmas.List.{length-append}
-use Rattle.ans_walks.specs.Mend.{mending}
+use Rattle.ans_model.specs.Screen.Beginning.{mending}
 use Rattle.ans_mend.specs.Drafts.{DraftView, draft_of}
 use Rattle.ans_model.specs.declared.mends.Mends.{Mends}
 use Rattle.ans_verdict.specs.LentScreen.{HasScreen}

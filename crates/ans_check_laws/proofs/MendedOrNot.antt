@@ -13,7 +13,7 @@ use Rattle.ans_model.proofs.AcceptedFiles.{no_fault}
 use Rattle.ans_sauce.specs.Found.{front_in, record_in}
 use Rattle.ans_sauce.specs.Judged.{IsRecordFault}
 use Rattle.ans_sauce.proofs.LaidParts.{laid_record}
-use Rattle.ans_walks.specs.Mend.{mending}
+use Rattle.ans_model.specs.Screen.Beginning.{mending}
 use Rattle.ans_sauce.specs.Fields.{with_file_size}
 use Rattle.ans_sauce.proofs.ResizedFiles.{resized_accepted, resized_size}
 use Rattle.ans_mend.specs.Contents.{content_in}

@@ -18,7 +18,7 @@ use Rattle.ans_sauce.specs.Found.{body_in, front_in, record_in}
 use Rattle.ans_sauce.proofs.LaidParts.{laid_body, laid_record}
 use Rattle.ans_sauce.specs.Fields.{four_bytes, with_file_size}
 use Rattle.ans_sauce.proofs.ResizedFiles.{resized_again, resized_file_size}
-use Rattle.ans_walks.specs.Mend.{mending}
+use Rattle.ans_model.specs.Screen.Beginning.{mending}
 use Rattle.ans_walks.specs.declared.times.Times.{Times}
 use Rattle.ans_walks.specs.SaidOfPlayers.{IsSameWhereCleared}
 use Rattle.ans_walks.proofs.NamedPlayers.{mended_is_same_where_cleared}

@@ -7,7 +7,7 @@ use Rattle.ans_model.specs.File.Refusals.{Accepts}
 use Rattle.ans_model.specs.Screen.StartClass.{all_known, none_known}
 use Rattle.ans_model.specs.Verdict.Good.{Picture, GoodWith}
 use Rattle.ans_sauce.specs.Fields.{resized_parts}
-use Rattle.ans_walks.specs.Mend.{mending}
+use Rattle.ans_model.specs.Screen.Beginning.{mending}
 
 -- the parts of a file with the safe beginning before its content, and a FileSize that counts it
 abbrev pub begun_parts : FileParts → FileParts

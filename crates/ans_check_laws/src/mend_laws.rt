@@ -9,7 +9,7 @@ ghost use Rattle.ans_model.specs.Screen.State.{Size, State};
 ghost use Rattle.ans_model.specs.Screen.StartClass.{all_known, none_known};
 ghost use Rattle.ans_model.specs.Verdict.Good.{Picture};
 ghost use Rattle.ans_players.specs.Situations.{spelled};
-ghost use Rattle.ans_walks.specs.Mend.{mending};
+ghost use Rattle.ans_model.specs.Screen.Beginning.{mending};
 ghost use Rattle.ans_mend.specs.EndMark.{with_end_mark};
 ghost use Rattle.ans_mend.specs.declared.outcome.Mended.{Mended};
 ghost use Rattle.ans_mend.specs.declared.outcome.Unmended.{Unmended};

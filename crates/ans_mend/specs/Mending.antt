@@ -19,7 +19,7 @@ use Rattle.ans_sauce.specs.Found.{record_in}
 use Rattle.ans_sauce.specs.Judged.{IsRecordFault}
 use Rattle.ans_walks.specs.Hints.{are_torn}
 use Rattle.ans_walks.specs.Lines.{IsLeastLines, IsNeverGood}
-use Rattle.ans_walks.specs.Mend.{mending}
+use Rattle.ans_model.specs.Screen.Beginning.{mending}
 use Rattle.ans_sauce.specs.Fields.{with_file_size}
 use Rattle.ans_walks.specs.declared.hints.Hints.{Hints}
 use Rattle.ans_walks.specs.declared.times.Times.{Times}

@@ -19,3 +19,4 @@ pub mod FirstRefusal
 pub mod Changes
 pub mod CellsBack
 pub mod AfterPart
+pub mod BeginningLemmas

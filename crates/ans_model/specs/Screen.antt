@@ -3,3 +3,4 @@ pub mod Attribute
 pub mod State
 pub mod Step
 pub mod StartClass
+pub mod Beginning

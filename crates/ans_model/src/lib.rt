@@ -7,6 +7,7 @@
 #![tactic(auto)]
 
 pub mod attribute;
+pub mod beginning;
 pub mod cell;
 pub mod destination;
 pub mod fault;

@@ -11,9 +11,9 @@ use Rattle.ans_players.specs.Players.{Behaviour, IsPlayer, IsShown}
 use Rattle.ans_players.specs.Situations.{AreAgreed, Spelled, spelled}
 use Rattle.ans_players_laws.proofs.Everywhere.{good_is_shown}
 use Rattle.ans_players.proofs.OneSpelling.{one_spelling}
-use Rattle.ans_walks.specs.Mend.{mending, mending_tokens}
+use Rattle.ans_model.specs.Screen.Beginning.{mending, mending_texts, mending_tokens}
 use Rattle.ans_walks.proofs.KindsFound.{spelled_behind}
-use Rattle.ans_walks.proofs.Mended.{makes_good, mending_texts, reads_as_behind}
+use Rattle.ans_walks.proofs.Mended.{makes_good, reads_as_behind}
 use Rattle.ans_mend.specs.NamedColours.{named_content}
 use Rattle.ans_names_laws.specs.NameLaws.{NamedIsShown}
 use Rattle.ans_names_laws.proofs.NamedPicture.{cells_stay}

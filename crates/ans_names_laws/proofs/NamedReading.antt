@@ -12,7 +12,7 @@ use Rattle.ans_players.specs.Situations.{Spelled, name_kinds, spelled, stand_beh
 use Rattle.ans_players.proofs.OneSpelling.{one_spelling}
 use Rattle.ans_mend.specs.NamedColours.{begins_unnamed, both_named, named_content, names_at_print, names_behind_token}
 use Rattle.ans_mend.specs.NamedColours.{takes_names}
-use Rattle.ans_walks.specs.Mend.{mending}
+use Rattle.ans_model.specs.Screen.Beginning.{mending}
 use Rattle.ans_mend.specs.NameSearch.{bytes_of}
 use Rattle.ans_mend.proofs.NamesWaiting.{same_names_after}
 use Rattle.ans_names_laws.specs.NamedTokens.{named_tokens}

@@ -11,7 +11,7 @@ use Rattle.ans_players_laws.specs.Laws.{or_own}
 use Rattle.ans_players.specs.declared.kind.Kind.{Kind}
 use Rattle.ans_players.specs.Players.{Behaviour, IsShown}
 use Rattle.ans_players.specs.Situations.{AreAgreed, Spelled, name_kinds, spelled, stand_of}
-use Rattle.ans_walks.specs.Mend.{mending}
+use Rattle.ans_model.specs.Screen.Beginning.{mending}
 use Rattle.ans_mend.specs.NamedColours.{begins_unnamed, named_content}
 use Rattle.ans_names_laws.specs.NamedTokens.{named_tokens}
 

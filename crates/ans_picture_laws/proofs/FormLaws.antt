@@ -2,18 +2,17 @@
 use Rattle.std.proofs.Common.{◌≡◌, ℕ, zero, suc, ◌-◌, ◌*◌, ◌<◌, Bool, true, refl, ap, sym, ◌∙◌, subst}
 use Rattle.std.proofs.Common.{arith, List, [], ◌∷◌, ◌++◌, length, take, fold, map, replicate}
 use Rattle.std.proofs.Math.Seq.{take-length}
-use Rattle.std.specs.Prelude.{slice_get, slice_index_or, All, bit_or}
+use Rattle.std.specs.Prelude.{slice_get, slice_index_or, All}
 use Rattle.std.specs.List.{list_all}
-use Rattle.std.specs.Int.Bits.{and_zero_r}
 use Rattle.ans_model.specs.declared.cell.Cell.{Cell}
 use Rattle.ans_model.specs.declared.start.Start.{Start}
 use Rattle.ans_model.specs.Sequence.TokenKind.{Clear, Save, Colours, Place, Wrap}
-use Rattle.ans_model.specs.Screen.Attribute.{attribute_after_all}
 use Rattle.ans_model.specs.Screen.State.{Size, State, at, cell_at, cell_count, index}
 use Rattle.ans_model.specs.Screen.Step.{blank_cell, final}
 use Rattle.ans_model.specs.Screen.StartClass.{Covers, none_known, cleared}
 use Rattle.ans_model.specs.Text.ReportText.{rows, rows_of}
 use Rattle.ans_model.specs.Verdict.Good.{Picture, Shows}
+use Rattle.ans_model.proofs.BeginningLemmas.{place_is_within, reset}
 use Rattle.ans_model.proofs.PositionLemmas.{index-lt_stated}
 use Rattle.ans_model.proofs.Slices.{slice_get-append_left}
 use Rattle.ans_players.specs.declared.kind.Kind.{Kind}
@@ -41,12 +40,8 @@ use Rattle.ans_picture_laws.proofs.Pieces.{stand}
 use Rattle.ans_picture_laws.proofs.PictureDrawn.{IsAllDrawn, picture_leads}
 use Rattle.ans_picture_laws.proofs.ReadBack.{read_back}
 use Rattle.ans_picture_laws.proofs.RowDrawn.{IsShownCell}
-use Rattle.ans_picture_laws.proofs.Ways.{place_is_within}
 
 -- ---- the mending
-reset : (a : ℕ) → attribute_after_all a (0 ∷ 37 ∷ 40 ∷ []) ≡ 0x07
-reset a = ap (λ (v : ℕ). attribute_after_all (bit_or v 0x07) (37 ∷ 40 ∷ [])) (and_zero_r a)
-
 module _ (z : Size) (agreed : Kind → Bool) (some : 0 < z.width) where
   mending_goes : (s : State) → AllGoWell z agreed (firmly s) mending_spelled
   mending_goes s = (

@@ -12,14 +12,13 @@ use Rattle.ans_model.specs.Bytes.{IsByte, escape, bracket}
 use Rattle.ans_model.specs.File.Layout.{is_end_mark}
 use Rattle.ans_model.specs.declared.cell.Cell.{Cell}
 use Rattle.ans_model.specs.declared.cell.Position.{Position}
-use Rattle.ans_model.specs.declared.fault.Cause.{Cause}
-use Rattle.ans_model.specs.declared.fault.Cause.TheVariants.{OutsideScreen}
 use Rattle.ans_model.specs.Sequence.TokenKind.{CarriageReturn, LineFeed, Up, Place}
 use Rattle.ans_model.specs.Sequence.Reads.{SpellsToken}
 use Rattle.ans_model.specs.Screen.Attribute.{attribute_after_all}
 use Rattle.ans_model.specs.Screen.State.{Size, State, at}
 use Rattle.ans_model.specs.Screen.Step.{blank_cell}
 use Rattle.ans_model.specs.Verdict.TokenFault.{HasStaticFault}
+use Rattle.ans_model.proofs.BeginningLemmas.{place_is_within}
 use Rattle.ans_model.proofs.StepLemmas.{line_feed_is}
 use Rattle.ans_players.specs.declared.kind.Kind.{Kind}
 use Rattle.ans_players.specs.Grips.{Grip, Firm, Wrapped, BehindReturn, Stand}
@@ -37,19 +36,6 @@ use Rattle.ans_picture_laws.proofs.Going.{Leads, stays, one_leads, both_lead}
 use Rattle.ans_picture_laws.proofs.HalfDrawn.{blanks_are_there}
 use Rattle.ans_picture_laws.proofs.Pieces.{stand, state_at, IsAt, is_within, LeadsOver, same_stand, few_lead}
 use Rattle.ans_picture_laws.proofs.Pieces.{skips_lead}
-
--- a place in the first column of a row, or of the spare row, is on the screen
-pub place_is_within : (z : Size) (n : ℕ) (cause : Cause) → n ≤ z.lines + 1 → 0 < z.width
-    → ¬ HasStaticFault z (Place n 1) cause
-place_is_within z n OutsideScreen le w (inl below) = absurd (none below)
-  where
-    none : z.lines + 1 < n → ⊥
-    none h = omega arith
-place_is_within z n OutsideScreen le w (inr beside) = absurd (none w beside)
-  where
-    none : 0 < z.width → z.width < 1 → ⊥
-    none h g = omega arith
-place_is_within z n _ le w h = h
 
 module _ (z : Size) (cells : List Cell) (agreed : Kind → Bool) where
   -- ---- over blanks

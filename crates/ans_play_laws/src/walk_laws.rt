@@ -1,22 +1,16 @@
 //! Laws of what a drawing relies on, and of what is counted.
 
-ghost use Rattle.std.specs.Prelude.{◌≡◌};
 ghost use Rattle.ans_walks.specs.Lines.{OneLineMoreIsGood};
-ghost use Rattle.ans_walks.specs.Mend.{LeavesClearedScreen, MakesGood, mending};
+ghost use Rattle.ans_walks.specs.Mend.{MakesGood};
 ghost use Rattle.ans_play_laws.specs.RowEndLaws.{CountsBeforeLastPrint, LineFeedEndsFullRow};
 ghost use Rattle.ans_play_laws.specs.RowLaws.{EmptyRowsHoldNothing, NoMoreRowsAreEmpty};
 ghost use Rattle.ans_walks.specs.SaidOfPlayers.{MendedIsSameWhereCleared};
 ghost use Rattle.ans_play_laws.specs.TallerLaws.{TallerShowsTheSame};
 
-use ans_walks::SAFE_BEGINNING;
-
-/// `ESC[?7h ESC[0;37;40m ESC[2J ESC[H ESC[s`, 25 bytes without the blanks between them, leave exactly the
-/// cleared state, whatever state they are played from. So content that is good from the cleared start is
-/// good from every start behind them, with the same picture. [`SAFE_BEGINNING`] is these bytes.
+/// Content that is good from the cleared start is good behind the bytes of
+/// [`SAFE_BEGINNING`](ans_model::beginning::SAFE_BEGINNING) from every start, with the same picture.
 pub fn mended_content_is_good()
-    ensures bytes { SAFE_BEGINNING.now ≡ mending }
-    ensures cleared { LeavesClearedScreen }
-    ensures good { MakesGood }
+    ensures { MakesGood }
 {}
 
 /// After these 25 bytes, whichever kinds are agreed: where on all players that agree so content is the same

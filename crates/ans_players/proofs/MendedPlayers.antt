@@ -1,16 +1,15 @@
 -- Behind the mending.
-use Rattle.std.proofs.Common.{◌≡◌, ◌∙◌, ℕ, zero, suc, ◌-◌, ◌<◌, Bool, true, refl, ap, ap₂, sym, subst}
+use Rattle.std.proofs.Common.{◌≡◌, ◌∙◌, ℕ, zero, suc, ◌<◌, Bool, true, refl, ap₂, sym, subst}
 use Rattle.std.proofs.Common.{List, [], ◌∷◌, ◌++◌}
-use Rattle.std.proofs.Common.{arith, take, fold, replicate, Some}
-use Rattle.std.specs.Prelude.{IsTrue, bit_or, min, codes, slice_get, if◌then◌else◌}
-use Rattle.std.specs.Int.Bits.{and_zero_r}
+use Rattle.std.proofs.Common.{take, fold, replicate, Some}
+use Rattle.std.specs.Prelude.{IsTrue, codes, slice_get, if◌then◌else◌}
 use Rattle.ans_model.specs.Sequence.TokenKind.{Clear, Save, Colours, Place, Wrap}
-use Rattle.ans_model.specs.Screen.Attribute.{attribute_after_all}
-use Rattle.ans_model.specs.Screen.State.{Size, State, at, cell_count}
+use Rattle.ans_model.specs.Screen.State.{Size, State, cell_count}
 use Rattle.ans_model.specs.Screen.Step.{blank_cell}
 use Rattle.ans_model.specs.Screen.StartClass.{all_known, cleared, low_start}
 use Rattle.ans_model.specs.declared.cell.Position.{Position}
 use Rattle.ans_model.specs.declared.start.Start.{Start}
+use Rattle.ans_model.proofs.BeginningLemmas.{home_is, reset}
 use Rattle.ans_model.proofs.StartLemmas.{low_is_start}
 use Rattle.ans_players.specs.declared.kind.Kind.{Kind}
 use Rattle.ans_players.specs.declared.kind.Kind.TheVariants.{SavePlaceOnly}
@@ -19,9 +18,6 @@ use Rattle.ans_players.specs.Mends.{sequence, mending_spelled}
 use Rattle.ans_players.specs.Names.{Names, unnamed}
 use Rattle.ans_players.specs.Situations.{AreAgreed, Spelled, is_agreed, stand_behind, stand_of}
 use Rattle.ans_players.proofs.MoreNames.{IsMore, agreed_along_with_more}
-
-reset : (a : ℕ) → attribute_after_all a (0 ∷ 37 ∷ 40 ∷ []) ≡ 0x07
-reset a = ap (λ (v : ℕ). attribute_after_all (bit_or v 0x07) (37 ∷ 40 ∷ [])) (and_zero_r a)
 
 abbrev pub both : Names
 both = record { foreground = true; background = true }
@@ -48,11 +44,8 @@ module _ (z : Size) (s : State) where
     };
   }
 
-  home_is : at (min (1 - 1) z.lines) (min (1 - 1) (z.width - 1)) ≡ at 0 0
-  home_is = ap₂ at (omega arith) (omega arith)
-
   pub mending_leaves : stand_of z s mending_spelled ≡ named z
-  mending_leaves = ap₂ left (reset s.attribute) home_is
+  mending_leaves = ap₂ left (reset s.attribute) (home_is z)
 
 -- behind the mending no kind arises that does not arise from the cleared start
 pub agreed_named : (agreed : Kind → Bool) (z : Size) (xs : List Spelled) (k : ℕ) (x : Spelled)

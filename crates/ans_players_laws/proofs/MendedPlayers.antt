@@ -1,14 +1,12 @@
 -- What players show behind the mending.
-use Rattle.std.proofs.Common.{◌≡◌, inl, inr, ℕ, zero, suc, ◌+◌, ◌<◌, Bool, true, refl, sym, subst}
+use Rattle.std.proofs.Common.{◌≡◌, ℕ, zero, suc, ◌<◌, Bool, true, refl, sym, subst}
 use Rattle.std.proofs.Common.{List, [], ◌∷◌, ◌++◌, arith, take, fold, Some}
 use Rattle.std.specs.Prelude.{IsTrue, codes, slice_get}
 use Rattle.ans_model.specs.Sequence.TokenKind.{Clear, Save, Colours, Place, Wrap}
 use Rattle.ans_model.specs.Screen.State.{Size, State}
 use Rattle.ans_model.specs.Screen.StartClass.{IsStart, all_known, none_known, cleared, low_start}
-use Rattle.ans_model.specs.declared.fault.Cause.{Cause}
-use Rattle.ans_model.specs.declared.fault.Cause.TheVariants.{OutsideScreen}
 use Rattle.ans_model.specs.declared.start.Start.{Start}
-use Rattle.ans_model.specs.Verdict.TokenFault.{HasStaticFault}
+use Rattle.ans_model.proofs.BeginningLemmas.{place_is_within}
 use Rattle.ans_model.proofs.OneCause.{is_cleared}
 use Rattle.ans_model.proofs.StartLemmas.{low_is_start}
 use Rattle.ans_players.specs.declared.kind.Kind.{Kind}
@@ -45,18 +43,6 @@ pub mending_is_read : MendingIsRead
 mending_is_read = record { each = (wrap_on, (reset_to_names, (clear, (home, (save, tt))))); whole = refl }
 
 -- ---- what is shown
--- home lies on each screen
-home_is_within : (z : Size) (cause : Cause) → 0 < z.width → ¬ HasStaticFault z (Place 1 1) cause
-home_is_within z OutsideScreen w (inl below) = absurd (none below)
-  where
-    none : z.lines + 1 < 1 → ⊥
-    none h = omega arith
-home_is_within z OutsideScreen w (inr beside) = absurd (none w beside)
-  where
-    none : 0 < z.width → z.width < 1 → ⊥
-    none h g = omega arith
-home_is_within z _ w h = h
-
 -- no token of the mending is refused
 mending_is_allowed : (z : Size) → 0 < z.width → (s : State) (k : ℕ) (x : Spelled) → slice_get mending_spelled k ≡ Some x
     → IsAllowed z s x.token
@@ -71,7 +57,7 @@ mending_is_allowed z w s (suc (suc zero)) x e =
     rw same (record { no_static_fault = λ cause h. h; stays_above = tt })
 mending_is_allowed z w s (suc (suc (suc zero))) x e =
     let same : x ≡ sequence (Place 1 1) (codes "[H") = cc in
-    rw same (record { no_static_fault = λ cause h. home_is_within z cause w h; stays_above = tt })
+    rw same (record { no_static_fault = λ cause. place_is_within z 1 cause (omega arith) w; stays_above = tt })
 mending_is_allowed z w s (suc (suc (suc (suc zero)))) x e =
     let same : x ≡ sequence Save (codes "[s") = cc in
     rw same (record { no_static_fault = λ cause h. h; stays_above = tt })

@@ -16,6 +16,7 @@ use crate::ends::{give_after, give_before, opens_below};
 use crate::pen::Pen;
 use crate::row::{are_blank, write_row};
 use crate::sink::{Copy, Count, Sink};
+use ans_model::beginning::SAFE_BEGINNING;
 use ans_model::limits::MAX_WIDTH;
 use ans_play::Picture;
 use ans_screen::Screen;
@@ -24,9 +25,6 @@ use std::io::Write;
 
 /// How many bytes the cells of a row have at most, and what is written over behind them.
 const ROW: usize = 13 * MAX_WIDTH + 24;
-
-/// Wrap on, white on black by name, a cleared screen, the cursor home and saved.
-const MENDING: &[u8] = b"\x1b[?7h\x1b[0;37;40m\x1b[2J\x1b[H\x1b[s";
 
 /// Gives the cells of a row, and returns the attribute after them. `text` is room for them.
 fn give_cells<S: Sink>(
@@ -118,7 +116,7 @@ fn give_form<S: Sink, G: Screen>(sink: &mut S, picture: &Picture<G>)
     let end = end_of_rows(picture);
     let mut text = [0; ROW];
     let mut attribute = GREY;
-    sink.take(MENDING);
+    sink.take(SAFE_BEGINNING);
     for row in 0..end {
         attribute = give_row(sink, picture, row, row + 1 < end, attribute, &mut text);
     }

@@ -1,19 +1,13 @@
 -- Content behind the mending.
-use Rattle.std.proofs.Common.{◌≡◌, ◌⊎◌, inl, inr, ℕ, zero, suc, true, List, [], ◌∷◌, ◌++◌, codes, refl, ap, ap₂}
-use Rattle.std.proofs.Common.{min, ◌+◌, ◌-◌, ◌<◌}
-use native.Mathlib.Numerals.{unary_clauses}
-use Rattle.std.proofs.Common.{sym, ◌∙◌, Some, arith, take, replicate}
-use Rattle.std.specs.Prelude.{slice_get, bit_or}
-use Rattle.std.specs.Int.Bits.{and_zero_r}
-use Rattle.ans_model.specs.Bytes.{escape}
+use Rattle.std.proofs.Common.{◌≡◌, ◌⊎◌, inl, inr, ℕ, zero, suc, true, List, [], ◌∷◌, ◌++◌, refl, ap}
+use Rattle.std.proofs.Common.{sym, ◌∙◌, Some, arith, take}
+use Rattle.std.specs.Prelude.{slice_get}
 use Rattle.ans_model.specs.declared.fault.Cause.{Cause}
-use Rattle.ans_model.specs.declared.fault.Cause.TheVariants.{OutsideScreen}
 use Rattle.ans_model.specs.Sequence.TokenKind.{TokenKind, Glyph, LineFeed, Tab, EraseLine, Clear, Place, Save}
 use Rattle.ans_model.specs.Sequence.TokenKind.{Colours, Wrap}
 use Rattle.ans_model.specs.Sequence.Reads.{Reads, ReadsAs}
-use Rattle.ans_model.specs.Screen.Attribute.{attribute_after_all}
-use Rattle.ans_model.specs.Screen.State.{Size, IsSize, State, at, cell_at, cell_count}
-use Rattle.ans_model.specs.Screen.Step.{blank_cell, final}
+use Rattle.ans_model.specs.Screen.State.{Size, IsSize, State, cell_at}
+use Rattle.ans_model.specs.Screen.Step.{final}
 use Rattle.ans_model.specs.declared.cell.Position.{Position}
 use Rattle.ans_model.specs.Screen.StartClass.{IsStart, cleared, all_known, none_known}
 use Rattle.ans_model.specs.Verdict.Good.{Picture, PlaysWell, PrintsWell, Shows}
@@ -21,26 +15,9 @@ use Rattle.ans_model.specs.Verdict.TokenFault.{FromEvery, FromSome, HasStaticFau
 use Rattle.ans_model.specs.Verdict.TokenFault.{TabGoesOn, then_blanks}
 use Rattle.ans_model.proofs.StartLemmas.{low_is_start}
 use Rattle.ans_players.proofs.Spellings.{clear, home, save, reset_to_names, wrap_on}
-use Rattle.ans_walks.specs.Mend.{mending, mending_tokens, LeavesClearedScreen, MakesGood}
-
--- the reset of colours leaves nothing of an attribute
-reset : (a : ℕ) → attribute_after_all a (0 ∷ 37 ∷ 40 ∷ []) ≡ 0x07
-reset a = ap (λ (v : ℕ). attribute_after_all (bit_or v 0x07) (37 ∷ 40 ∷ [])) (and_zero_r a)
-
--- the place of row 1 and column 1 is home on each screen
-home_position : (z : Size) → at (min 0 z.lines) (min 0 (z.width - 1)) ≡ at 0 0
-home_position z = simp unary_clauses refl
-
-abbrev cleared_with : Size → ℕ → Position → State
-cleared_with z a p = record (cleared z) {
-  screen = replicate (cell_count z) (blank_cell a);
-  cursor = p;
-  saved = p;
-  attribute = a;
-}
-
-pub leaves_cleared : LeavesClearedScreen
-leaves_cleared z s = ap₂ (cleared_with z) (reset s.attribute) (home_position z)
+use Rattle.ans_model.specs.Screen.Beginning.{mending, mending_texts, mending_tokens}
+use Rattle.ans_model.proofs.BeginningLemmas.{leaves_cleared, place_is_within}
+use Rattle.ans_walks.specs.Mend.{MakesGood}
 
 -- what is played behind the mending is played from the cleared state
 pub behind_is_cleared : (z : Size) (s : State) (ts : List TokenKind)
@@ -48,12 +25,6 @@ pub behind_is_cleared : (z : Size) (s : State) (ts : List TokenKind)
 behind_is_cleared z s ts = ap (λ (v : State). final z v ts) (leaves_cleared z s)
 
 -- ---- its bytes
-
--- the text of each of its tokens
-abbrev pub mending_texts : List (List ℕ)
-mending_texts =
-    (escape ∷ codes "[?7h") ∷ (escape ∷ codes "[0;37;40m") ∷ (escape ∷ codes "[2J") ∷ (escape ∷ codes "[H")
-    ∷ (escape ∷ codes "[s") ∷ []
 
 -- what stands behind the mending is read behind its tokens
 pub reads_as_behind : (content : List ℕ) (tokens : List TokenKind) (texts : List (List ℕ))
@@ -77,18 +48,6 @@ IsQuiet Tab = ⊥
 IsQuiet EraseLine = ⊥
 IsQuiet t = (z : Size) (cause : Cause) → IsSize z → ¬ HasStaticFault z t cause
 
--- home lies on each screen
-home_is_quiet : IsQuiet (Place 1 1)
-home_is_quiet z OutsideScreen some (inl below) = absurd (below_none below)
-  where
-    below_none : z.lines + 1 < 1 → ⊥
-    below_none h = omega arith
-home_is_quiet z OutsideScreen some (inr beside) = absurd (beside_none some.some_columns beside)
-  where
-    beside_none : 0 < z.width → z.width < 1 → ⊥
-    beside_none h beside = omega arith
-home_is_quiet z _ some h = h
-
 -- a token stands in the content
 record IsBehind (tokens : List TokenKind) (k : ℕ) (t : TokenKind) : Type 0 where
   j : ℕ
@@ -102,7 +61,8 @@ quiet_or_behind tokens (suc zero) t e =
     let same : t ≡ Colours (0 ∷ 37 ∷ 40 ∷ []) = cc in inl (rw same (λ z cause some h. h))
 quiet_or_behind tokens (suc (suc zero)) t e = let same : t ≡ Clear = cc in inl (rw same (λ z cause some h. h))
 quiet_or_behind tokens (suc (suc (suc zero))) t e =
-    let same : t ≡ Place 1 1 = cc in inl (rw same home_is_quiet)
+    let same : t ≡ Place 1 1 = cc in
+    inl (rw same (λ z cause some. place_is_within z 1 cause (omega arith) some.some_columns))
 quiet_or_behind tokens (suc (suc (suc (suc zero)))) t e =
     let same : t ≡ Save = cc in inl (rw same (λ z cause some h. h))
 quiet_or_behind tokens (suc (suc (suc (suc (suc j))))) t e = inr (record { j = j; there = e; front = refl })

@@ -25,11 +25,11 @@ use Rattle.ans_players.proofs.MendedPlayers.{mended_from_each}
 use Rattle.ans_players.proofs.NamedKinds.{named_are_least}
 use Rattle.ans_players.proofs.OneSpelling.{one_spelling}
 use Rattle.ans_walks.specs.KindsUsed.{IsTold, is_used, used_of}
-use Rattle.ans_walks.specs.Mend.{mending, mending_tokens}
+use Rattle.ans_model.specs.Screen.Beginning.{mending, mending_texts, mending_tokens}
 use Rattle.ans_walks.specs.SaidOfPlayers.{IsSameWhereCleared, MendedIsSameWhereCleared}
 use Rattle.ans_walks.specs.declared.kinds.KindsUsed.{KindsUsed}
 use Rattle.ans_walks.specs.declared.times.Times.{Times}
-use Rattle.ans_walks.proofs.Mended.{makes_good, mending_texts, reads_as_behind}
+use Rattle.ans_walks.proofs.Mended.{makes_good, reads_as_behind}
 
 -- ---- the kinds that are told
 module _ (z : Size) (content : List ℕ) (kind : Kind) (good : IsGood z all_known content) where

@@ -1,26 +1,9 @@
 -- How a drawing that is good from the cleared start is mended.
-use Rattle.std.specs.Prelude.{◌≡◌, true, List, ℕ, [], ◌∷◌, ◌++◌, codes}
-use Rattle.ans_model.specs.Bytes.{escape}
-use Rattle.ans_model.specs.Sequence.TokenKind.{TokenKind, Clear, Place, Save, Colours, Wrap}
-use Rattle.ans_model.specs.Screen.State.{Size, State}
-use Rattle.ans_model.specs.Screen.Step.{final}
-use Rattle.ans_model.specs.Screen.StartClass.{cleared, all_known, none_known}
+use Rattle.std.specs.Prelude.{List, ℕ, ◌++◌}
+use Rattle.ans_model.specs.Screen.Beginning.{mending}
+use Rattle.ans_model.specs.Screen.State.{Size}
+use Rattle.ans_model.specs.Screen.StartClass.{all_known, none_known}
 use Rattle.ans_model.specs.Verdict.Good.{Picture, GoodWith}
-
--- ESC[?7h ESC[0;37;40m ESC[2J ESC[H ESC[s
-abbrev pub mending : List ℕ
-mending =
-    (escape ∷ codes "[?7h") ++ (escape ∷ codes "[0;37;40m") ++ (escape ∷ codes "[2J") ++ (escape ∷ codes "[H")
-    ++ (escape ∷ codes "[s")
-
--- Wrap on, white on black by name, a blank screen, the cursor at home, and saved there. Clear takes it home too in
--- ANSI.SYS, and in no terminal of today.
-abbrev pub mending_tokens : List TokenKind
-mending_tokens = Wrap true ∷ Colours (0 ∷ 37 ∷ 40 ∷ []) ∷ Clear ∷ Place 1 1 ∷ Save ∷ []
-
--- played from any state, they leave the cleared one
-abbrev pub LeavesClearedScreen : Type 0
-LeavesClearedScreen = (z : Size) (s : State) → final z s mending_tokens ≡ cleared z
 
 -- what is good from the cleared start is good behind them from every start, with the same picture
 abbrev pub MakesGood : Type 0

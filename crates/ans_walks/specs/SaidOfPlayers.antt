@@ -8,7 +8,7 @@ use Rattle.ans_players.specs.declared.kind.Kind.{Kind}
 use Rattle.ans_players.specs.declared.kind.Kind.TheVariants.{OwnColours}
 use Rattle.ans_players.specs.Kinds.{all_but, is_kind}
 use Rattle.ans_walks.specs.KindsUsed.{IsTold, used_of}
-use Rattle.ans_walks.specs.Mend.{mending}
+use Rattle.ans_model.specs.Screen.Beginning.{mending}
 use Rattle.ans_walks.specs.declared.players.Players.{Players}
 use Rattle.ans_walks.specs.declared.players.Players.TheVariants.{Any, InNamedColours, Agreeing}
 

@@ -17,7 +17,6 @@
 //! `specs/Places.antt`.
 #![tactic(auto)]
 
-mod beginning;
 mod calm;
 mod conditions;
 mod evidence;
@@ -39,7 +38,7 @@ mod two_watches;
 mod walk;
 mod watch;
 
-pub use beginning::SAFE_BEGINNING;
+pub use ans_model::beginning::SAFE_BEGINNING;
 pub use calm::least_class_for_players;
 pub use evidence::{cells_of_fault, cursors_before};
 pub use full_row_ends::{FullRowEnd, ends_full_rows};

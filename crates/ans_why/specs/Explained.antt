@@ -23,7 +23,7 @@ use Rattle.ans_sauce.specs.Found.{IsFound, body_in, record_in}
 use Rattle.ans_sauce.specs.WithoutLines.{lacks_lines_alone}
 use Rattle.ans_model.specs.Verdict.LastFault.{IsDeserved}
 use Rattle.ans_walks.specs.Evidence.{ShowsCursors, ShowsNamed}
-use Rattle.ans_walks.specs.Mend.{mending}
+use Rattle.ans_model.specs.Screen.Beginning.{mending}
 use Rattle.ans_walks.specs.Lines.{IsGoodOn, IsLeastLines, IsNeverGood}
 use Rattle.ans_walks.specs.SaidOfPlayers.{IsSaidOfPlayers}
 use Rattle.ans_walks.specs.Taller.{IsTaller}
