@@ -55,20 +55,20 @@ def by_variant(text, type_name, opening):
     return {name: text or int(number) for name, text, number in re.findall(arm, body(text, opening))}
 
 
-def numbered(numbers, texts):
-    """Texts by their numbers, with none where there is none."""
-    found = {numbers[name]: texts[name] for name in texts}
-    return [found.get(number) for number in range(max(found) + 1)]
+def column(table):
+    """The texts of a table of `ans_report`, without what they mean."""
+    rows = body(source("ans_report/src/meanings.rt"), f"static {table}")
+    return re.findall(r'^ {8}"([^"\\]+)",$', rows, re.MULTILINE)
 
 
 def faults():
-    numbers = by_variant(source("ans_model/src/fault.rt"), "Cause", "pub fn number")
-    return numbered(numbers, by_variant(source("ans_report/src/fault_lines.rt"), "Cause", "pub fn fault_text"))
+    """The texts of the faults by their numbers, with none where there is none."""
+    found = {int(text[1:].split()[0]): text for text in column("FAULTS")}
+    return [found.get(number) for number in range(max(found) + 1)]
 
 
 def notes():
-    numbers = by_variant(source("ans_model/src/note.rt"), "Note", "pub fn number")
-    return numbered(numbers, by_variant(source("ans_report/src/heading.rt"), "Note", "pub fn note_text"))
+    return [None, *column("NOTES")]
 
 
 def known():

@@ -3,7 +3,7 @@
 
     python3 tools/runs/meanings.py
 
-The texts are the constants of `crates/ans_report/src/meanings.rt`, which `anscheck help F20` prints. Below each
+The texts are those of the tables in `crates/ans_report/src/meanings.rt`, which `anscheck help F20` prints. Below each
 heading of the page its text is quoted, in lines that begin with `>`; what was quoted there before gives way to it.
 `try_pages.py` compares what is quoted with what the program prints, and `page/make.py` takes the texts of the page
 for browsers from here.
@@ -15,13 +15,15 @@ TOP = pathlib.Path(__file__).resolve().parent.parent.parent
 TEXTS = TOP / "crates" / "ans_report" / "src" / "meanings.rt"
 PAGE = TOP / "docs" / "FAULTS.md"
 
-CONSTANT = re.compile(r'^const ([FN]\d+): &str = "\\\n(.*?)";$', re.DOTALL | re.MULTILINE)
+FAULT = re.compile(r'^ {8}"(F\d+) [^"]*",\n {8}Help::\w+,\n {8}"\\\n(.*?)",$', re.DOTALL | re.MULTILINE)
+NOTE = re.compile(r'^ {8}"[^"\\]+",\n {8}"\\\n(.*?)",$', re.DOTALL | re.MULTILINE)
 HEADING = re.compile(r"^## (\w+) .*\n\n((?:>.*\n)+\n)?", re.MULTILINE)
 
 
 def meanings():
     """The text of each fault and each note, by its name."""
-    return dict(CONSTANT.findall(TEXTS.read_text(encoding="utf-8")))
+    text = TEXTS.read_text(encoding="utf-8")
+    return dict(FAULT.findall(text)) | {f"N{n}": meaning for n, meaning in enumerate(NOTE.findall(text), 1)}
 
 
 def quoted(text):

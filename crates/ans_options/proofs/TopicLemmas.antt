@@ -1,20 +1,16 @@
 -- Names of topics, and the words that ask for one.
-use Rattle.std.proofs.Common.{◌≡◌, Bool, true, false, true≢false, List, [], ◌∷◌, Some, None, codes, refl, sym}
-use Rattle.std.specs.Prelude.{◌↔◌, IsSome, IsTrue, if◌then◌else◌, option_map}
+use Rattle.std.proofs.Common.{◌≡◌, ℕ, ◌+◌, ◌-◌, ◌<◌, ◌≤◌, Bool, true, false, true≢false, List, [], ◌∷◌, ◌++◌, length, drop, take}
+use Rattle.std.proofs.Common.{get_or, map, Some, None, codes, refl, sym, arith, drop-cons, add-one}
+use Rattle.std.specs.Prelude.{◌↔◌, IsSome, IsTrue, Option, find, if◌then◌else◌, option_map}
+use Rattle.std.specs.Char.{eq_ignore_ascii_case}
 use Rattle.std.specs.Fmt.{digits}
-use Rattle.std.specs.Str.{bytes_eq}
+use Rattle.std.specs.Str.{bytes_eq, str_eq_ignore_ascii_case, str_to_ascii_lowercase}
+use Rattle.std.proofs.lemmas.List.{take_all}
 use Rattle.std.proofs.lemmas.Slice.Eq.{bytes_eq-Decides}
 use Rattle.clap.specs.Words.{Text}
 use Rattle.clap.specs.declared.error.ErrorKind.TheVariants.{InvalidSubcommand, UnknownArgument}
-use Rattle.ans_model.specs.declared.fault.Cause.TheVariants.{NoRecord, WrongVersion, WrongKind, CommentsMissing}
-use Rattle.ans_model.specs.declared.fault.Cause.TheVariants.{LinesUnstated, WidthTooLarge, LinesTooLarge}
-use Rattle.ans_model.specs.declared.fault.Cause.TheVariants.{BytesAfterEndMark, BrokenSequence, NumberTooLarge}
-use Rattle.ans_model.specs.declared.fault.Cause.TheVariants.{TooManyParameters, EndInSequence, UnknownSequence}
-use Rattle.ans_model.specs.declared.fault.Cause.TheVariants.{WrongParameters, KeyReassigned, ScreenMode, ReportAsked}
-use Rattle.ans_model.specs.declared.fault.Cause.TheVariants.{OutsideScreen, PrintBelow, Scrolls, PrintUnknownPlace}
-use Rattle.ans_model.specs.declared.fault.Cause.TheVariants.{EraseUnknownPlace, MayScroll, UnknownCell}
-use Rattle.ans_model.specs.declared.note.Note.TheVariants.{WidthAssumed, NoEndMark, SizeDiffers, OddDate, FlagBits}
-use Rattle.ans_model.specs.declared.note.Note.TheVariants.{FlagPair}
+use Rattle.ans_model.specs.declared.fault.Cause.TheVariants.{UnknownCell}
+use Rattle.ans_model.specs.declared.note.Note.TheVariants.{WidthAssumed}
 use Rattle.ans_options.specs.CommandLine.{IsNoCommand, command_name, faults_of}
 use Rattle.ans_options.specs.Topics.{topic_name, topic_named, topic_of}
 use Rattle.ans_options.specs.declared.command.Command.{Command}
@@ -30,40 +26,36 @@ pub decided : (r : Bool) (a b : Text) → IsTrue r ↔ (a ≡ b) → r ≡ bytes
 decided true a b h = sym ((bytes_eq-Decides a b).1 (h.0 refl))
 decided false a b h = sym (not_true (bytes_eq a b) (λ same. true≢false (sym (h.1 ((bytes_eq-Decides a b).0 same)))))
 
+-- a name of the right letter is that of the number whose digits follow
+pub numbered : (r : Bool) (name digits : Text) (letter : ℕ) → 1 ≤ length name
+    → eq_ignore_ascii_case (get_or name 0 0) letter ≡ true
+    → IsTrue r ↔ (str_to_ascii_lowercase (take (length name - 1) (drop 1 name)) ≡ str_to_ascii_lowercase digits)
+    → r ≡ str_eq_ignore_ascii_case name (letter ∷ digits)
+numbered r [] digits letter some same test = absurd (omega (arith, some))
+numbered r (x ∷ xs) digits letter some same test =
+    rw same (decided r (str_to_ascii_lowercase xs) (str_to_ascii_lowercase digits)
+    (rw (take_all (length (x ∷ xs) - 1) xs (omega arith)) at test))
+
+-- what is found among the topics from one on: that one, or what is found behind it
+module _ {A : Type 0} (p : Topic → Bool) (f : A → Topic) (xs : List A) (more : List Topic) (k : ℕ) (d : A)
+    (found : Option Topic) (within : k < length xs) (is : find p (map f (drop k xs) ++ more) ≡ found) where
+  here : (if p (f (get_or xs k d)) then Some (f (get_or xs k d)) else find p (map f (drop (k + 1) xs) ++ more)) ≡ found
+  here = rw add-one (rw (drop-cons xs k d within) at is)
+
+  pub found_here : p (f (get_or xs k d)) ≡ true → Some (f (get_or xs k d)) ≡ found
+  found_here is_it = rw is_it at here
+
+  pub found_behind : p (f (get_or xs k d)) ≡ false → find p (map f (drop (k + 1) xs) ++ more) ≡ found
+  found_behind is_not = rw is_not at here
+
 -- the name of a topic finds a topic of that name
 pub found_by_name : (program : Text) (t : Topic)
     → option_map topic_name (topic_of (program ∷ codes "help" ∷ topic_name t ∷ [])) ≡ Some (topic_name t)
 unfolding digits
-found_by_name program (Fault NoRecord) = refl
-found_by_name program (Fault WrongVersion) = refl
-found_by_name program (Fault WrongKind) = refl
-found_by_name program (Fault CommentsMissing) = refl
-found_by_name program (Fault LinesUnstated) = refl
-found_by_name program (Fault WidthTooLarge) = refl
-found_by_name program (Fault LinesTooLarge) = refl
-found_by_name program (Fault BytesAfterEndMark) = refl
-found_by_name program (Fault BrokenSequence) = refl
-found_by_name program (Fault NumberTooLarge) = refl
-found_by_name program (Fault TooManyParameters) = refl
-found_by_name program (Fault EndInSequence) = refl
-found_by_name program (Fault UnknownSequence) = refl
-found_by_name program (Fault WrongParameters) = refl
-found_by_name program (Fault KeyReassigned) = refl
-found_by_name program (Fault ScreenMode) = refl
-found_by_name program (Fault ReportAsked) = refl
-found_by_name program (Fault OutsideScreen) = refl
-found_by_name program (Fault PrintBelow) = refl
-found_by_name program (Fault Scrolls) = refl
-found_by_name program (Fault PrintUnknownPlace) = refl
-found_by_name program (Fault EraseUnknownPlace) = refl
-found_by_name program (Fault MayScroll) = refl
 found_by_name program (Fault (UnknownCell row col)) = refl
+found_by_name program (Fault cause) = refl
 found_by_name program (Note WidthAssumed) = refl
-found_by_name program (Note NoEndMark) = refl
-found_by_name program (Note SizeDiffers) = refl
-found_by_name program (Note OddDate) = refl
-found_by_name program (Note FlagBits) = refl
-found_by_name program (Note FlagPair) = refl
+found_by_name program (Note note) = refl
 
 -- no topic has the name of a command
 command_unnamed : (c : Command) → topic_named (command_name c) ≡ None

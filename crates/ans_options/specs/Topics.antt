@@ -1,7 +1,6 @@
 -- The faults and the notes, which help explains by their names.
-use Rattle.std.specs.Prelude.{List, [], ◌∷◌, ◌++◌, Option, Some, None, codes, decimal, find, map}
+use Rattle.std.specs.Prelude.{List, [], ◌∷◌, ◌++◌, Option, None, codes, decimal, find, map}
 use Rattle.std.specs.Prelude.{if◌then◌else◌}
-use Rattle.std.specs.Borrow.{Bor}
 use Rattle.std.specs.Str.{bytes_eq, str_eq_ignore_ascii_case}
 use Rattle.clap.specs.Words.{Text}
 use Rattle.ans_model.specs.Text.FaultText.{cause_number, note_number}
@@ -18,12 +17,6 @@ topics = map topic.Fault cause.EACH ++ map topic.Note note.EACH
 abbrev pub topic_name : Topic → Text
 topic_name (topic.Fault c) = codes "F" ++ decimal (cause_number c)
 topic_name (topic.Note n) = codes "N" ++ decimal (note_number n)
-
--- the first topic of a name in a table of topics by their names, in capitals or not
-abbrev pub first_named : Text → List (Bor Text × Topic) → Option Topic
-first_named name [] = None
-first_named name (row ∷ rows) =
-    if str_eq_ignore_ascii_case name row.0.now then Some row.1 else first_named name rows
 
 -- the topic of this name, in capitals or not
 abbrev pub topic_named : Text → Option Topic

@@ -6,3 +6,4 @@ pub mod CellsTold
 pub mod TokensPut
 pub mod TokensFinished
 pub mod QuotedTexts
+pub mod RowTexts

@@ -1,44 +1,12 @@
 //! The lines of a refusal.
-ghost use Rattle.std.specs.Prelude.{◌≡◌};
-ghost use Rattle.ans_model.specs.Text.FaultText.{fault_text, position_text, fault_line};
+ghost use Rattle.ans_model.specs.Text.FaultText.{position_text, fault_line};
 ghost use Rattle.ans_model.specs.Text.ReportText.{refusal_text};
 ghost use Rattle.ans_write.specs.Puts.{Puts};
 
+use crate::meanings::fault_text;
 use ans_sauce::{Cause, Fault};
 use ans_write::Outbox;
 use std::io::Write;
-
-/// The text of a fault, without its offset and position.
-pub fn fault_text(fault: &Fault) -> &'static str
-    ensures { result.now ≡ fault_text fault.now.cause }
-{
-    match fault.cause {
-        Cause::NoRecord => "F1 no SAUCE record",
-        Cause::WrongVersion => "F2 SAUCE version is not 00",
-        Cause::WrongKind => "F3 not Character/ANSi",
-        Cause::CommentsMissing => "F4 comment block missing",
-        Cause::LinesUnstated => "F5 number of lines not stated",
-        Cause::WidthTooLarge => "F6 width above 1024",
-        Cause::LinesTooLarge => "F7 lines above 8192",
-        Cause::BytesAfterEndMark => "F8 bytes after the end mark",
-        Cause::BrokenSequence => "F9 broken sequence",
-        Cause::NumberTooLarge => "F10 number above 255",
-        Cause::TooManyParameters => "F11 more than 16 parameters",
-        Cause::EndInSequence => "F12 content ends in a sequence",
-        Cause::UnknownSequence => "F13 unknown sequence",
-        Cause::WrongParameters => "F14 wrong parameters",
-        Cause::KeyReassigned => "F15 key reassigned",
-        Cause::ScreenMode => "F16 screen mode set",
-        Cause::ReportAsked => "F17 cursor report asked",
-        Cause::OutsideScreen => "F19 place outside the screen",
-        Cause::PrintBelow => "F20 print below the stated lines",
-        Cause::Scrolls => "F21 scrolls",
-        Cause::PrintUnknownPlace => "F22 print at an unknown place",
-        Cause::EraseUnknownPlace => "F23 erase at an unknown place",
-        Cause::MayScroll => "F24 may scroll",
-        Cause::UnknownCell { row: _, col: _ } => "F25 cell stays unknown",
-    }
-}
 
 fn put_position<W: Write>(out: &mut Outbox<'_, W>, cause: &Cause)
     ensures { Puts W.contents out.old out.new (position_text cause.now) }

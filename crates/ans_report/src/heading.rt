@@ -1,31 +1,18 @@
 //! The lines of a report before its verdict, or before what a content needs.
-ghost use Rattle.std.specs.Prelude.{◌≡◌, ℕ, ◌++◌, codes, decimal, length};
+ghost use Rattle.std.specs.Prelude.{ℕ, ◌++◌, codes, decimal, length};
 ghost use Rattle.std.specs.List.{flat_map};
-ghost use Rattle.ans_model.specs.Text.FaultText.{line_of, note_text, note_line};
+ghost use Rattle.ans_model.specs.Text.FaultText.{line_of, note_line};
 ghost use Rattle.ans_model.specs.Text.ReportText.{start_name, start_line, heading_text};
 ghost use Rattle.ans_write.specs.Puts.{Puts};
 ghost use Rattle.ans_sauce.specs.Parts.{content_of, notes_of};
 ghost use Rattle.ans_report.specs.Headings.{heading_of};
 
 use crate::lines::{put_named_line, put_size_line, put_words};
+use crate::meanings::note_text;
 use ans_model::start::Start;
 use ans_sauce::{Note, Parts};
 use ans_write::Outbox;
 use std::io::Write;
-
-/// The text of a note.
-pub fn note_text(note: &Note) -> &'static str
-    ensures { result.now ≡ note_text note.now }
-{
-    match note {
-        Note::WidthAssumed => "width 0 taken as 80",
-        Note::NoEndMark => "no end mark after the content",
-        Note::SizeDiffers => "file size differs from the content",
-        Note::OddDate => "date is not eight digits",
-        Note::FlagBits => "flag bits 5 to 7 are not zero",
-        Note::FlagPair => "a flag pair is 11",
-    }
-}
 
 fn put_start_name<W: Write>(out: &mut Outbox<'_, W>, start: Start)
     ensures { Puts W.contents out.old out.new (start_name start) }

@@ -27,10 +27,10 @@ mod tokens_text;
 
 pub use ans_write::{DeviceFault, Tried, WriteFault, glyph_text};
 pub use counted::{put_counted, put_times};
-pub use fault_lines::{fault_text, put_fault_line, put_refusal};
-pub use heading::{note_text, put_notes};
+pub use fault_lines::{put_fault_line, put_refusal};
+pub use heading::put_notes;
 pub use lines::{answer_text, put_named_line, put_number_line, put_size_line, put_words};
-pub use meanings::{fault_meaning, note_meaning};
+pub use meanings::{Help, fault_help, fault_meaning, fault_text, note_meaning, note_text};
 pub use message::put_message;
 pub use needs_text::{Needs, put_needed_parts, put_needs};
 pub use quoted::{put_quoted, put_quoted_byte, put_quoted_bytes};
