@@ -14,7 +14,7 @@ use Rattle.std.proofs.lemmas.List.Sums.{prefix_len_passes}
 use Rattle.std.specs.Borrow.{Bor}
 use Rattle.clap.specs.Words.{Text}
 use Rattle.ans_model.specs.Text.Words.{texts_of}
-use Rattle.ans_check.specs.Listing.{IsFirstName, is_zero, named_by, names_in}
+use Rattle.ans_check.specs.Listing.{IsFirstName, ends_name, named_by, names_in}
 
 -- ---- the first byte 00h
 not_found : (b : Bool) (n : ℕ) → cond b (Some n) None ≡ None → b ≡ false
@@ -36,22 +36,23 @@ not_true true e = cc
 not_true false e = refl
 
 -- a list without it is one part
-pub no_zero : (bytes : List ℕ) → position is_zero bytes ≡ None → slice_split is_zero bytes ≡ bytes ∷ []
+pub no_zero : (bytes : List ℕ) → position ends_name bytes ≡ None → slice_split ends_name bytes ≡ bytes ∷ []
 no_zero bytes none =
-    slice_split_none is_zero bytes (All-from_get_or (λ (b : ℕ). is_zero b ≡ false) bytes 0 no_place)
+    slice_split_none ends_name bytes (All-from_get_or (λ (b : ℕ). ends_name b ≡ false) bytes 0 no_place)
   where
-    no_place : (i : ℕ) → i < length bytes → is_zero (get_or bytes i 0) ≡ false
+    no_place : (i : ℕ) → i < length bytes → ends_name (get_or bytes i 0) ≡ false
     no_place i lt =
-        not_true (is_zero (get_or bytes i 0))
-        (prefix_len_passes (λ (b : ℕ). not (is_zero b)) bytes i 0
-        (below i (position_or_len is_zero bytes) (length bytes)
-        (not_found (nat_lt (position_or_len is_zero bytes) (length bytes)) (position_or_len is_zero bytes) none) lt))
+        not_true (ends_name (get_or bytes i 0))
+        (prefix_len_passes (λ (b : ℕ). not (ends_name b)) bytes i 0
+        (below i (position_or_len ends_name bytes) (length bytes)
+        (not_found (nat_lt (position_or_len ends_name bytes) (length bytes)) (position_or_len ends_name bytes) none)
+        lt))
 
 -- where it stands, a name ends
-pub zero_cut : (bytes front back : List ℕ) (end : ℕ) → position is_zero bytes ≡ Some end → front ≡ take end bytes
+pub zero_cut : (bytes front back : List ℕ) (end : ℕ) → position ends_name bytes ≡ Some end → front ≡ take end bytes
     → back ≡ drop end bytes → IsFirstName bytes front (take (length back - 1) (drop 1 back))
 zero_cut bytes front back end at front_is back_is =
-    let place = position_or_len is_zero bytes in
+    let place = position_or_len ends_name bytes in
     let both = found (nat_lt place (length bytes)) place end at in
     let within : place < length bytes = less place (length bytes) both.0 in
     let more_is : take (length back - 1) (drop 1 back) ≡ drop (place + 1) bytes =
@@ -59,7 +60,7 @@ zero_cut bytes front back end at front_is back_is =
     ∙ ap (λ (n : ℕ). drop (n + 1) bytes) (sym both.1) in
     let name_is : front ≡ take place bytes = front_is ∙ ap (λ (n : ℕ). take n bytes) (sym both.1) in
     let shorter : length (drop (place + 1) bytes) < length bytes = simp length-drop (omega (arith, within)) in
-    rw (more_is, name_is) (record { first = slice_split_first is_zero bytes 0 within; shorter = shorter })
+    rw (more_is, name_is) (record { first = slice_split_first ends_name bytes 0 within; shorter = shorter })
 
 pub if_none : {X : Type 0} (o : Option X) (P : Type 0) → P → IfNone o P
 if_none None P p = p
@@ -69,10 +70,10 @@ if_none (Some x) P p = tt
 -- a name that is ended is the first of all
 pub name_named : (whole : Bool) (bytes name more : List ℕ) → IsFirstName bytes name more
     → names_in whole bytes ≡ name ∷ names_in whole more
-name_named whole bytes name more h = ap (named_by whole) h.first ∙ go (slice_split is_zero more) some
+name_named whole bytes name more h = ap (named_by whole) h.first ∙ go (slice_split ends_name more) some
   where
-    some : 1 ≤ length (slice_split is_zero more)
-    some = rw (length-slice_split is_zero more) (omega arith)
+    some : 1 ≤ length (slice_split ends_name more)
+    some = rw (length-slice_split ends_name more) (omega arith)
 
     go : (parts : List Text) → 1 ≤ length parts → named_by whole (name ∷ parts) ≡ name ∷ named_by whole parts
     go [] none = absurd (omega arith)

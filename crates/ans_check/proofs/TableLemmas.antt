@@ -17,7 +17,7 @@ use Rattle.ans_table.specs.declared.counts.Counts.{Counts}
 use Rattle.ans_table.specs.declared.counts.Outcome.{Outcome}
 use Rattle.ans_model.specs.Text.Words.{texts_of}
 use Rattle.std.proofs.lemmas.List.Sums.{count_by-le-length}
-use Rattle.ans_table.specs.Counting.{counts_of, is_pass, is_refused, is_unread}
+use Rattle.ans_table.specs.Counting.{counts_of, counts_as_pass, is_refused, is_unread}
 use Rattle.ans_table.specs.Findings.{RowFinding, outcome_of}
 use Rattle.ans_table.specs.RowText.{Row}
 use Rattle.std.specs.Prelude.{Bool, IfSome, IsErr, IsErrOf, IsTrue, OnOk, Vec, false, true, ◌↔◌}
@@ -187,7 +187,7 @@ module _ {W : Type 0} (contents : W → Option (List ℕ)) (found : Text → Row
           length-map (take i names) (λ (w : Bor Text). w.now),
           length-take i names,
         );
-        pass = count_by-le-length is_pass came;
+        pass = count_by-le-length counts_as_pass came;
         refused = count_by-le-length is_refused came;
         unread = count_by-le-length is_unread came;
       })

@@ -26,7 +26,7 @@ use Rattle.ans_write.specs.Writes.{AppendsUnless, Wrote, WrotePrefix}
 use Rattle.ans_write.specs.declared.tried.Tried.{Tried}
 use Rattle.ans_check.specs.CommandText.{Reports}
 use Rattle.ans_check.specs.Ending.{ending_message, ending_of_mending, ending_of_redrawing, ending_of_words}
-use Rattle.ans_check.specs.Listing.{IsListing, is_whole, names_in, listed_bytes}
+use Rattle.ans_check.specs.Listing.{IsListing, was_read_whole, names_in, listed_bytes}
 use Rattle.ans_redraw_file.specs.Redrawing.{TellsRedrawn}
 use Rattle.ans_check.specs.Served.{ServesAs}
 use Rattle.ans_mend.specs.Mending.{TellsMended}
@@ -108,8 +108,8 @@ pub record EndsAfterListing {R W : Type 0} (remaining : R → Option (List ℕ))
   pub input : is_standard (inner_of reader)
   pub listing : Listing
   pub listed : IsListing remaining reader reader_after listing
-  pub ends : EndsWritten contents found form (is_whole listing) (names_in (is_whole listing) (listed_bytes listing))
-      output output_after ending
+  pub ends : EndsWritten contents found form (was_read_whole listing)
+      (names_in (was_read_whole listing) (listed_bytes listing)) output output_after ending
 
 -- The table by the names that the words give: where they give none, by those on standard input, unless there was no
 -- memory for these.
@@ -134,21 +134,21 @@ meaning_text (topic.Note note) = note_meaning note
 
 -- what is asked for was done: one command on one input, a file mended or redrawn, a table of many files, or what a
 -- fault or a note means
-abbrev pub EndsAs : {R W : Type 0} → (R → Option (List ℕ)) → (W → Option (List ℕ)) → (Text → R → Type 0)
+abbrev pub EndsAsTold : {R W : Type 0} → (R → Option (List ℕ)) → (W → Option (List ℕ)) → (Text → R → Type 0)
     → (R → Type 0) → (Text → Type 0) → Asked → Tried W → Tried W → Ending → Type 0
-EndsAs remaining contents is_file is_standard is_missing (asked.One options file) output output_after ending =
+EndsAsTold remaining contents is_file is_standard is_missing (asked.One options file) output output_after ending =
     EndsServed remaining contents is_file is_standard is_missing (Reports options) Run (option_map string_bytes file)
     output output_after ending
-EndsAs remaining contents is_file is_standard is_missing (asked.Mend mends file) output output_after ending =
+EndsAsTold remaining contents is_file is_standard is_missing (asked.Mend mends file) output output_after ending =
     EndsServed remaining contents is_file is_standard is_missing (TellsMended mends) (ending_of_mending mends)
     (option_map string_bytes file) output output_after ending
-EndsAs remaining contents is_file is_standard is_missing (asked.Redraw file) output output_after ending =
+EndsAsTold remaining contents is_file is_standard is_missing (asked.Redraw file) output output_after ending =
     EndsServed remaining contents is_file is_standard is_missing TellsRedrawn ending_of_redrawing
     (option_map string_bytes file) output output_after ending
-EndsAs remaining contents is_file is_standard is_missing (asked.Table form names) output output_after ending =
+EndsAsTold remaining contents is_file is_standard is_missing (asked.Table form names) output output_after ending =
     EndsBy remaining contents is_standard (IsFoundByName remaining is_file is_missing) form
     (map string_bytes names.items) output output_after ending
-EndsAs remaining contents is_file is_standard is_missing (asked.Meaning topic) output output_after ending =
+EndsAsTold remaining contents is_file is_standard is_missing (asked.Meaning topic) output output_after ending =
     PrintsHelp contents output output_after (meaning_text topic) ending
 
 -- The words ask for something, and the program ends with it. Words that clap reads have no fault.
@@ -158,7 +158,7 @@ pub record EndsAsAsked {R W : Type 0} (remaining : R → Option (List ℕ)) (con
   pub asked : Asked
   pub asked_by : IsAskedBy words asked
   pub faultless : topic_of words ≡ None → faults_of words ≡ []
-  pub ends : EndsAs remaining contents is_file is_standard is_missing asked output output_after ending
+  pub ends : EndsAsTold remaining contents is_file is_standard is_missing asked output output_after ending
 
 -- The error is one that these words can have. Where they have no fault, it is want of memory.
 pub record IsRefusalOf (words : List Text) (refusal : WordsError) : Type 0 where

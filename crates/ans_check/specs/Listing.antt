@@ -13,16 +13,16 @@ abbrev pub listed_bytes : Listing → List ℕ
 listed_bytes listing = listing.bytes.items
 
 -- whether the input was read to its end
-abbrev pub is_whole : Listing → Bool
-is_whole listing = listing.whole
+abbrev pub was_read_whole : Listing → Bool
+was_read_whole listing = listing.whole
 
 -- the byte 00h, which ends a name
-abbrev pub is_zero : ℕ → Bool
-is_zero b = b == 0x00
+abbrev pub ends_name : ℕ → Bool
+ends_name b = b == 0x00
 
 -- the first name that 00h ends, and what stands behind that
 pub record IsFirstName (bytes name more : List ℕ) : Type 0 where
-  pub first : slice_split is_zero bytes ≡ name ∷ slice_split is_zero more
+  pub first : slice_split ends_name bytes ≡ name ∷ slice_split ends_name more
   pub shorter : length more < length bytes
 
 -- The names by the parts between the bytes 00h. After the last 00h stands one more name, or none where nothing stands
@@ -34,12 +34,12 @@ named_by whole (name ∷ next ∷ more) = name ∷ named_by whole (next ∷ more
 
 -- the names in the bytes of an input that was read to its end, or up to a failure
 abbrev pub names_in : Bool → List ℕ → List Text
-names_in whole bytes = named_by whole (slice_split is_zero bytes)
+names_in whole bytes = named_by whole (slice_split ends_name bytes)
 
 -- the input gave these bytes, and then its end, or it failed
 pub record IsListing {R : Type 0} (remaining : R → Option (List ℕ)) (reader reader_after : Tried R)
     (listing : Listing) : Type 0 where
   pub read : Consumes (remaining (inner_of reader)) (remaining (inner_of reader_after)) (listed_bytes listing)
-  pub end : MatchBool (is_whole listing)
+  pub end : MatchBool (was_read_whole listing)
       ((has_failed reader_after ≡ false) × IsAtEnd (remaining (inner_of reader_after)))
       (has_failed reader_after ≡ true)

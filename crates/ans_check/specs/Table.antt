@@ -43,7 +43,7 @@ Gave remaining reader after (Err why.Memory) = ⊤
 Gave remaining reader after (Err _) = ⊥
 
 -- the file was opened, and this is found by its reader
-pub record IsRead {R : Type 0} (remaining : R → Option (List ℕ)) (is_file : R → Type 0)
+pub record IsFoundByReader {R : Type 0} (remaining : R → Option (List ℕ)) (is_file : R → Type 0)
     (finding : RowFinding) : Type 0 where
   pub reader : Tried R
   pub reader_after : Tried R
@@ -56,7 +56,7 @@ abbrev pub IsFoundByName : {R : Type 0} → (R → Option (List ℕ)) → (Text 
     → RowFinding → Type 0
 IsFoundByName remaining is_file is_missing name (Err why.NameNotText) = ¬ IsUtf8 name
 IsFoundByName remaining is_file is_missing name (Err why.Unopened) = is_missing name
-IsFoundByName remaining is_file is_missing name finding = IsRead remaining (is_file name) finding
+IsFoundByName remaining is_file is_missing name finding = IsFoundByReader remaining (is_file name) finding
 
 -- a row in a form: columns, or a JSON object
 abbrev pub row_in : TableForm → Text → RowFinding → List ℕ

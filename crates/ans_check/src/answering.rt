@@ -7,12 +7,12 @@ ghost use Rattle.ans_model.specs.Text.Words.{texts_of};
 ghost use Rattle.ans_report.specs.Message.{message_line};
 ghost use Rattle.ans_write.specs.Puts.{Puts};
 ghost use Rattle.ans_write.specs.Tried.{has_failed};
-ghost use Rattle.ans_check.specs.Answer.{EndsAfter, EndsAs, EndsBy, EndsNamed, EndsServed, EndsSo, EndsWritten};
+ghost use Rattle.ans_check.specs.Answer.{EndsAfter, EndsAsTold, EndsBy, EndsNamed, EndsServed, EndsSo, EndsWritten};
 ghost use Rattle.ans_check.specs.Answer.{IsNamed, PrintsHelp, Says, Tells, said_text};
 ghost use Rattle.ans_check.specs.Answer.{TellsFailure};
 ghost use Rattle.ans_check.specs.Answer.{ending_of_table, meaning_text, names_standard};
 ghost use Rattle.ans_check.specs.Ending.{ending_message, ending_of_words};
-ghost use Rattle.ans_check.specs.Listing.{is_whole, names_in, listed_bytes};
+ghost use Rattle.ans_check.specs.Listing.{was_read_whole, names_in, listed_bytes};
 ghost use Rattle.ans_check.specs.Table.{IsFoundByName};
 
 use crate::errors::RunError;
@@ -204,8 +204,8 @@ fn serve_listing<I: Inputs, W: Write>(
 ) -> Ending
     requires { has_failed output.old ≡ false }
     ensures ends { EndsWritten W.contents
-        (IsFoundByName I.Reader.remaining (I.is_file inputs) (I.is_missing inputs)) form (is_whole listing.now)
-        (names_in (is_whole listing.now) (listed_bytes listing.now)) output.old output.new result }
+        (IsFoundByName I.Reader.remaining (I.is_file inputs) (I.is_missing inputs)) form (was_read_whole listing.now)
+        (names_in (was_read_whole listing.now) (listed_bytes listing.now)) output.old output.new result }
     ensures write { TellsFailure output.new result }
 {
     let Ok(names) = listing.names(alloc) else {
@@ -297,7 +297,7 @@ fn serve_asked<I: Inputs, W: Write>(
     output: &mut Tried<W>,
 ) -> Ending
     requires { has_failed output.old ≡ false }
-    ensures ends { EndsAs I.Reader.remaining W.contents (I.is_file inputs) (I.is_standard inputs)
+    ensures ends { EndsAsTold I.Reader.remaining W.contents (I.is_file inputs) (I.is_standard inputs)
         (I.is_missing inputs) asked.now output.old output.new result }
     ensures write { TellsFailure output.new result }
 {

@@ -4,7 +4,7 @@ ghost use Rattle.std.specs.Prelude.{◌≡◌, [], ◌∷◌, false, IfOk, IfSom
 ghost use Rattle.std.specs.List.{position, slice_split};
 ghost use Rattle.ans_write.specs.Tried.{has_failed, inner_of};
 ghost use Rattle.ans_model.specs.Text.Words.{texts_of};
-ghost use Rattle.ans_check.specs.Listing.{IsFirstName, IsListing, is_zero, is_whole, names_in, listed_bytes};
+ghost use Rattle.ans_check.specs.Listing.{IsFirstName, IsListing, ends_name, was_read_whole, names_in, listed_bytes};
 
 use ans_report::{DeviceFault, Tried};
 use std::alloc::{AllocError, Global};
@@ -21,7 +21,7 @@ pub(crate) struct Listing {
 }
 
 fn first_zero(bytes: &[u8]) -> Option<usize>
-    ensures { result ≡ position is_zero bytes.now }
+    ensures { result ≡ position ends_name bytes.now }
 {
     bytes.iter().position(|byte| *byte == 0)
 }
@@ -29,7 +29,7 @@ fn first_zero(bytes: &[u8]) -> Option<usize>
 /// The name that the byte 00h ends, and what stands behind it, where there is one.
 fn cut_name(bytes: &[u8]) -> Option<(&[u8], &[u8])>
     ensures some { IfSome result (λ cut. IsFirstName bytes.now cut.0.now cut.1.now) }
-    ensures none { IfNone result (slice_split is_zero bytes.now ≡ bytes.now ∷ []) }
+    ensures none { IfNone result (slice_split ends_name bytes.now ≡ bytes.now ∷ []) }
 {
     let end = first_zero(bytes)?;
     let (name, more) = bytes.split_at(end);
@@ -60,15 +60,15 @@ impl Listing {
     }
 
     /// Whether the input was read to its end.
-    pub(crate) fn is_whole(&self) -> bool
-        ensures { result ≡ is_whole self.now }
+    pub(crate) fn was_read_whole(&self) -> bool
+        ensures { result ≡ was_read_whole self.now }
     {
         self.whole
     }
 
     /// The names, in their order. The last one need not be ended, unless the input failed.
     pub(crate) fn names(&self, alloc: Global) -> Result<Vec<&[u8]>, AllocError>
-        ensures { IfOk result (λ v. texts_of v.items ≡ names_in (is_whole self.now) (listed_bytes self.now)) }
+        ensures { IfOk result (λ v. texts_of v.items ≡ names_in (was_read_whole self.now) (listed_bytes self.now)) }
     {
         let mut names = Vec::new(alloc);
         let mut rest = self.bytes.as_slice();

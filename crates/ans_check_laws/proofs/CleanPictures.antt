@@ -19,7 +19,8 @@ use Rattle.ans_show.specs.PageText.{page_bytes, page_character, page_end, page_l
 use Rattle.ans_show.specs.PageText.{page_title, run_span}
 use Rattle.ans_show.specs.Runs.{Run, runs}
 use Rattle.ans_show.specs.TerminalText.{background_parameter, background_text, colours_text, foreground_parameter}
-use Rattle.ans_show.specs.TerminalText.{Triple, foreground_text, line_end, line_text, mixed, parameter, run_text}
+use Rattle.ans_show.specs.TerminalText.{Triple, foreground_text, terminal_line_end, terminal_line, mixed, parameter}
+use Rattle.ans_show.specs.TerminalText.{run_text}
 use Rattle.ans_show.specs.TerminalText.{terminal_text, vga_colour}
 use Rattle.ans_picture_laws.proofs.SeenRuns.{IsByteRun, runs_bytes}
 use Rattle.ans_check_laws.specs.CleanTexts.{IsCleanText, IsColouredText, IsColourSequence, is_parameter_byte}
@@ -150,7 +151,7 @@ colours_are_a_sequence vga l =
 plain_again : IsColourSequence (escape ∷ codes "[0m")
 plain_again = record { parameters = codes "0"; are_parameters = refl; whole = refl }
 
-line_end_coloured : IsColouredText line_end
+line_end_coloured : IsColouredText terminal_line_end
 line_end_coloured =
     coloured_append (escape ∷ codes "[0m") (codes "\n") (one_piece (escape ∷ codes "[0m") (inr plain_again))
     (coloured_where_clean (codes "\n") (plain_text (codes "\n") refl))
@@ -163,9 +164,9 @@ run_coloured vga non_blink r h =
     (coloured_where_clean (shown_bytes r.bytes) (clean_shown r.bytes (record { each = h.bytes })))
 
 line_coloured : (vga non_blink : Bool) (row : List Cell) → All IsByteCell row
-    → IsColouredText (line_text vga non_blink row)
+    → IsColouredText (terminal_line vga non_blink row)
 line_coloured vga non_blink row h =
-    coloured_append (flat_map (run_text vga non_blink) (runs row)) line_end
+    coloured_append (flat_map (run_text vga non_blink) (runs row)) terminal_line_end
     (of_each IsColouredText coloured_nil coloured_append IsByteRun (run_text vga non_blink) (runs row)
     (runs_bytes row h) (run_coloured vga non_blink))
     line_end_coloured
@@ -173,5 +174,5 @@ line_coloured vga non_blink row h =
 pub terminal_coloured : (vga non_blink : Bool) (picture : Picture) → All IsByteCell picture.cells
     → IsColouredText (terminal_text vga non_blink picture)
 terminal_coloured vga non_blink picture h =
-    of_rows IsColouredText coloured_nil coloured_append (line_text vga non_blink) (line_coloured vga non_blink)
+    of_rows IsColouredText coloured_nil coloured_append (terminal_line vga non_blink) (line_coloured vga non_blink)
     picture.size.width picture.size.lines picture.cells h

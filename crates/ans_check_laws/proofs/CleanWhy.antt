@@ -26,7 +26,7 @@ use Rattle.ans_sauce.specs.Parts.{content_of, record_of, size_of}
 use Rattle.ans_sauce.specs.Split.{IsSplit}
 use Rattle.ans_model.specs.Verdict.LastFault.{IsDeserved}
 use Rattle.ans_walks.specs.Evidence.{ShowsNamed}
-use Rattle.ans_why.specs.HintsText.{times_line, hints_text, wider_line}
+use Rattle.ans_why.specs.HintsText.{hint_times_line, hints_text, wider_line}
 use Rattle.ans_walks.specs.declared.hints.Hints.{Hints}
 use Rattle.ans_walks.specs.declared.times.Times.{Times}
 use Rattle.ans_why.specs.Blamed.{AreToBlame}
@@ -124,7 +124,7 @@ relied_clean P z file_length content (Some r) bytes (p, h) =
 -- ---- hints
 
 times_clean : (what : List ℕ) (times : Option Times) (advice : List ℕ) → IsCleanText what → IsCleanText advice
-    → IsCleanText (times_line what times advice)
+    → IsCleanText (hint_times_line what times advice)
 times_clean what None advice h g = clean_nil
 times_clean what (Some times) advice h g = search clean_lines depth 20
 

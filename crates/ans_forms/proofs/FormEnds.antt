@@ -7,14 +7,15 @@ use Rattle.std.proofs.lemmas.Bool.{false≢true}
 use Rattle.std.proofs.lemmas.List.{take-append-drop}
 use Rattle.ans_model.specs.Sequence.Spelling.{is_mark_byte}
 use Rattle.ans_forms.specs.Pieces.{allows, behind_form, behind_piece, count_front, is_digit, is_note, is_parameter}
-use Rattle.ans_forms.specs.Unwanted.{Entry, IsOfKind, ReassignsNone, behind_going, first_form, forms, kind_or, may_go}
+use Rattle.ans_forms.specs.Unwanted.{FormEntry, IsOfKind, ReassignsNone, behind_going, first_form, forms, kind_or}
+use Rattle.ans_forms.specs.Unwanted.{may_go}
 use Rattle.ans_forms.specs.Unwanted.{unwanted_form}
 use Rattle.ans_forms.specs.declared.kinds.Before.{Before}
 use Rattle.ans_forms.specs.declared.kinds.Unwanted.{Unwanted}
 use Rattle.ans_forms.specs.declared.kinds.Unwanted.TheVariants as unwanted
-use Rattle.ans_forms.specs.declared.pieces.Piece.{Piece}
-use Rattle.ans_forms.specs.declared.pieces.Piece.TheVariants.{Digits, Notes, Mark}
-use Rattle.ans_forms.specs.declared.pieces.Piece.TheVariants.{Parameters}
+use Rattle.ans_forms.specs.declared.pieces.FormPiece.{FormPiece}
+use Rattle.ans_forms.specs.declared.pieces.FormPiece.TheVariants.{Digits, Notes, Mark}
+use Rattle.ans_forms.specs.declared.pieces.FormPiece.TheVariants.{Parameters}
 
 -- ---- an end of the bytes
 -- what is there, if anything, is an end of the bytes
@@ -38,7 +39,7 @@ behind_first : (b : Bool) (first : ℕ) (rest : List ℕ)
 behind_first true first rest = (first ∷ [], refl)
 behind_first false first rest = ([], refl)
 
-piece_end : (piece : Piece) (bytes : List ℕ) → IsEnd bytes (behind_piece piece bytes)
+piece_end : (piece : FormPiece) (bytes : List ℕ) → IsEnd bytes (behind_piece piece bytes)
 piece_end Digits bytes = none_or_end _ bytes _ (dropped (count_front is_digit bytes) bytes)
 piece_end Notes bytes = none_or_end _ bytes _ (dropped (count_front is_note bytes) bytes)
 piece_end Mark [] = ([], refl)
@@ -53,12 +54,12 @@ end_of_end bytes front rest None e h = tt
 end_of_end bytes front rest (Some behind) e (more, is) =
     (front ++ more, e ∙ ap (λ (v : List ℕ). front ++ v) is ∙ sym (append_assoc front more behind))
 
-then_end : (bytes : List ℕ) (more : List Piece) (o : Option (List ℕ)) → IsEnd bytes o
+then_end : (bytes : List ℕ) (more : List FormPiece) (o : Option (List ℕ)) → IsEnd bytes o
     → ((rest : List ℕ) → IsEnd rest (behind_form more rest)) → IsEnd bytes (option_and_then (behind_form more) o)
 then_end bytes more None h ends = tt
 then_end bytes more (Some rest) (front, e) ends = end_of_end bytes front rest (behind_form more rest) e (ends rest)
 
-pub form_end : (pieces : List Piece) (bytes : List ℕ) → IsEnd bytes (behind_form pieces bytes)
+pub form_end : (pieces : List FormPiece) (bytes : List ℕ) → IsEnd bytes (behind_form pieces bytes)
 form_end [] bytes = ([], refl)
 form_end (piece ∷ more) bytes =
     then_end bytes more (behind_piece piece bytes) (piece_end piece bytes) (form_end more)
@@ -88,7 +89,7 @@ both : (a b : Bool) → IsTrue (a && b) → IsTrue a × IsTrue b
 both true b h = (refl, h)
 both false b h = absurd (false≢true h)
 
-found_first : (before : Before) (bytes : List ℕ) (entries : List Entry)
+found_first : (before : Before) (bytes : List ℕ) (entries : List FormEntry)
     → IsTrue (list_all (λ e. has_form e.kind) entries) → IsFound bytes (first_form before bytes entries)
 found_first before bytes [] all = tt
 found_first before bytes (e ∷ es) all =

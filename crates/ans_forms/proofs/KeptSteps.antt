@@ -18,7 +18,7 @@ use Rattle.ans_tokens.proofs.Readable.{reads_as_more}
 use Rattle.ans_forms.proofs.SomeText.{some_text}
 use Rattle.ans_forms.proofs.HereLemmas.{nothing_goes, nothing_stays, refused_stays, stopped_stays}
 use Rattle.ans_forms.specs.Here.{IsGoingHere, IsTokenHere, NoneGoesHere, is_keys}
-use Rattle.ans_forms.specs.Keeping.{GoesOn, HasKept, StopsAt}
+use Rattle.ans_forms.specs.Keeping.{AllKept, HasKept, StopsAtFirst}
 use Rattle.ans_forms.specs.Unwanted.{AllStay, BeginsStaying, IsNextGoing, NothingGoes, before_after, before_behind}
 use Rattle.ans_forms.specs.Unwanted.{before_with, stays}
 use Rattle.ans_forms.specs.declared.kinds.Before.{Before}
@@ -34,10 +34,10 @@ all_stay_with tokens texts t text h spelled stay =
     record { each = read.each; stay = stay_too }
 
 module _ (before : Before) (front : Front) (old : Keeping) (token : Token) (text behind : List ℕ)
-    (next : IsNext front token text behind) (h : GoesOn before front old) where
+    (next : IsNext front token text behind) (h : AllKept before front old) where
   pub goes_on : (new : Keeping) → stays (shown_kind (kind_of token)) ≡ true
       → new.before ≡ before_with old.before (shown_kind (kind_of token))
-      → GoesOn before (front_with front (shown_kind (kind_of token)) text behind) new
+      → AllKept before (front_with front (shown_kind (kind_of token)) text behind) new
   goes_on new stay is = record {
     all_stay = all_stay_with front.tokens front.texts (shown_kind (kind_of token)) text h.all_stay next.spelled stay;
     before_is = is ∙ ap (λ (b : Before). before_with b (shown_kind (kind_of token))) h.before_is
@@ -47,7 +47,7 @@ module _ (before : Before) (front : Front) (old : Keeping) (token : Token) (text
   pub stops_at : (new : Keeping) → stays (shown_kind (kind_of token)) ≡ false → new.before ≡ old.before
       → new.place ≡ start_of token → new.length ≡ length_of token
       → new.is_keys ≡ is_keys (shown_kind (kind_of token))
-      → StopsAt before (front_with front (shown_kind (kind_of token)) text behind) new
+      → StopsAtFirst before (front_with front (shown_kind (kind_of token)) text behind) new
   stops_at new stops same place long keys = record {
     tokens = front.tokens;
     texts = front.texts;

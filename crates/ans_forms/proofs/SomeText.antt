@@ -9,12 +9,13 @@ use Rattle.ans_model.specs.Sequence.TokenKind.{Keys}
 use Rattle.ans_model.specs.Sequence.Reads.{SpellsToken}
 use Rattle.ans_model.proofs.Reading.{token_nonempty}
 use Rattle.ans_forms.specs.Pieces.{allows, behind_form}
-use Rattle.ans_forms.specs.Unwanted.{Entry, IsOfKind, behind_going, first_form, forms, kind_or, may_go, unwanted_form}
+use Rattle.ans_forms.specs.Unwanted.{FormEntry, IsOfKind, behind_going, first_form, forms, kind_or, may_go}
+use Rattle.ans_forms.specs.Unwanted.{unwanted_form}
 use Rattle.ans_forms.specs.declared.kinds.Before.{Before}
 use Rattle.ans_forms.specs.declared.kinds.Unwanted.{Unwanted}
 use Rattle.ans_forms.specs.declared.kinds.Unwanted.TheVariants as unwanted
-use Rattle.ans_forms.specs.declared.pieces.Piece.{Piece}
-use Rattle.ans_forms.specs.declared.pieces.Piece.TheVariants.{Byte}
+use Rattle.ans_forms.specs.declared.pieces.FormPiece.{FormPiece}
+use Rattle.ans_forms.specs.declared.pieces.FormPiece.TheVariants.{Byte}
 use Rattle.ans_forms.proofs.FormEnds.{IsEnd, form_end}
 
 -- what is there, if anything, is shorter than the bytes
@@ -28,17 +29,17 @@ shorter_by_end first rest (Some behind) (front, e) =
     let sum : length rest ≡ length front + length behind = ap length e ∙ length-append front behind in
     omega (arith, sum)
 
-byte_or_none : (b : Bool) (first : ℕ) (rest : List ℕ) (more : List Piece)
+byte_or_none : (b : Bool) (first : ℕ) (rest : List ℕ) (more : List FormPiece)
     → IsShorter (first ∷ rest) (option_and_then (behind_form more) (if b then Some rest else None))
 byte_or_none true first rest more = shorter_by_end first rest (behind_form more rest) (form_end more rest)
 byte_or_none false first rest more = tt
 
 -- the pieces begin with a byte
-abbrev begins_with_byte : List Piece → Bool
+abbrev begins_with_byte : List FormPiece → Bool
 begins_with_byte (Byte only ∷ more) = true
 begins_with_byte _ = false
 
-form_shorter : (pieces : List Piece) (bytes : List ℕ) → IsTrue (begins_with_byte pieces)
+form_shorter : (pieces : List FormPiece) (bytes : List ℕ) → IsTrue (begins_with_byte pieces)
     → IsShorter bytes (behind_form pieces bytes)
 form_shorter (Byte only ∷ more) [] begins = tt
 form_shorter (Byte only ∷ more) (first ∷ rest) begins = byte_or_none (allows (Byte only) first) first rest more
@@ -63,7 +64,7 @@ both : (a b : Bool) → IsTrue (a && b) → IsTrue a × IsTrue b
 both true b h = (refl, h)
 both false b h = absurd (false≢true h)
 
-found_first : (before : Before) (bytes : List ℕ) (entries : List Entry)
+found_first : (before : Before) (bytes : List ℕ) (entries : List FormEntry)
     → IsTrue (list_all (λ e. begins_with_byte e.pieces) entries) → FoundShorter bytes (first_form before bytes entries)
 found_first before bytes [] all = tt
 found_first before bytes (e ∷ es) all =

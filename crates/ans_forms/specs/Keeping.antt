@@ -10,12 +10,12 @@ use Rattle.ans_forms.specs.declared.kinds.Before.{Before}
 use Rattle.ans_forms.specs.declared.next.Keeping.{Keeping}
 
 -- all its tokens stay
-pub record GoesOn (before : Before) (front : Front) (now : Keeping) : Type 0 where
+pub record AllKept (before : Before) (front : Front) (now : Keeping) : Type 0 where
   pub all_stay : AllStay front.tokens front.texts
   pub before_is : now.before ≡ before_after before front.tokens
 
 -- all stay but the last, which does not
-pub record StopsAt (before : Before) (front : Front) (now : Keeping) : Type 0 where
+pub record StopsAtFirst (before : Before) (front : Front) (now : Keeping) : Type 0 where
   pub tokens : List TokenKind
   pub texts : List (List ℕ)
   pub all_stay : AllStay tokens texts
@@ -32,5 +32,5 @@ pub record StopsAt (before : Before) (front : Front) (now : Keeping) : Type 0 wh
 
 -- over the front, which stands behind what is told, a walk goes on or stops
 abbrev pub HasKept : Before → Front → Keeping → Bool → Type 0
-HasKept before front now true = GoesOn before front now
-HasKept before front now false = StopsAt before front now
+HasKept before front now true = AllKept before front now
+HasKept before front now false = StopsAtFirst before front now

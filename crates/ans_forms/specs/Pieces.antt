@@ -5,9 +5,9 @@ use Rattle.std.specs.Int.{is_in_range}
 use Rattle.std.specs.List.{position_or_len}
 use Rattle.ans_model.specs.Bytes.{semicolon}
 use Rattle.ans_model.specs.Sequence.Spelling.{is_mark_byte}
-use Rattle.ans_forms.specs.declared.pieces.Piece.{Piece}
-use Rattle.ans_forms.specs.declared.pieces.Piece.TheVariants.{Byte, Either, MusicLetter, Digits, Notes, Mark}
-use Rattle.ans_forms.specs.declared.pieces.Piece.TheVariants.{Parameters}
+use Rattle.ans_forms.specs.declared.pieces.FormPiece.{FormPiece}
+use Rattle.ans_forms.specs.declared.pieces.FormPiece.TheVariants.{Byte, Either, MusicLetter, Digits, Notes, Mark}
+use Rattle.ans_forms.specs.declared.pieces.FormPiece.TheVariants.{Parameters}
 
 abbrev pub is_digit : ℕ → Bool
 is_digit b = is_in_range 0x30 0x39 b
@@ -27,14 +27,14 @@ abbrev pub count_front : (ℕ → Bool) → List ℕ → ℕ
 count_front passes bytes = position_or_len (λ b. not (passes b)) bytes
 
 -- a byte that a piece of one byte may be
-abbrev pub allows : Piece → ℕ → Bool
+abbrev pub allows : FormPiece → ℕ → Bool
 allows (Byte only) b = b == only
 allows (Either one other) b = b == one || b == other
 allows MusicLetter b = b == 0x4D || b == 0x4E || b == 0x7C
 allows _ b = false
 
 -- what stands behind the first byte, where it is allowed
-abbrev pub behind_byte : Piece → List ℕ → Option (List ℕ)
+abbrev pub behind_byte : FormPiece → List ℕ → Option (List ℕ)
 behind_byte piece [] = None
 behind_byte piece (first ∷ rest) = if allows piece first then Some rest else None
 
@@ -53,7 +53,7 @@ behind_mark [] = []
 behind_mark (first ∷ rest) = if is_mark_byte first then rest else first ∷ rest
 
 -- what stands behind a piece that the bytes begin with
-abbrev pub behind_piece : Piece → List ℕ → Option (List ℕ)
+abbrev pub behind_piece : FormPiece → List ℕ → Option (List ℕ)
 behind_piece Digits bytes = behind_digits bytes
 behind_piece Notes bytes = behind_notes bytes
 behind_piece Mark bytes = Some (behind_mark bytes)
@@ -61,10 +61,10 @@ behind_piece Parameters bytes = Some (drop (count_front is_parameter bytes) byte
 behind_piece piece bytes = behind_byte piece bytes
 
 -- what stands behind the pieces, one after the other, where the bytes begin with them
-abbrev pub behind_form : List Piece → List ℕ → Option (List ℕ)
+abbrev pub behind_form : List FormPiece → List ℕ → Option (List ℕ)
 behind_form [] bytes = Some bytes
 behind_form (piece ∷ more) bytes = option_and_then (behind_form more) (behind_piece piece bytes)
 
 -- the bytes begin with the pieces, one after the other
-abbrev pub begins_with_form : List Piece → List ℕ → Bool
+abbrev pub begins_with_form : List FormPiece → List ℕ → Bool
 begins_with_form pieces bytes = is_some (behind_form pieces bytes)

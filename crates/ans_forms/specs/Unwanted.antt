@@ -10,7 +10,7 @@ use Rattle.ans_forms.specs.declared.kinds.Before.{Before}
 use Rattle.ans_forms.specs.declared.kinds.Going.{Going}
 use Rattle.ans_forms.specs.declared.kinds.Unwanted.{Unwanted}
 use Rattle.ans_forms.specs.declared.kinds.Unwanted.TheVariants as unwanted
-use Rattle.ans_forms.specs.declared.pieces.Piece.{Piece}
+use Rattle.ans_forms.specs.declared.pieces.FormPiece.{FormPiece}
 use Rattle.ans_forms.specs.declared.pieces.TheConstants.{BRIGHT_BACKGROUNDS, BLINKING_CURSOR, CURSOR_SWITCH}
 use Rattle.ans_forms.specs.declared.pieces.TheConstants.{BLINK_SWITCH, MODE, FONT_SELECTION, MUSIC, TRUE_COLOUR}
 use Rattle.ans_forms.specs.declared.pieces.TheConstants.{STATUS_REPORT, CURSOR_REPORT, TERMINAL_REPORT}
@@ -72,32 +72,32 @@ may_go before unwanted.TrueColour = before.is_coloured
 may_go before _ = true
 
 -- a form, and what it is
-pub record Entry : Type 0 where
+pub record FormEntry : Type 0 where
   pub kind : Unwanted
-  pub pieces : List Piece
+  pub pieces : List FormPiece
 
-abbrev pub entry : Unwanted → List Piece → Entry
-entry kind pieces = record { kind = kind; pieces = pieces }
+abbrev pub form_entry : Unwanted → List FormPiece → FormEntry
+form_entry kind pieces = record { kind = kind; pieces = pieces }
 
 -- the forms, in the order in which they are looked for
-abbrev pub forms : List Entry
+abbrev pub forms : List FormEntry
 forms =
-    entry unwanted.BrightBackgrounds BRIGHT_BACKGROUNDS
-    ∷ entry unwanted.Switch BLINKING_CURSOR
-    ∷ entry unwanted.Switch CURSOR_SWITCH
-    ∷ entry unwanted.Switch BLINK_SWITCH
-    ∷ entry unwanted.Mode MODE
-    ∷ entry unwanted.FontSelection FONT_SELECTION
-    ∷ entry unwanted.Music MUSIC
-    ∷ entry unwanted.TrueColour TRUE_COLOUR
-    ∷ entry unwanted.Report STATUS_REPORT
-    ∷ entry unwanted.Report CURSOR_REPORT
-    ∷ entry unwanted.Report TERMINAL_REPORT
-    ∷ entry unwanted.Report TERMINAL_REPORT_0
+    form_entry unwanted.BrightBackgrounds BRIGHT_BACKGROUNDS
+    ∷ form_entry unwanted.Switch BLINKING_CURSOR
+    ∷ form_entry unwanted.Switch CURSOR_SWITCH
+    ∷ form_entry unwanted.Switch BLINK_SWITCH
+    ∷ form_entry unwanted.Mode MODE
+    ∷ form_entry unwanted.FontSelection FONT_SELECTION
+    ∷ form_entry unwanted.Music MUSIC
+    ∷ form_entry unwanted.TrueColour TRUE_COLOUR
+    ∷ form_entry unwanted.Report STATUS_REPORT
+    ∷ form_entry unwanted.Report CURSOR_REPORT
+    ∷ form_entry unwanted.Report TERMINAL_REPORT
+    ∷ form_entry unwanted.Report TERMINAL_REPORT_0
     ∷ []
 
 -- what stands behind the form, where it may go here and the bytes begin with it
-abbrev pub behind_going : Before → List ℕ → Entry → Option (List ℕ)
+abbrev pub behind_going : Before → List ℕ → FormEntry → Option (List ℕ)
 behind_going before bytes form = if may_go before form.kind then behind_form form.pieces bytes else None
 
 -- this kind and what stands behind it, if there is some, and else the other
@@ -106,7 +106,7 @@ kind_or kind (Some rest) other = Some (kind, rest)
 kind_or kind None other = other
 
 -- the kind of the first of these forms that may go here and with which the bytes begin, and what stands behind it
-abbrev pub first_form : Before → List ℕ → List Entry → Option (Unwanted × List ℕ)
+abbrev pub first_form : Before → List ℕ → List FormEntry → Option (Unwanted × List ℕ)
 first_form before bytes [] = None
 first_form before bytes (form ∷ more) =
     kind_or form.kind (behind_going before bytes form) (first_form before bytes more)

@@ -8,7 +8,7 @@ ghost use Rattle.ans_forms.specs.Pieces.{count_front, is_digit, is_note, is_para
 
 /// A piece of the form of a sequence.
 #[derive(Debug, Clone, Copy)]
-pub enum Piece {
+pub enum FormPiece {
     /// This byte.
     Byte(u8),
     /// One of these two bytes.
@@ -25,13 +25,13 @@ pub enum Piece {
     Parameters,
 }
 
-use Piece::{Byte, Digits, Either, Mark, MusicLetter, Notes, Parameters};
+use FormPiece::{Byte, Digits, Either, Mark, MusicLetter, Notes, Parameters};
 
 /// Notes of a melody for programs of bulletin boards: `ESC[M`, `ESC[N` or `ESC[|`, up to the byte 0Eh.
-pub const MUSIC: [Piece; 5] = [Byte(0x1B), Byte(b'['), MusicLetter, Notes, Byte(0x0E)];
+pub const MUSIC: [FormPiece; 5] = [Byte(0x1B), Byte(b'['), MusicLetter, Notes, Byte(0x0E)];
 
 /// A font: `ESC[n;n D`, a blank before the letter.
-pub const FONT_SELECTION: [Piece; 7] = [
+pub const FONT_SELECTION: [FormPiece; 7] = [
     Byte(0x1B),
     Byte(b'['),
     Digits,
@@ -42,7 +42,7 @@ pub const FONT_SELECTION: [Piece; 7] = [
 ];
 
 /// A colour of 24 bits, as PabloDraw writes it: `ESC[0;r;g;bt` or `ESC[1;r;g;bt`.
-pub const TRUE_COLOUR: [Piece; 10] = [
+pub const TRUE_COLOUR: [FormPiece; 10] = [
     Byte(0x1B),
     Byte(b'['),
     Either(b'0', b'1'),
@@ -56,7 +56,7 @@ pub const TRUE_COLOUR: [Piece; 10] = [
 ];
 
 /// Whether a colour that blinks is a bright background: `ESC[?33h` or `ESC[?33l`.
-pub const BRIGHT_BACKGROUNDS: [Piece; 6] = [
+pub const BRIGHT_BACKGROUNDS: [FormPiece; 6] = [
     Byte(0x1B),
     Byte(b'['),
     Byte(b'?'),
@@ -66,7 +66,7 @@ pub const BRIGHT_BACKGROUNDS: [Piece; 6] = [
 ];
 
 /// Whether the cursor blinks: `ESC[?12h` or `ESC[?12l`.
-pub(crate) const BLINKING_CURSOR: [Piece; 6] = [
+pub(crate) const BLINKING_CURSOR: [FormPiece; 6] = [
     Byte(0x1B),
     Byte(b'['),
     Byte(b'?'),
@@ -76,7 +76,7 @@ pub(crate) const BLINKING_CURSOR: [Piece; 6] = [
 ];
 
 /// Whether the cursor shows: `ESC[?25h` or `ESC[?25l`.
-pub const CURSOR_SWITCH: [Piece; 6] = [
+pub const CURSOR_SWITCH: [FormPiece; 6] = [
     Byte(0x1B),
     Byte(b'['),
     Byte(b'?'),
@@ -86,7 +86,7 @@ pub const CURSOR_SWITCH: [Piece; 6] = [
 ];
 
 /// A switch for what blinks: `ESC[?35h` or `ESC[?35l`.
-pub(crate) const BLINK_SWITCH: [Piece; 6] = [
+pub(crate) const BLINK_SWITCH: [FormPiece; 6] = [
     Byte(0x1B),
     Byte(b'['),
     Byte(b'?'),
@@ -96,7 +96,7 @@ pub(crate) const BLINK_SWITCH: [Piece; 6] = [
 ];
 
 /// A screen mode of DOS: `ESC[=nh` or `ESC[=nl`.
-pub const DOS_MODE: [Piece; 5] = [
+pub const DOS_MODE: [FormPiece; 5] = [
     Byte(0x1B),
     Byte(b'['),
     Byte(b'='),
@@ -105,19 +105,30 @@ pub const DOS_MODE: [Piece; 5] = [
 ];
 
 /// A mode of any terminal: `ESC[`, a mark or none, parameters, and `h` or `l`.
-pub(crate) const MODE: [Piece; 5] = [Byte(0x1B), Byte(b'['), Mark, Parameters, Either(b'h', b'l')];
+pub(crate) const MODE: [FormPiece; 5] = [
+    Byte(0x1B),
+    Byte(b'['),
+    Mark,
+    Parameters,
+    Either(b'h', b'l'),
+];
 
 /// Asks whether the terminal is well: `ESC[5n`.
-pub(crate) const STATUS_REPORT: [Piece; 4] = [Byte(0x1B), Byte(b'['), Byte(b'5'), Byte(b'n')];
+pub(crate) const STATUS_REPORT: [FormPiece; 4] = [Byte(0x1B), Byte(b'['), Byte(b'5'), Byte(b'n')];
 
 /// Asks where the cursor is: `ESC[6n`.
-pub(crate) const CURSOR_REPORT: [Piece; 4] = [Byte(0x1B), Byte(b'['), Byte(b'6'), Byte(b'n')];
+pub(crate) const CURSOR_REPORT: [FormPiece; 4] = [Byte(0x1B), Byte(b'['), Byte(b'6'), Byte(b'n')];
 
 /// Asks which terminal it is: `ESC[c`.
-pub(crate) const TERMINAL_REPORT: [Piece; 3] = [Byte(0x1B), Byte(b'['), Byte(b'c')];
+pub(crate) const TERMINAL_REPORT: [FormPiece; 3] = [Byte(0x1B), Byte(b'['), Byte(b'c')];
 
 /// The same with its parameter: `ESC[0c`.
-pub(crate) const TERMINAL_REPORT_0: [Piece; 4] = [Byte(0x1B), Byte(b'['), Byte(b'0'), Byte(b'c')];
+pub(crate) const TERMINAL_REPORT_0: [FormPiece; 4] = [
+    Byte(0x1B),
+    Byte(b'['),
+    Byte(b'0'),
+    Byte(b'c'),
+];
 
 /// How many bytes the notes of a melody have at most.
 const MOST_NOTES: usize = 250;
@@ -185,7 +196,7 @@ fn count_parameters(bytes: &[u8]) -> usize
 }
 
 /// What stands behind the first byte, where there is one and it is allowed.
-fn behind_byte(bytes: &[u8], piece: Piece) -> Option<&[u8]>
+fn behind_byte(bytes: &[u8], piece: FormPiece) -> Option<&[u8]>
     ensures { option_copied result ≡ behind_byte piece bytes.now }
 {
     match bytes {
@@ -195,7 +206,7 @@ fn behind_byte(bytes: &[u8], piece: Piece) -> Option<&[u8]>
 }
 
 /// Whether a byte is one that a piece of one byte may be.
-fn allows(piece: Piece, byte: u8) -> bool
+fn allows(piece: FormPiece, byte: u8) -> bool
     ensures { result ≡ allows piece byte }
 {
     match piece {
@@ -217,7 +228,7 @@ fn behind_mark(bytes: &[u8]) -> &[u8]
 }
 
 /// What stands behind a piece, where the bytes begin with it.
-fn behind_piece(bytes: &[u8], piece: Piece) -> Option<&[u8]>
+fn behind_piece(bytes: &[u8], piece: FormPiece) -> Option<&[u8]>
     ensures { option_copied result ≡ behind_piece piece bytes.now }
 {
     match piece {
@@ -239,7 +250,7 @@ fn behind_piece(bytes: &[u8], piece: Piece) -> Option<&[u8]>
 }
 
 /// What stands behind the pieces, one after the other, where the bytes begin with them; None where they do not.
-pub fn behind_form<'a>(bytes: &'a [u8], pieces: &[Piece]) -> Option<&'a [u8]>
+pub fn behind_form<'a>(bytes: &'a [u8], pieces: &[FormPiece]) -> Option<&'a [u8]>
     ensures { option_copied result ≡ behind_form pieces.now bytes.now }
 {
     let mut rest = bytes;
@@ -253,7 +264,7 @@ pub fn behind_form<'a>(bytes: &'a [u8], pieces: &[Piece]) -> Option<&'a [u8]>
 }
 
 /// Whether the bytes begin with the pieces, one after the other.
-pub fn begins_with_form(bytes: &[u8], pieces: &[Piece]) -> bool
+pub fn begins_with_form(bytes: &[u8], pieces: &[FormPiece]) -> bool
     ensures { result ≡ begins_with_form pieces.now bytes.now }
 {
     behind_form(bytes, pieces).is_some()

@@ -7,64 +7,64 @@ ghost use Rattle.ans_forms.specs.Unwanted.{first_form, unwanted_form};
 use crate::kinds::{Before, Unwanted};
 use crate::pieces::{
     BLINK_SWITCH, BLINKING_CURSOR, BRIGHT_BACKGROUNDS, CURSOR_REPORT, CURSOR_SWITCH,
-    FONT_SELECTION, MODE, MUSIC, Piece, STATUS_REPORT, TERMINAL_REPORT, TERMINAL_REPORT_0,
+    FONT_SELECTION, FormPiece, MODE, MUSIC, STATUS_REPORT, TERMINAL_REPORT, TERMINAL_REPORT_0,
     TRUE_COLOUR, behind_form,
 };
 
 /// A form, and what it is.
 #[derive(Debug, Clone, Copy)]
-pub(crate) struct Form {
+pub(crate) struct SequenceForm {
     pub kind: Unwanted,
-    pub pieces: &'static [Piece],
+    pub pieces: &'static [FormPiece],
 }
 
 /// The forms in the order in which they are looked for: the switches before all other modes.
-pub(crate) const FORMS: [Form; 12] = [
-    Form {
+pub(crate) const FORMS: [SequenceForm; 12] = [
+    SequenceForm {
         kind: Unwanted::BrightBackgrounds,
         pieces: &BRIGHT_BACKGROUNDS,
     },
-    Form {
+    SequenceForm {
         kind: Unwanted::Switch,
         pieces: &BLINKING_CURSOR,
     },
-    Form {
+    SequenceForm {
         kind: Unwanted::Switch,
         pieces: &CURSOR_SWITCH,
     },
-    Form {
+    SequenceForm {
         kind: Unwanted::Switch,
         pieces: &BLINK_SWITCH,
     },
-    Form {
+    SequenceForm {
         kind: Unwanted::Mode,
         pieces: &MODE,
     },
-    Form {
+    SequenceForm {
         kind: Unwanted::FontSelection,
         pieces: &FONT_SELECTION,
     },
-    Form {
+    SequenceForm {
         kind: Unwanted::Music,
         pieces: &MUSIC,
     },
-    Form {
+    SequenceForm {
         kind: Unwanted::TrueColour,
         pieces: &TRUE_COLOUR,
     },
-    Form {
+    SequenceForm {
         kind: Unwanted::Report,
         pieces: &STATUS_REPORT,
     },
-    Form {
+    SequenceForm {
         kind: Unwanted::Report,
         pieces: &CURSOR_REPORT,
     },
-    Form {
+    SequenceForm {
         kind: Unwanted::Report,
         pieces: &TERMINAL_REPORT,
     },
-    Form {
+    SequenceForm {
         kind: Unwanted::Report,
         pieces: &TERMINAL_REPORT_0,
     },
@@ -72,7 +72,11 @@ pub(crate) const FORMS: [Form; 12] = [
 
 /// The first of these forms that may go behind what stands before and with which the bytes begin: its kind, and what
 /// stands behind it.
-fn first_form<'a>(bytes: &'a [u8], before: Before, forms: &[Form]) -> Option<(Unwanted, &'a [u8])>
+fn first_form<'a>(
+    bytes: &'a [u8],
+    before: Before,
+    forms: &[SequenceForm],
+) -> Option<(Unwanted, &'a [u8])>
     ensures { MatchOption result (first_form before bytes.now (map entry_of forms.now) ≡ None)
         (λ form. first_form before bytes.now (map entry_of forms.now) ≡ Some (form.0, form.1.now)) }
 {

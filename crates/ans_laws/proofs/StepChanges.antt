@@ -9,7 +9,7 @@ use Rattle.ans_model.specs.Screen.State.{Size, State, IsWellFormed, at, cell, ce
 use Rattle.ans_model.specs.declared.cell.Position.{Position}
 use Rattle.ans_model.specs.Screen.Step.{step, scrolled, line_feed, printed, blank_cell}
 use Rattle.ans_laws.specs.StepLaws.{OnlyScreenAndCursor, IsCleared, IsLineErased, NextPosition, GlyphPrints}
-use Rattle.ans_laws.specs.StepLaws.{GlyphScrolls, LineFeedMovesDown, IsScrolled, LineFeedScrolls, IsPrinted}
+use Rattle.ans_laws.specs.StepLaws.{GlyphScrolls, LineFeedMovesDown, IsScrolled, LineFeedScrolls, ChangesOneCell}
 use Rattle.ans_laws.specs.StepLaws.{IsPrintedAndScrolled}
 use Rattle.ans_laws.specs.MoveLaws.{IsLastColumn}
 use Rattle.ans_model.proofs.Slices.{slice_get-append_left, slice_get-append_right, slice_get-drop, slice_get-replicate}
@@ -68,7 +68,7 @@ line_feed_scrolls z s h e = rw (eq-eqb s.cursor.row z.lines e) (scrolled_is z s 
 -- ---- a printed byte
 -- a printed byte, and the cursor at the next position
 printed_at : (z : Size) (s : State) (byte : ℕ) (next : Position) → IsWellFormed z s → NextPosition z s next
-    → IsPrinted z s byte (record (printed z s byte) { cursor = next })
+    → ChangesOneCell z s byte (record (printed z s byte) { cursor = next })
 printed_at z s byte next h goes_on = record {
   printed = printed_cell z s h.fits byte;
   kept = λ p on other. cell_beside_printed z s h.fits byte p on other;
@@ -85,7 +85,7 @@ glyph_prints z s byte h stays = elim (cases_lt (s.cursor.column + 1) z.width) [
 ]
   where
     wrapped : (b : Bool) → s.wrap ≡ b → IsLastColumn z s.cursor.column
-        → IsPrinted z s byte (if b then line_feed z (record (printed z s byte) { cursor = at s.cursor.row 0 }) else
+        → ChangesOneCell z s byte (if b then line_feed z (record (printed z s byte) { cursor = at s.cursor.row 0 }) else
         printed z s byte)
     wrapped true e last =
         let above : s.cursor.row ≢ z.lines = λ row. stays (row, last, e) in

@@ -82,7 +82,7 @@ NextPosition z s next =
     ⊎ (IsLastColumn z s.cursor.column × (s.wrap ≡ false) × (next ≡ s.cursor))
 
 -- one cell has changed, and the cursor stands at the next position
-pub record IsPrinted (z : Size) (s : State) (byte : ℕ) (t : State) : Type 0 where
+pub record ChangesOneCell (z : Size) (s : State) (byte : ℕ) (t : State) : Type 0 where
   pub printed : cell_at z t.screen s.cursor ≡ Some (cell byte s.attribute)
   pub kept : (p : Position) → IsOnScreen z p → p ≢ s.cursor → cell_at z t.screen p ≡ cell_at z s.screen p
   pub cursor : NextPosition z s t.cursor
@@ -91,7 +91,7 @@ pub record IsPrinted (z : Size) (s : State) (byte : ℕ) (t : State) : Type 0 wh
 -- A Glyph that does not scroll the screen changes one cell, and takes the cursor to the next position.
 abbrev pub GlyphPrints : Type 0
 GlyphPrints = (z : Size) (s : State) (byte : ℕ) → IsWellFormed z s → ¬ PrintScrolls z s
-    → IsPrinted z s byte (step z s (Glyph byte))
+    → ChangesOneCell z s byte (step z s (Glyph byte))
 
 -- One cell has changed, then each row has moved up and the last is blank, and the cursor stands at its beginning.
 pub record IsPrintedAndScrolled (z : Size) (s : State) (byte : ℕ) (t : State) : Type 0 where

@@ -14,7 +14,8 @@ use Rattle.ans_model.specs.Text.Characters.{glyph_text}
 use Rattle.ans_show.specs.Looks.{Look, look_of}
 use Rattle.ans_show.specs.Runs.{Run}
 use Rattle.ans_picture_laws.specs.Seen.{Seen, SeenCell, SeenEnd, plain, seen_picture}
-use Rattle.ans_show.specs.TerminalText.{parameter, foreground_text, background_text, colours_text, run_text, line_end}
+use Rattle.ans_show.specs.TerminalText.{parameter, foreground_text, background_text, colours_text, run_text}
+use Rattle.ans_show.specs.TerminalText.{terminal_line_end}
 use Rattle.ans_show.specs.TerminalText.{terminal_text}
 use Rattle.ans_picture_laws.specs.TerminalReader.{terminal, outside, numbers, after_parameters, read_terminal}
 use Rattle.ans_show.proofs.EachByte.{all_below, holds_at}
@@ -117,13 +118,13 @@ run_reads vga non_blink r h = record {
       (λ rest. characters_read (look_of non_blink r.attribute) r.bytes rest h.bytes));
 }
 
-end_reads : ReadsOn read_terminal outside line_end (SeenEnd ∷ [])
-end_reads = record { after = λ l. plain; on = λ l. reads_ascii line_end refl (λ rest. refl) }
+end_reads : ReadsOn read_terminal outside terminal_line_end (SeenEnd ∷ [])
+end_reads = record { after = λ l. plain; on = λ l. reads_ascii terminal_line_end refl (λ rest. refl) }
 
 -- each cell of the picture is seen in its place, as its attribute says
 pub terminal_text_read : (vga non_blink : Bool) (before : Look) (picture : Picture) → All IsByteCell picture.cells
     → read_terminal (outside before) (chars (terminal_text vga non_blink picture)) ≡ seen_picture non_blink picture
 terminal_text_read vga non_blink before picture all =
-    let h = picture_reads read_terminal outside non_blink (run_text vga non_blink) line_end (run_reads vga non_blink)
-    end_reads picture all in
+    let h = picture_reads read_terminal outside non_blink (run_text vga non_blink) terminal_line_end
+    (run_reads vga non_blink) end_reads picture all in
     reads_whole (h.on before) refl

@@ -23,7 +23,7 @@ use Rattle.ans_play.specs.HalfStep.{known_after_all}
 use Rattle.ans_play.specs.HalfFault.{half_fault}
 use Rattle.ans_play.specs.PlayView.{PlayView}
 use Rattle.ans_play.specs.Plays.{after_token, PlaysLetter}
-use Rattle.ans_play.specs.Brushes.{with_brush, IsBrush, BrushPlays, colour_numbers, few_numbers, IsRead, IsReading}
+use Rattle.ans_play.specs.Brushes.{with_brush, IsBrush, BrushPlays, colour_numbers, few_numbers, IsReadFront, IsReading}
 use Rattle.ans_play.proofs.Letters.{first_goes_over, letter_goes_over}
 use Rattle.ans_play.proofs.WholeTokens.{plays_no_tokens}
 
@@ -121,7 +121,7 @@ module _ (bytes : List ℕ) (a : KnownBits) (semicolons at previous value digits
   found = read_of (get_or bytes (at + digits) 0) (at + digits + 1) semicolons previous value coloured
 
   -- the letter stands behind `[`
-  ends_at_once : digits ≡ 0 → h.numbers ≡ [] → IsRead bytes a found
+  ends_at_once : digits ≡ 0 → h.numbers ≡ [] → IsReadFront bytes a found
   ends_at_once d n =
       let ended = number_from Unmarked h.numbers bytes value digits at within (h.kept room) read in
       let none : semicolons ≡ 0 = sym h.count ∙ ap length n in
@@ -138,7 +138,7 @@ module _ (bytes : List ℕ) (a : KnownBits) (semicolons at previous value digits
       }
 
   -- the letter stands behind a member
-  ends_later : (0 < digits) ⊎ (h.numbers ≢ []) → IsRead bytes a found
+  ends_later : (0 < digits) ⊎ (h.numbers ≢ []) → IsReadFront bytes a found
   ends_later s =
       let ended = number_from Unmarked h.numbers bytes value digits at within (h.kept room) read in
       let later : at + digits + 1 ≢ 3 = λ e. elim s [
@@ -165,7 +165,7 @@ module _ (bytes : List ℕ) (a : KnownBits) (semicolons at previous value digits
         | inr one ↦ rw (one.0, h.previous_is (omega (arith, few, one.1))) refl
       ]
 
-  ends_by : (numbers : List ℕ) → h.numbers ≡ numbers → IsRead bytes a found
+  ends_by : (numbers : List ℕ) → h.numbers ≡ numbers → IsReadFront bytes a found
   ends_by [] e = elim (cases_lt 0 digits) [
     | inl l ↦ ends_later (inl l)
     | inr z ↦ ends_at_once (omega arith) e
@@ -173,14 +173,14 @@ module _ (bytes : List ℕ) (a : KnownBits) (semicolons at previous value digits
   ends_by (n ∷ numbers) e = ends_later (inr (λ z. cc))
 
   -- the letter ends the sequence
-  pub reading_ends : IsRead bytes a found
+  pub reading_ends : IsReadFront bytes a found
   reading_ends = ends_by h.numbers refl
 
 -- ---- and its letter
 -- colours in front
 pub colours_in_front : (p : PlayView) (b : Brush) (bytes : List ℕ) (read : ReadSequence) (attribute : KnownBits)
     → IsBrush p.size b → read.letter ≡ 0x6D → IsByte attribute.value → attribute ≡ known_after read.coloured read.last
-    → IsRead bytes b.attribute read
+    → IsReadFront bytes b.attribute read
     → BrushPlays p b bytes read.end p (record { position = b.position; attribute = attribute })
 colours_in_front p b bytes read attribute on letter byte is h =
     let after : Brush = record { position = b.position; attribute = attribute } in
@@ -196,7 +196,7 @@ colours_in_front p b bytes read attribute on letter byte is h =
 
 -- another letter in front
 pub letter_in_front : (p new : PlayView) (b after : Brush) (bytes : List ℕ) (read : ReadSequence)
-    → IsRead bytes b.attribute read → read.semicolons ≤ 1 → IsBrush new.size after
+    → IsReadFront bytes b.attribute read → read.semicolons ≤ 1 → IsBrush new.size after
     → is_ascii_alphabetic read.letter ≡ true
     → PlaysLetter (with_brush p b) (with_brush new after) read.letter (few_numbers read)
     → BrushPlays p b bytes read.end new after

@@ -51,7 +51,7 @@ few_numbers read =
 
 -- There are numbers which the first bytes spell with the letter. The reader keeps the last two of them, how many
 -- semicolons stand between them, and the attribute after all but the last as colours.
-pub record IsRead (bytes : List ℕ) (attribute : KnownBits) (read : ReadSequence) : Type 0 where
+pub record IsReadFront (bytes : List ℕ) (attribute : KnownBits) (read : ReadSequence) : Type 0 where
   pub numbers : List ℕ
   pub some : 3 ≤ read.end
   pub front : is_ascii_alphabetic read.letter ≡ true

@@ -19,7 +19,7 @@ use std::io::Write;
 
 /// How the cells of a picture are shown: each by its character, or by four digits.
 #[derive(Clone, Copy)]
-pub(crate) enum Shown {
+pub(crate) enum CellsForm {
     Characters,
     Digits,
 }
@@ -56,7 +56,7 @@ fn put_row<W: Write, G: Screen>(
     out: &mut Outbox<'_, W>,
     picture: &Picture<G>,
     row: usize,
-    shown: Shown,
+    shown: CellsForm,
     tables: &Tables,
     text: &mut [u8],
 )
@@ -69,14 +69,14 @@ fn put_row<W: Write, G: Screen>(
     let bytes = &mut bytes[..picture.width()];
     picture.copy_glyphs(row, bytes);
     let end = match shown {
-        Shown::Characters => tables.write_characters(bytes, text),
-        Shown::Digits => write_digits(picture, row, bytes, tables, text),
+        CellsForm::Characters => tables.write_characters(bytes, text),
+        CellsForm::Digits => write_digits(picture, row, bytes, tables, text),
     };
     out.put(&text[..end]);
     out.put(b"\n");
 }
 
-fn put_rows<W: Write, G: Screen>(out: &mut Outbox<'_, W>, picture: &Picture<G>, shown: Shown)
+fn put_rows<W: Write, G: Screen>(out: &mut Outbox<'_, W>, picture: &Picture<G>, shown: CellsForm)
     ensures text { Puts W.contents out.old out.new
         (flat_map (line_text shown) (rows_of picture.now)) }
     ensures whole { IsPictureOf picture.now.size picture.now }
@@ -98,7 +98,7 @@ fn put_cells<W: Write, G: Screen>(out: &mut Outbox<'_, W>, picture: &Picture<G>,
         return;
     }
     out.put(b"cells:\n");
-    put_rows(out, picture, Shown::Digits);
+    put_rows(out, picture, CellsForm::Digits);
 }
 
 pub(crate) fn put_pass<W: Write, G: Screen>(
@@ -114,6 +114,6 @@ pub(crate) fn put_pass<W: Write, G: Screen>(
 {
     put_heading(out, parts, Some(start));
     out.put(b"verdict: pass\npicture:\n");
-    put_rows(out, picture, Shown::Characters);
+    put_rows(out, picture, CellsForm::Characters);
     put_cells(out, picture, cells);
 }

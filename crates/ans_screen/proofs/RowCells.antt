@@ -7,7 +7,7 @@ use Rattle.std.proofs.lemmas.Bool.Decides.{eqb_tells}
 use Rattle.ans_screen.specs.RowCells.{Planes, CellState, Stale, state_of, state_in, states_of, byte_cell}
 use Rattle.ans_screen.specs.RowCells.{cell_in_grid, cells_of_grid, never_written, SameBytes, SameRows}
 use Rattle.ans_screen.specs.declared.cell.HalfCell.{HalfCell}
-use Rattle.ans_screen.specs.declared.row_planes.Row.{Row}
+use Rattle.ans_screen.specs.declared.row_planes.RowState.{RowState}
 use Rattle.ans_screen.proofs.Places.{same_from_index}
 
 pub get_cell : (g : Planes) (i : ℕ) (d : HalfCell) → i < g.width * g.rows
@@ -31,15 +31,15 @@ cell_written {n = n} same s i d lt e =
     ∙ cell_in_state n s i (rw (same.width, same.round, same.held) e)
 
 -- ---- the state of a cell
-pub in_held : (round : ℕ) (row : Row) (i : ℕ) → row.round ≡ round → row.first ≤ i → i < row.end
+pub in_held : (round : ℕ) (row : RowState) (i : ℕ) → row.round ≡ round → row.first ≤ i → i < row.end
     → state_in round row i ≡ state_of row.known
 in_held round row i now le lt =
     rw (eq-eqb row.round round now, le-ltb i row.first le, lt-ltb i row.end lt) refl
 
-pub off_round : (round : ℕ) (row : Row) (i : ℕ) → row.round ≢ round → state_in round row i ≡ Stale
+pub off_round : (round : ℕ) (row : RowState) (i : ℕ) → row.round ≢ round → state_in round row i ≡ Stale
 off_round round row i other = rw (ne_eqb row.round round other) refl
 
-pub off_held : (round : ℕ) (row : Row) (i : ℕ) → (i < row.first) ⊎ (row.end ≤ i) → state_in round row i ≡ Stale
+pub off_held : (round : ℕ) (row : RowState) (i : ℕ) → (i < row.first) ⊎ (row.end ≤ i) → state_in round row i ≡ Stale
 off_held round row i out = elim (eqb_tells row.round round) [
   | inr other ↦ off_round round row i other.1
   | inl now ↦ elim (cases_lt i row.first) [
@@ -52,11 +52,11 @@ off_held round row i out = elim (eqb_tells row.round round) [
 ]
 
 -- a cell of a row, by what is read of the row
-pub state_here : (g : Planes) (row i : ℕ) (r : Row) → i / g.width ≡ row → r ≡ get_or g.held row never_written
+pub state_here : (g : Planes) (row i : ℕ) (r : RowState) → i / g.width ≡ row → r ≡ get_or g.held row never_written
     → states_of g i ≡ state_in g.round r i
 state_here g row i r at read =
     ap (λ (n : ℕ). state_in g.round (get_or g.held n never_written) i) at
-    ∙ ap (λ (h : Row). state_in g.round h i) (sym read)
+    ∙ ap (λ (h : RowState). state_in g.round h i) (sym read)
 
 -- ---- two grids of one size of which each cell is the same
 pub same_cells : (g n : Planes) → n.width ≡ g.width → n.rows ≡ g.rows

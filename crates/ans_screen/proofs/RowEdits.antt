@@ -10,7 +10,7 @@ use Rattle.ans_screen.specs.RowCells.{Planes, Stale, byte_cell, state_of, state_
 use Rattle.ans_screen.specs.RowCells.{length_grid, never_written, AreMarked, SameRows, SameBytes, HasBlanks}
 use Rattle.ans_model.specs.Screen.Step.{filled}
 use Rattle.ans_screen.specs.declared.cell.HalfCell.{HalfCell}
-use Rattle.ans_screen.specs.declared.row_planes.Row.{Row}
+use Rattle.ans_screen.specs.declared.row_planes.RowState.{RowState}
 use Rattle.ans_screen.proofs.Places.{keeps_all, keeps_written, keeps_filled, filled_within, filled_run, written_at}
 use Rattle.ans_screen.proofs.Places.{map-replicate, get_or-map_within, Keeps, is_written}
 use Rattle.ans_screen.proofs.RowCells.{get_cell, cell_written, same_byte_cell, off_round}
@@ -102,11 +102,12 @@ module _ {g n : Planes} {from to : ℕ} {known : Bool} (k b v : ℕ) (same : Sam
   }
 
 -- ---- no row holds a cell, where each was last written before this round
-pub all_stale : (round : ℕ) (held : List Row) (row i : ℕ) → 0 < round → All (λ (r : Row). r.round < round) held
+pub all_stale : (round : ℕ) (held : List RowState) (row i : ℕ) → 0 < round
+    → All (λ (r : RowState). r.round < round) held
     → state_in round (get_or held row never_written) i ≡ Stale
 all_stale round held row i some older =
     let before : (get_or held row never_written).round < round = elim (cases_lt row (length held)) [
-      | inl within ↦ All-get_or (λ (r : Row). r.round < round) held row never_written within older
+      | inl within ↦ All-get_or (λ (r : RowState). r.round < round) held row never_written within older
       | inr past ↦ rw (get_or_past held row never_written past) some
     ] in
     off_round round (get_or held row never_written) i (λ e. omega arith)

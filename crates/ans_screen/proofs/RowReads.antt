@@ -20,7 +20,7 @@ use Rattle.ans_screen.specs.RowCells.{shown_plane, known_plane, AreKnownCells, I
 use Rattle.ans_screen.specs.declared.cell.CellByte.{CellByte}
 use Rattle.ans_screen.specs.declared.cell.CellByte.TheVariants.{Glyph, Attribute}
 use Rattle.ans_screen.specs.declared.cell.HalfCell.{HalfCell}
-use Rattle.ans_screen.specs.declared.row_planes.Row.{Row}
+use Rattle.ans_screen.specs.declared.row_planes.RowState.{RowState}
 use Rattle.ans_screen.proofs.Copies.{no_cell, row_copied}
 use Rattle.ans_screen.proofs.FirstGap.{unknown_cell, known_next, position_none, position_some}
 use Rattle.ans_screen.proofs.Places.{length-written, row_end, written_before, written_at, written_behind}
@@ -154,7 +154,7 @@ put_is_written a k xs ys e =
     ap (λ (zs : List ℕ). take a xs ++ (ys ++ zs)) (drop-drop k a xs ∙ ap (λ (n : ℕ). drop (a + n) xs) e)
 
 -- what is copied of a row is what its cells have there
-module _ (g : Planes) (byte : HalfCell → ℕ) (row : ℕ) (held : Row) (holds : IsHeldRow g row held)
+module _ (g : Planes) (byte : HalfCell → ℕ) (row : ℕ) (held : RowState) (holds : IsHeldRow g row held)
     (lt : row < g.rows) (old copied inner : List ℕ) (blank from : ℕ) (is : blank ≡ byte g.blank)
     (at_start : from ≡ row * g.width) (long : length old ≡ g.width) (filled : copied ≡ replicate (length old) blank)
     (len : length inner ≡ held.end - held.first)

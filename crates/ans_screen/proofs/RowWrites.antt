@@ -5,11 +5,11 @@ use Rattle.ans_model.specs.Screen.Step.{filled}
 use Rattle.ans_screen.specs.HalfCells.{is_known}
 use Rattle.ans_screen.specs.CellPlanes.{cell_of}
 use Rattle.ans_screen.specs.RowCells.{Planes, IsMarked, SameShown}
-use Rattle.ans_screen.specs.declared.row_planes.Row.{Row}
+use Rattle.ans_screen.specs.declared.row_planes.RowState.{RowState}
 use Rattle.ans_screen.proofs.Places.{keeps_filled, filled_within}
 
 -- four planes say of the cells that are held what two did
-pub marked_known : (g n : Planes) (held : Row) → held.known ≡ true → held.first ≤ held.end
+pub marked_known : (g n : Planes) (held : RowState) → held.known ≡ true → held.first ≤ held.end
     → held.end ≤ g.width * g.rows → SameShown g n
     → n.glyphs_known ≡ filled g.glyphs_known held.first held.end 0xFF
     → n.bits_known ≡ filled g.bits_known held.first held.end 0xFF → IsMarked held false g n

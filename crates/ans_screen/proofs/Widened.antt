@@ -7,7 +7,7 @@ use Rattle.std.proofs.lemmas.List.{get_or-set_same, get_or-set_other}
 use Rattle.ans_screen.specs.RowCells.{Planes, Stale, state_of, state_in, states_of, byte_cell, cell_in_grid}
 use Rattle.ans_screen.specs.RowCells.{never_written, held_row, holds_none, HasRow, SameBytes, SameRows, ShowsSame}
 use Rattle.ans_screen.specs.RowCells.{HasBlanks, IsMarked, IsHeldRow}
-use Rattle.ans_screen.specs.declared.row_planes.Row.{Row}
+use Rattle.ans_screen.specs.declared.row_planes.RowState.{RowState}
 use Rattle.ans_screen.proofs.Places.{row_of, places_of}
 use Rattle.ans_screen.proofs.RowCells.{same_byte_cell, cell_in_state, state_here, in_held, off_held, same_cells}
 
@@ -30,7 +30,7 @@ two_steps g mid new i a b = record {
 }
 
 -- What is held of a row is marked, the blank is written before and behind it, and the row is said to hold all of that.
-pub record IsWidened (g a b c n : Planes) (row from to : ℕ) (held wide : Row) : Type 0 where
+pub record IsWidened (g a b c n : Planes) (row from to : ℕ) (held wide : RowState) : Type 0 where
   pub row_there : row < length g.held
   pub holds : IsHeldRow g row held
   pub start : row * g.width ≤ from
@@ -46,7 +46,8 @@ pub record IsWidened (g a b c n : Planes) (row from to : ℕ) (held wide : Row) 
   pub first : wide.first ≡ min held.first from
   pub end : wide.end ≡ max held.end to
 
-module _ {g a b c n : Planes} {row from to : ℕ} {held wide : Row} (h : IsWidened g a b c n row from to held wide) where
+module _ {g a b c n : Planes} {row from to : ℕ} {held wide : RowState}
+    (h : IsWidened g a b c n row from to held wide) where
   -- bytes alone are written before the row is
   frame : SameRows g c
   frame = same_both (same_both h.marked h.fronted) h.backed
@@ -132,7 +133,8 @@ module _ {g a b c n : Planes} {row from to : ℕ} {held wide : Row} (h : IsWiden
   same_elsewhere i other out =
       let state : states_of n i ≡ states_of g i =
       rw (h.has.width, h.has.round, h.has.held, frame.width, frame.round, frame.held)
-      (ap (λ (r : Row). state_in g.round r i) (get_or-set_other g.held row (i / g.width) wide never_written other)) in
+      (ap (λ (r : RowState). state_in g.round r i)
+      (get_or-set_other g.held row (i / g.width) wide never_written other)) in
       cell_in_state n (states_of g i) i state ∙ same_byte_cell (states_of g i) g n i blank (stays i out)
 
   -- each cell is as it was
@@ -166,7 +168,7 @@ module _ {g a b c n : Planes} {row from to : ℕ} {held wide : Row} (h : IsWiden
   widened_inside i le lt = held_then i (omega arith) (omega arith)
 
 -- a row that holds no cell does so wherever that is said to begin
-pub none_held : (g : Planes) (row place : ℕ) (held : Row) → IsHeldRow g row held → held.first ≡ held.end
+pub none_held : (g : Planes) (row place : ℕ) (held : RowState) → IsHeldRow g row held → held.first ≡ held.end
     → row * g.width ≤ place → place ≤ row * g.width + g.width → IsHeldRow g row (holds_none g.round place)
 none_held g row place held h none start stop =
     let stale : (i : ℕ) → row * g.width ≤ i → i < row * g.width + g.width → states_of g i ≡ Stale =

@@ -7,10 +7,10 @@ use Rattle.std.proofs.Common.{◌∙◌}
 use Rattle.ans_model.specs.Bytes.{most_columns}
 use Rattle.ans_screen.specs.GridEdits.{most_rows}
 use Rattle.ans_screen.specs.declared.lent_row.LentRow.{LentRow}
-use Rattle.ans_screen.specs.declared.row_planes.Row.{Row}
+use Rattle.ans_screen.specs.declared.row_planes.RowState.{RowState}
 
 -- the row that a lent record stands for: it is known where that number is not 0
-abbrev pub row_of : LentRow → Row
+abbrev pub row_of : LentRow → RowState
 row_of r = record { round = r.round; known = not (r.known == 0); first = r.first; end = r.end }
 
 -- a record of a row that was never written
@@ -21,8 +21,8 @@ pub rows_whole : (held : List LentRow) (rows : ℕ) → length held ≡ rows →
 rows_whole held rows e = length-map held row_of ∙ e
 
 pub rows_of_rounds : (held : List LentRow) (round : ℕ) → All (λ (row : LentRow). row.round ≤ round) held
-    → All (λ (row : Row). row.round ≤ round) (map row_of held)
-rows_of_rounds held round older = All-map (λ (row : Row). row.round ≤ round) row_of held older
+    → All (λ (row : RowState). row.round ≤ round) (map row_of held)
+rows_of_rounds held round older = All-map (λ (row : RowState). row.round ≤ round) row_of held older
 
 -- what is lent has room for a grid of this size
 pub record HasRoom (width rows records bytes : ℕ) : Type 0 where

@@ -9,7 +9,7 @@ use Rattle.ans_screen.specs.CellPlanes.{cell_of}
 use Rattle.ans_screen.specs.declared.cell.HalfCell.{HalfCell}
 use Rattle.ans_screen.specs.declared.cell.CellByte.{CellByte}
 use Rattle.ans_screen.specs.declared.cell.CellByte.TheVariants.{Glyph, Attribute}
-use Rattle.ans_screen.specs.declared.row_planes.Row.{Row}
+use Rattle.ans_screen.specs.declared.row_planes.RowState.{RowState}
 
 -- how a cell stands in the planes: not at all, in the two of glyphs and of values, or in all four
 pub data CellState : Type 0 where
@@ -30,19 +30,19 @@ state_of true = Known
 state_of false = Mixed
 
 -- a row that was never written
-abbrev pub never_written : Row
+abbrev pub never_written : RowState
 never_written = record { round = 0; known = true; first = 0; end = 0 }
 
 -- what a row holds in a round
-abbrev pub held_row : ℕ → Bool → ℕ → ℕ → Row
+abbrev pub held_row : ℕ → Bool → ℕ → ℕ → RowState
 held_row round known first end = record { round = round; known = known; first = first; end = end }
 
 -- a row that holds no cell in a round: what it holds begins and ends at a place
-abbrev pub holds_none : ℕ → ℕ → Row
+abbrev pub holds_none : ℕ → ℕ → RowState
 holds_none round place = record { round = round; known = true; first = place; end = place }
 
 -- the state of cell i in a round, where this is its row
-abbrev pub state_in : ℕ → Row → ℕ → CellState
+abbrev pub state_in : ℕ → RowState → ℕ → CellState
 state_in round row i =
     if row.round == round then
     (if nat_lt i row.first then Stale else if nat_lt i row.end then state_of row.known else Stale)
@@ -55,7 +55,7 @@ pub record Planes : Type 0 where
   pub rows : ℕ
   pub blank : HalfCell
   pub round : ℕ
-  pub held : List Row
+  pub held : List RowState
   pub glyphs : List ℕ
   pub glyphs_known : List ℕ
   pub bits_known : List ℕ
@@ -63,7 +63,7 @@ pub record Planes : Type 0 where
   pub some_width : 1 ≤ width
   pub indexed : width * rows < 2 ^ 64
   pub whole_held : length held ≡ rows
-  pub no_later_round : All (λ (row : Row). row.round ≤ round) held
+  pub no_later_round : All (λ (row : RowState). row.round ≤ round) held
   pub whole_glyphs : length glyphs ≡ width * rows
   pub whole_glyphs_known : length glyphs_known ≡ width * rows
   pub whole_bits_known : length bits_known ≡ width * rows
@@ -139,7 +139,7 @@ pub record AreFilled (old new : Planes) (known : Bool) (from to glyph glyph_know
   pub same : SameRows old new
 
 -- only what one row holds differs
-pub record HasRow (old new : Planes) (i : ℕ) (row : Row) : Type 0 where
+pub record HasRow (old new : Planes) (i : ℕ) (row : RowState) : Type 0 where
   pub held : new.held ≡ set old.held i row
   pub round : new.round ≡ old.round
   pub blank : new.blank ≡ old.blank
@@ -157,7 +157,7 @@ pub record BeginsRound (old new : Planes) (r : ℕ) (cell : HalfCell) : Type 0 w
   pub rows : new.rows ≡ old.rows
 
 -- this is what a row of the grid holds
-pub record IsHeldRow (g : Planes) (row : ℕ) (held : Row) : Type 0 where
+pub record IsHeldRow (g : Planes) (row : ℕ) (held : RowState) : Type 0 where
   pub round : held.round ≡ g.round
   pub start : row * g.width ≤ held.first
   pub ordered : held.first ≤ held.end
@@ -194,7 +194,7 @@ pub record HasBlanks (state : CellState) (old new : Planes) (from to : ℕ) : Ty
   pub outside : (i : ℕ) → (i < from) ⊎ (to ≤ i) → SameBytes old new i
 
 -- the bytes of the cells that are held stand for the same cells now, by two planes or by four
-pub record IsMarked (held : Row) (known : Bool) (old new : Planes) : Type 0 where
+pub record IsMarked (held : RowState) (known : Bool) (old new : Planes) : Type 0 where
   pub inside : (i : ℕ) → held.first ≤ i → i < held.end
       → byte_cell (state_of known) new i ≡ byte_cell (state_of held.known) old i
   pub outside : (i : ℕ) → (i < held.first) ⊎ (held.end ≤ i) → SameBytes old new i

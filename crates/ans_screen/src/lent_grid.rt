@@ -9,7 +9,7 @@ use crate::attr::Attr;
 use crate::cell::{CellByte, HalfCell};
 use crate::lent_row::LentRow;
 use crate::planes::{fill_bytes, write_bytes};
-use crate::row_planes::{Frame, Row, RowPlanes, cells, copies};
+use crate::row_planes::{Frame, RowPlanes, RowState, cells, copies};
 use crate::screen::Screen;
 use ans_model::limits::{MAX_LINES, MAX_WIDTH};
 
@@ -124,13 +124,13 @@ impl<'a> RowPlanes for LentGrid<'a> {
     }
 
     #[inline(always)]
-    fn row(&self, row: usize) -> Row {
+    fn row(&self, row: usize) -> RowState {
         self.held[row].row()
     }
 
     #[inline(always)]
     fn hold(&mut self, row: usize, known: bool, first: usize, end: usize) {
-        self.held[row] = LentRow::of(Row {
+        self.held[row] = LentRow::of(RowState {
             round: self.round,
             known,
             first,

@@ -3,7 +3,7 @@
 ghost use Rattle.std.specs.Prelude.{◌≡◌};
 ghost use Rattle.ans_screen.specs.LentRows.{row_of, never_lent};
 
-use crate::row_planes::Row;
+use crate::row_planes::RowState;
 
 /// The record of a row in memory that is lent to a grid. Its fields are the grid's own, which sets
 /// them whatever they held. In C it is a `uint32_t`, a `uint32_t`, a `size_t` and a `size_t`.
@@ -30,7 +30,7 @@ impl LentRow {
     }
 
     #[inline(always)]
-    pub(crate) fn of(row: Row) -> LentRow
+    pub(crate) fn of(row: RowState) -> LentRow
         ensures row { row_of result ≡ row }
         ensures round { result.round ≡ row.round }
     {
@@ -43,10 +43,10 @@ impl LentRow {
     }
 
     #[inline(always)]
-    pub(crate) fn row(self) -> Row
+    pub(crate) fn row(self) -> RowState
         ensures { result ≡ row_of self }
     {
-        Row {
+        RowState {
             round: self.round,
             known: self.known != 0,
             first: self.first,

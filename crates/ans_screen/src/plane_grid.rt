@@ -11,7 +11,7 @@ use crate::attr::Attr;
 use crate::cell::{CellByte, HalfCell};
 use crate::grid::Grid;
 use crate::plane_pair::PlanePair;
-use crate::row_planes::{Frame, NEVER, Row, RowPlanes, cells, copies};
+use crate::row_planes::{Frame, NEVER, RowPlanes, RowState, cells, copies};
 use std::alloc::{AllocError, Global};
 
 /// Cell `i` is byte `i` of each of four planes where its row holds it, and else the blank. A fill of
@@ -22,7 +22,7 @@ use std::alloc::{AllocError, Global};
 pub struct PlaneGrid {
     frame: Frame,
     round: u32,
-    held: Vec<Row>,
+    held: Vec<RowState>,
     shown: PlanePair,
     // FFh where the glyph is known, else 00h, and the bits of the attribute that are known
     known: PlanePair,
@@ -93,13 +93,13 @@ impl RowPlanes for PlaneGrid {
     }
 
     #[inline(always)]
-    fn row(&self, row: usize) -> Row {
+    fn row(&self, row: usize) -> RowState {
         self.held[row]
     }
 
     #[inline(always)]
     fn hold(&mut self, row: usize, known: bool, first: usize, end: usize) {
-        self.held[row] = Row {
+        self.held[row] = RowState {
             round: self.round,
             known,
             first,

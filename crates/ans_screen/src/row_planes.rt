@@ -16,7 +16,7 @@ use crate::cell::{CellByte, HalfCell};
 
 /// A row as it was last written.
 #[derive(Clone, Copy)]
-pub(crate) struct Row {
+pub(crate) struct RowState {
     /// The round of that write. In a later round the row holds no cell.
     pub(crate) round: u32,
     /// Whether all cells that are held are known: then only the planes of glyphs and of values count.
@@ -28,7 +28,7 @@ pub(crate) struct Row {
 }
 
 /// A row that was never written.
-pub(crate) const NEVER: Row = Row {
+pub(crate) const NEVER: RowState = RowState {
     round: 0,
     known: true,
     first: 0,
@@ -59,7 +59,7 @@ pub(crate) trait RowPlanes {
         ensures { result ≡ (planes_of self.now).round };
 
     /// The row as it was last written.
-    fn row(&self, row: usize) -> Row
+    fn row(&self, row: usize) -> RowState
         requires { row < (planes_of self.now).rows }
         ensures { result ≡ slice_index_or (planes_of self.now).held row never_written };
 

@@ -10,9 +10,9 @@ use Rattle.std.proofs.lemmas.List.Elements.{All-head}
 use Rattle.ans_model.specs.declared.cell.Cell.{Cell}
 use Rattle.ans_model.specs.Screen.State.{cell, IsByteCell}
 use Rattle.ans_write.proofs.RowTexts.{shown_bytes_is}
-use Rattle.ans_show.specs.declared.form.Form.{Form}
-use Rattle.ans_show.specs.declared.form.Form.TheVariants.{Terminal, Page}
-use Rattle.ans_show.specs.FormTables.{cells_in}
+use Rattle.ans_show.specs.declared.form.Markup.{Markup}
+use Rattle.ans_show.specs.declared.form.Markup.TheVariants.{Terminal, Page}
+use Rattle.ans_show.specs.FormTables.{cells_shown}
 use Rattle.ans_show.specs.Forms.{break_in, character_in, end_in, line_in, run_end_in, run_in, start_in}
 use Rattle.ans_show.specs.Looks.{look_of}
 use Rattle.ans_show.specs.Runs.{Run, run, joined, runs}
@@ -20,11 +20,11 @@ use Rattle.ans_show.specs.TerminalText.{colours_text}
 use Rattle.ans_show.proofs.RunLemmas.{joined_begins}
 
 -- the characters of bytes in a form
-abbrev characters : Form → List ℕ → List ℕ
+abbrev characters : Markup → List ℕ → List ℕ
 characters form bytes = flat_map (character_in form) bytes
 
 -- a run is its beginning, its characters and its end
-run_is : (form : Form) (r : Run)
+run_is : (form : Markup) (r : Run)
     → run_in form r ≡ start_in form r.attribute ++ (characters form r.bytes ++ run_end_in form)
 run_is (Terminal vga non_blink) r =
     ap (λ (v : List ℕ). colours_text vga (look_of non_blink r.attribute) ++ v)
@@ -32,14 +32,14 @@ run_is (Terminal vga non_blink) r =
 run_is (Page non_blink) r = refl
 
 -- what stands behind an attribute's run, or before the first one: runs as they are put
-abbrev behind : Form → ℕ → List Run → List ℕ
+abbrev behind : Markup → ℕ → List Run → List ℕ
 behind form last [] = run_end_in form
 behind form last (r ∷ more) =
     (if last == r.attribute then [] else break_in form r.attribute)
     ++ (characters form r.bytes ++ (run_end_in form ++ flat_map (run_in form) more))
 
 -- where another run begins, the one before has ended
-broken : (form : Form) (r : Run) (more : List Run)
+broken : (form : Markup) (r : Run) (more : List Run)
     → break_in form r.attribute ++ (characters form r.bytes ++ (run_end_in form ++ flat_map (run_in form) more))
     ≡ run_end_in form ++ flat_map (run_in form) (r ∷ more)
 broken form r more =
@@ -54,7 +54,7 @@ broken form r more =
     ∙ ap (λ (v : List ℕ). v ++ later) (sym (run_is form r)))
 
 -- a cell and what stands behind it
-joined_behind : (form : Form) (front : List ℕ) (c : Cell) (rs : List Run) (last : ℕ)
+joined_behind : (form : Markup) (front : List ℕ) (c : Cell) (rs : List Run) (last : ℕ)
     → front ≡ (if last == c.attribute then [] else break_in form c.attribute)
     → front ++ (character_in form c.byte ++ behind form c.attribute rs) ≡ behind form last (joined c rs)
 joined_behind form front c [] last is =
@@ -77,13 +77,13 @@ joined_behind form front c (r ∷ more) last is =
     ]
 
 -- cells, and then the end of their last run
-cells_are : (form : Form) (last : ℕ) (cells : List Cell)
-    → cells_in form last cells ++ run_end_in form ≡ behind form last (runs cells)
+cells_are : (form : Markup) (last : ℕ) (cells : List Cell)
+    → cells_shown form last cells ++ run_end_in form ≡ behind form last (runs cells)
 cells_are form last [] = refl
 cells_are form last (c ∷ cells) =
     let first = if last == c.attribute then [] else break_in form c.attribute in
     let shown = character_in form c.byte in
-    let later = cells_in form c.attribute cells in
+    let later = cells_shown form c.attribute cells in
     append_assoc first (shown ++ later) (run_end_in form)
     ∙ ap (λ (v : List ℕ). first ++ v)
     (append_assoc shown later (run_end_in form)
@@ -91,8 +91,8 @@ cells_are form last (c ∷ cells) =
     ∙ joined_behind form first c (runs cells) last refl
 
 -- the first run of a row begins as if another stood before it
-row_is : (form : Form) (c : Cell) (cells : List Cell) → c.attribute < 256
-    → cells_in form 256 (c ∷ cells) ++ run_end_in form
+row_is : (form : Markup) (c : Cell) (cells : List Cell) → c.attribute < 256
+    → cells_shown form 256 (c ∷ cells) ++ run_end_in form
     ≡ run_end_in form ++ flat_map (run_in form) (runs (c ∷ cells))
 row_is form c cells lt =
     let begins = joined_begins c (runs cells) in
@@ -105,18 +105,18 @@ row_is form c cells lt =
     ∙ ap (λ (rs : List Run). run_end_in form ++ flat_map (run_in form) rs) (sym begins.are)
 
 -- so it is as long as what ends a run
-row_long : (form : Form) (c : Cell) (cells : List Cell) → c.attribute < 256
-    → length (run_end_in form) ≤ length (cells_in form 256 (c ∷ cells))
+row_long : (form : Markup) (c : Cell) (cells : List Cell) → c.attribute < 256
+    → length (run_end_in form) ≤ length (cells_shown form 256 (c ∷ cells))
 row_long form c cells lt =
     let other : (256 == c.attribute) ≡ false = ne_eqb 256 c.attribute (λ e. omega (arith, lt, e)) in
     let end = run_end_in form in
     let start = start_in form c.attribute in
-    let later = character_in form c.byte ++ cells_in form c.attribute cells in
-    let is : cells_in form 256 (c ∷ cells) ≡ end ++ (start ++ later) = rw other (append_assoc end start later) in
+    let later = character_in form c.byte ++ cells_shown form c.attribute cells in
+    let is : cells_shown form 256 (c ∷ cells) ≡ end ++ (start ++ later) = rw other (append_assoc end start later) in
     rw is (omega (arith, length-append end (start ++ later)))
 
 -- a row without the end of a run in front, and with one behind, is its line
-pub row_line : (form : Form) (row : List Cell) (text : List ℕ) → text ≡ cells_in form 256 row → 0 < length row
+pub row_line : (form : Markup) (row : List Cell) (text : List ℕ) → text ≡ cells_shown form 256 row → 0 < length row
     → All IsByteCell row
     → (length (run_end_in form) ≤ length text)
     × (drop (length (run_end_in form)) text ++ (run_end_in form ++ end_in form) ≡ line_in form row)

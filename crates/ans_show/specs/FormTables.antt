@@ -1,18 +1,18 @@
 -- Texts of a form, in tables, and the cells of a row by them.
 use Rattle.std.specs.Prelude.{◌≡◌, ℕ, ◌<◌, ◌==◌, List, [], ◌∷◌, ◌++◌, slice_index_or, if◌then◌else◌}
 use Rattle.ans_model.specs.declared.cell.Cell.{Cell}
-use Rattle.ans_show.specs.declared.form.Form.{Form}
+use Rattle.ans_show.specs.declared.form.Markup.{Markup}
 use Rattle.ans_show.specs.declared.short_text.ShortText.{ShortText}
 use Rattle.ans_show.specs.Forms.{break_in, character_in}
-use Rattle.ans_show.specs.ShortTexts.{text_of}
+use Rattle.ans_show.specs.ShortTexts.{short_bytes}
 
 -- at each byte stands its text
 abbrev pub IsTableOf : {N : ℕ} → (ℕ → List ℕ) → List (ShortText N) → Type 0
-IsTableOf {N} text table = (b : ℕ) (d : ShortText N) → b < 256 → text_of (slice_index_or table b d) ≡ text b
+IsTableOf {N} text table = (b : ℕ) (d : ShortText N) → b < 256 → short_bytes (slice_index_or table b d) ≡ text b
 
 -- cells behind one of the attribute `last`: where another attribute comes, a run ends and another begins
-abbrev pub cells_in : Form → ℕ → List Cell → List ℕ
-cells_in form last [] = []
-cells_in form last (c ∷ cells) =
+abbrev pub cells_shown : Markup → ℕ → List Cell → List ℕ
+cells_shown form last [] = []
+cells_shown form last (c ∷ cells) =
     (if last == c.attribute then [] else break_in form c.attribute)
-    ++ (character_in form c.byte ++ cells_in form c.attribute cells)
+    ++ (character_in form c.byte ++ cells_shown form c.attribute cells)

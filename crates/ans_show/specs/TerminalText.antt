@@ -82,14 +82,14 @@ abbrev pub run_text : Bool → Bool → Run → List ℕ
 run_text vga non_blink r = colours_text vga (look_of non_blink r.attribute) ++ shown_bytes r.bytes
 
 -- a line's end, behind which nothing is coloured
-abbrev pub line_end : List ℕ
-line_end = escape ∷ codes "[0m\n"
+abbrev pub terminal_line_end : List ℕ
+terminal_line_end = escape ∷ codes "[0m\n"
 
 -- the line of a row
-abbrev pub line_text : Bool → Bool → List Cell → List ℕ
-line_text vga non_blink row = flat_map (run_text vga non_blink) (runs row) ++ line_end
+abbrev pub terminal_line : Bool → Bool → List Cell → List ℕ
+terminal_line vga non_blink row = flat_map (run_text vga non_blink) (runs row) ++ terminal_line_end
 
 -- The text for a terminal: in its own colours or in those of a VGA, with blink or, where the record's non-blink flag is
 -- set, with bright backgrounds.
 abbrev pub terminal_text : Bool → Bool → Picture → List ℕ
-terminal_text vga non_blink picture = flat_map (line_text vga non_blink) (rows_of picture)
+terminal_text vga non_blink picture = flat_map (terminal_line vga non_blink) (rows_of picture)

@@ -4,27 +4,27 @@ ghost use Rattle.ans_show.specs.Forms.{end_in, run_end_in};
 
 /// A form. Where `non_blink` is set, an attribute's bit 7 is a bright background.
 #[derive(Clone, Copy)]
-pub(crate) enum Form {
+pub(crate) enum Markup {
     Terminal { vga: bool, non_blink: bool },
     Page { non_blink: bool },
 }
 
 /// What stands behind each run.
-pub(crate) fn run_end(form: Form) -> &'static [u8]
+pub(crate) fn run_end(form: Markup) -> &'static [u8]
     ensures { result.now ≡ run_end_in form }
 {
     match form {
-        Form::Terminal { .. } => b"",
-        Form::Page { .. } => b"</span>",
+        Markup::Terminal { .. } => b"",
+        Markup::Page { .. } => b"</span>",
     }
 }
 
 /// What stands behind the characters of a line's last run.
-pub(crate) fn line_end(form: Form) -> &'static [u8]
+pub(crate) fn line_end(form: Markup) -> &'static [u8]
     ensures { result.now ≡ run_end_in form ++ end_in form }
 {
     match form {
-        Form::Terminal { .. } => b"\x1b[0m\n",
-        Form::Page { .. } => b"</span>\n",
+        Markup::Terminal { .. } => b"\x1b[0m\n",
+        Markup::Page { .. } => b"</span>\n",
     }
 }

@@ -5,12 +5,12 @@ ghost use Rattle.std.specs.Simd.Lanes.{zip2};
 ghost use Rattle.ans_model.specs.Screen.State.{cell};
 ghost use Rattle.ans_write.specs.Puts.{Puts};
 ghost use Rattle.ans_write.specs.Tables.{byte_text};
-ghost use Rattle.ans_show.specs.FormTables.{IsTableOf, cells_in};
+ghost use Rattle.ans_show.specs.FormTables.{IsTableOf, cells_shown};
 ghost use Rattle.ans_show.specs.Forms.{break_in, character_in};
 ghost use Rattle.ans_show.specs.PageText.{page_character};
-ghost use Rattle.ans_show.specs.ShortTexts.{text_of};
+ghost use Rattle.ans_show.specs.ShortTexts.{short_bytes};
 
-use crate::form::Form;
+use crate::form::Markup;
 use crate::page::span_break;
 use crate::short_text::ShortText;
 use crate::terminal::colours;
@@ -33,7 +33,7 @@ const NO_ATTRIBUTE: usize = 256;
 /// byte.
 #[derive(Drop)]
 pub(crate) struct FormTables {
-    pub(crate) form: Form,
+    pub(crate) form: Markup,
     pub(crate) breaks: [Break; 256],
     pub(crate) characters: [Character; 256],
     ghost broken: { IsTableOf (break_in form) breaks },
@@ -41,7 +41,7 @@ pub(crate) struct FormTables {
 }
 
 impl FormTables {
-    pub(crate) fn new(form: Form) -> FormTables
+    pub(crate) fn new(form: Markup) -> FormTables
         ensures { result.form ≡ form }
     {
         let mut breaks = [run_break(form, 0); 256];
@@ -92,7 +92,7 @@ impl FormTables {
         ensures within { result ≤ length text.new }
         ensures length { length text.new ≡ length text.old }
         ensures text { take result text.new
-            ≡ cells_in self.now.form 256 (zip2 cell bytes.now attributes.now) }
+            ≡ cells_shown self.now.form 256 (zip2 cell bytes.now attributes.now) }
     {
         let mut end = 0;
         let mut last = NO_ATTRIBUTE;
@@ -117,20 +117,20 @@ impl FormTables {
 
 fn spelled(text: &[u8]) -> Character
     requires { length text.now ≤ 8 }
-    ensures { text_of result ≡ text.now }
+    ensures { short_bytes result ≡ text.now }
 {
     Character::empty().then(text)
 }
 
 fn utf8_character(byte: u8) -> Character
-    ensures { text_of result ≡ byte_text byte }
+    ensures { short_bytes result ≡ byte_text byte }
 {
     let mut buffer = [0; 4];
     spelled(glyph_text(byte).encode_utf8(&mut buffer).as_bytes())
 }
 
 fn page_character(byte: u8) -> Character
-    ensures { text_of result ≡ page_character byte }
+    ensures { short_bytes result ≡ page_character byte }
 {
     match byte {
         b'&' => spelled(b"&amp;"),
@@ -142,20 +142,20 @@ fn page_character(byte: u8) -> Character
     }
 }
 
-fn character(form: Form, byte: u8) -> Character
-    ensures { text_of result ≡ character_in form byte }
+fn character(form: Markup, byte: u8) -> Character
+    ensures { short_bytes result ≡ character_in form byte }
 {
     match form {
-        Form::Terminal { .. } => utf8_character(byte),
-        Form::Page { .. } => page_character(byte),
+        Markup::Terminal { .. } => utf8_character(byte),
+        Markup::Page { .. } => page_character(byte),
     }
 }
 
-fn run_break(form: Form, attribute: u8) -> Break
-    ensures { text_of result ≡ break_in form attribute }
+fn run_break(form: Markup, attribute: u8) -> Break
+    ensures { short_bytes result ≡ break_in form attribute }
 {
     match form {
-        Form::Terminal { vga, non_blink } => colours(attribute, non_blink, vga),
-        Form::Page { non_blink } => span_break(attribute, non_blink),
+        Markup::Terminal { vga, non_blink } => colours(attribute, non_blink, vga),
+        Markup::Page { non_blink } => span_break(attribute, non_blink),
     }
 }

@@ -3,10 +3,10 @@ ghost use Rattle.std.specs.Prelude.{◌≡◌, ◌<◌, [], ◌++◌, codes, dec
 ghost use Rattle.ans_write.specs.Puts.{Puts};
 ghost use Rattle.ans_show.specs.Forms.{IsPage};
 ghost use Rattle.ans_show.specs.Looks.{look_of};
-ghost use Rattle.ans_show.specs.ShortTexts.{text_of};
+ghost use Rattle.ans_show.specs.ShortTexts.{short_bytes};
 ghost use Rattle.ans_show.specs.PageText.{span_text, page_title, page_style, page_text};
 
-use crate::form::Form;
+use crate::form::Markup;
 use crate::form_tables::{Break, FormTables};
 use crate::look::{background, blinks, foreground};
 use crate::rows::put_rows;
@@ -63,7 +63,7 @@ fn span_end(blinks: bool) -> &'static [u8]
 
 /// The end of a span, and the tag after which cells look as this attribute says.
 pub(crate) fn span_break(attribute: u8, non_blink: bool) -> Break
-    ensures { text_of result ≡ codes "</span>" ++ span_text (look_of non_blink attribute) }
+    ensures { short_bytes result ≡ codes "</span>" ++ span_text (look_of non_blink attribute) }
 {
     Break::joined(
         b"</span>",
@@ -121,7 +121,7 @@ pub fn put_page<W: Write, G: Screen>(
 )
     ensures { Puts W.contents out.old out.new (page_text non_blink title.now picture.now) }
 {
-    let tables = FormTables::new(Form::Page { non_blink });
+    let tables = FormTables::new(Markup::Page { non_blink });
     out.put(START);
     put_title(out, title, &tables);
     out.put(STYLE);

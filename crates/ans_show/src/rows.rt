@@ -6,7 +6,7 @@ ghost use Rattle.ans_play.specs.Shown.{cells_of_row};
 ghost use Rattle.ans_write.specs.Puts.{Puts};
 ghost use Rattle.ans_show.specs.Forms.{end_in, line_in, run_end_in};
 
-use crate::form::{Form, line_end, run_end};
+use crate::form::{Markup, line_end, run_end};
 use crate::form_tables::{CELL, FormTables};
 use ans_model::limits::MAX_WIDTH;
 use ans_play::Picture;
@@ -18,7 +18,7 @@ use std::io::Write;
 const ROW: usize = CELL * MAX_WIDTH;
 
 /// Puts cells that were written as if a run stood before them, and ends their line.
-fn put_cells<W: Write>(out: &mut Outbox<'_, W>, cells: &[u8], form: Form)
+fn put_cells<W: Write>(out: &mut Outbox<'_, W>, cells: &[u8], form: Markup)
     requires { length (run_end_in form) ≤ length cells.now }
     ensures { Puts W.contents out.old out.new
         (drop (length (run_end_in form)) cells.now ++ (run_end_in form ++ end_in form)) }

@@ -10,11 +10,11 @@ pub(crate) struct ShortText<const N: usize> {
 }
 
 impl<const N: usize> ShortText<N> {
-    ghost use Rattle.ans_show.specs.ShortTexts.{text_of};
+    ghost use Rattle.ans_show.specs.ShortTexts.{short_bytes};
 
     /// No text.
     pub(crate) fn empty() -> ShortText<N>
-        ensures { text_of result ≡ [] }
+        ensures { short_bytes result ≡ [] }
     {
         ShortText {
             bytes: [0; N],
@@ -24,8 +24,8 @@ impl<const N: usize> ShortText<N> {
 
     /// This text and another behind it.
     pub(crate) fn then(self, text: &[u8]) -> ShortText<N>
-        requires { length (text_of self) + length text.now ≤ N }
-        ensures { text_of result ≡ text_of self.entry ++ text.now }
+        requires { length (short_bytes self) + length text.now ≤ N }
+        ensures { short_bytes result ≡ short_bytes self.entry ++ text.now }
     {
         let mut bytes = self.bytes;
         let room = &mut bytes[..];
@@ -37,7 +37,7 @@ impl<const N: usize> ShortText<N> {
     /// Four texts, one behind the other.
     pub(crate) fn joined(first: &[u8], second: &[u8], third: &[u8], fourth: &[u8]) -> ShortText<N>
         requires { length first.now + length second.now + length third.now + length fourth.now ≤ N }
-        ensures { text_of result ≡ first.now ++ (second.now ++ (third.now ++ fourth.now)) }
+        ensures { short_bytes result ≡ first.now ++ (second.now ++ (third.now ++ fourth.now)) }
     {
         ShortText::empty()
             .then(first)
@@ -53,7 +53,7 @@ impl<const N: usize> ShortText<N> {
         requires { end + N ≤ length text.old }
         ensures within { result ≤ end + N }
         ensures length { length text.new ≡ length text.old }
-        ensures text { take result text.new ≡ take end text.old ++ text_of self.now }
+        ensures text { take result text.new ≡ take end text.old ++ short_bytes self.now }
     {
         text[end..end + N].copy_from_slice(&self.bytes);
         end + self.count

@@ -3,10 +3,10 @@ ghost use Rattle.std.specs.Prelude.{◌≡◌, ◌<◌, [], ◌∷◌, ◌++◌,
 ghost use Rattle.ans_model.specs.Bytes.{escape};
 ghost use Rattle.ans_write.specs.Puts.{Puts};
 ghost use Rattle.ans_show.specs.Looks.{look_of};
-ghost use Rattle.ans_show.specs.ShortTexts.{text_of};
+ghost use Rattle.ans_show.specs.ShortTexts.{short_bytes};
 ghost use Rattle.ans_show.specs.TerminalText.{parameter, foreground_text, background_text, colours_text, terminal_text};
 
-use crate::form::Form;
+use crate::form::Markup;
 use crate::form_tables::{Break, FormTables};
 use crate::look::{background, blinks, foreground};
 use crate::rows::put_rows;
@@ -91,7 +91,7 @@ fn start_text(blinks: bool) -> &'static [u8]
 
 /// The sequence after which cells look as this attribute says.
 pub(crate) fn colours(attribute: u8, non_blink: bool, vga: bool) -> Break
-    ensures { text_of result ≡ colours_text vga (look_of non_blink attribute) }
+    ensures { short_bytes result ≡ colours_text vga (look_of non_blink attribute) }
 {
     Break::joined(
         start_text(blinks(attribute, non_blink)),
@@ -115,6 +115,6 @@ pub fn put_terminal<W: Write, G: Screen>(
 )
     ensures { Puts W.contents out.old out.new (terminal_text vga non_blink picture.now) }
 {
-    let tables = FormTables::new(Form::Terminal { vga, non_blink });
+    let tables = FormTables::new(Markup::Terminal { vga, non_blink });
     put_rows(out, picture, &tables);
 }

@@ -5,9 +5,9 @@ use Rattle.ans_table.specs.declared.counts.Counts.{Counts}
 use Rattle.ans_table.specs.declared.counts.Outcome.{Outcome}
 use Rattle.ans_table.specs.declared.counts.Outcome.TheVariants.{Pass, Refused, Unread}
 
-abbrev pub is_pass : Outcome → Bool
-is_pass Pass = true
-is_pass _ = false
+abbrev pub counts_as_pass : Outcome → Bool
+counts_as_pass Pass = true
+counts_as_pass _ = false
 
 abbrev pub is_refused : Outcome → Bool
 is_refused Refused = true
@@ -25,7 +25,7 @@ one_if so = if so then 1 else 0
 abbrev pub counts_of : List Outcome → Counts
 counts_of outcomes = record {
   files = length outcomes;
-  pass = count_by is_pass outcomes;
+  pass = count_by counts_as_pass outcomes;
   refused = count_by is_refused outcomes;
   unread = count_by is_unread outcomes;
 }

@@ -3,8 +3,8 @@
 ghost use Rattle.std.specs.Prelude.{◌≡◌, ◌+◌, ◌<◌, ◌≤◌, ◌++◌, [], ◌∷◌, List};
 ghost use Rattle.ans_write.specs.Puts.{Puts};
 ghost use Rattle.ans_report.specs.Message.{message_line};
-ghost use Rattle.ans_table.specs.Counting.{counts_of, counts_status, counts_text, files_word, is_pass, is_refused};
-ghost use Rattle.ans_table.specs.Counting.{is_unread, one_if};
+ghost use Rattle.ans_table.specs.Counting.{counts_of, counts_status, counts_text, files_word, counts_as_pass};
+ghost use Rattle.ans_table.specs.Counting.{is_refused, is_unread, one_if};
 ghost use Rattle.ans_table.specs.declared.counts.Outcome.{Outcome};
 
 use ans_write::Outbox;
@@ -48,7 +48,7 @@ impl Counts {
         ensures counts { (before : List Outcome) → self.old ≡ counts_of before
             → self.new ≡ counts_of (before ++ outcome ∷ []) }
         ensures files_more { self.new.files ≡ self.old.files + 1 }
-        ensures pass_more { self.new.pass ≡ self.old.pass + one_if (is_pass outcome) }
+        ensures pass_more { self.new.pass ≡ self.old.pass + one_if (counts_as_pass outcome) }
         ensures refused_more { self.new.refused ≡ self.old.refused + one_if (is_refused outcome) }
         ensures unread_more { self.new.unread ≡ self.old.unread + one_if (is_unread outcome) }
     {

@@ -8,7 +8,7 @@ use Rattle.ans_model.specs.declared.start.Start.{Start}
 use Rattle.ans_verdict.specs.FileVerdict.{Deserves}
 use Rattle.ans_verdict.specs.declared.part.Part.{Part}
 use Rattle.ans_verdict.specs.declared.part.Part.TheVariants.{Screen, Cursor, Saved, Colours, Wrap}
-use Rattle.ans_verdict.specs.declared.least_class.Passing.{Passing}
+use Rattle.ans_verdict.specs.declared.least_class.PassingClass.{PassingClass}
 
 -- whether the part is known in the class
 abbrev pub knows : Start → Part → Bool
@@ -36,6 +36,6 @@ EndsFrom z content class None = IsGood z class content
 EndsFrom z content class (Some fault) = Deserves z class content fault
 
 -- the content is good for the one class, and not for the other
-pub record IsPassing (z : Size) (content : List ℕ) (p : Passing) : Type 0 where
+pub record IsPassingClass (z : Size) (content : List ℕ) (p : PassingClass) : Type 0 where
   pub good : IsGood z p.class content
   pub refused : ¬ IsGood z p.refused content

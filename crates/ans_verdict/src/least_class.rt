@@ -8,7 +8,7 @@ ghost use Rattle.ans_sauce.specs.Parts.{content_of, size_of};
 ghost use Rattle.ans_verdict.specs.FileVerdict.{Deserves};
 ghost use Rattle.ans_verdict.specs.FilePlayed.{IsLeastOf};
 ghost use Rattle.ans_verdict.specs.ScreenRoom.{TakesRoom};
-ghost use Rattle.ans_verdict.specs.StartParts.{EndsFrom, all_but, knows, with_part, IsPassing};
+ghost use Rattle.ans_verdict.specs.StartParts.{EndsFrom, all_but, knows, with_part, IsPassingClass};
 
 use crate::part::Part;
 use crate::screens::Screens;
@@ -27,7 +27,7 @@ pub(crate) struct Least {
 
 /// A class from which a content passes, and one from which it does not.
 #[derive(Clone, Copy)]
-pub(crate) struct Passing {
+pub(crate) struct PassingClass {
     pub(crate) class: Start,
     pub(crate) refused: Start,
 }
@@ -89,12 +89,12 @@ fn passing_class<S: Screens>(
     screens: &mut S,
     parts: &Parts<'_>,
     fault_from_any: Fault,
-) -> Result<Passing, AllocError>
+) -> Result<PassingClass, AllocError>
     requires length { length (content_of parts.now) ≤ longest_file }
     requires good { IsGood (size_of parts.now) all_known (content_of parts.now) }
     requires fault { Deserves (size_of parts.now) none_known (content_of parts.now) fault_from_any }
     ensures room { TakesRoom S.has_room S.may_lack (size_of parts.now) screens.old screens.new result }
-    ensures passes { IfOk result (IsPassing (size_of parts.now) (content_of parts.now)) }
+    ensures passes { IfOk result (IsPassingClass (size_of parts.now) (content_of parts.now)) }
 {
     let mut class = Start::ANY;
     let mut fault = fault_from_any;
@@ -109,14 +109,14 @@ fn passing_class<S: Screens>(
                 fault = next;
             }
             None => {
-                return Ok(Passing {
+                return Ok(PassingClass {
                     class: wider,
                     refused: class,
                 });
             }
         }
     }
-    Ok(Passing {
+    Ok(PassingClass {
         class: Start::CLEARED,
         refused: class,
     })
@@ -126,11 +126,11 @@ fn passing_class<S: Screens>(
 fn needs_part<S: Screens>(
     screens: &mut S,
     parts: &Parts<'_>,
-    passing: &Passing,
+    passing: &PassingClass,
     part: Part,
 ) -> Result<bool, AllocError>
     requires length { length (content_of parts.now) ≤ longest_file }
-    requires passes { IsPassing (size_of parts.now) (content_of parts.now) passing.now }
+    requires passes { IsPassingClass (size_of parts.now) (content_of parts.now) passing.now }
     ensures room { TakesRoom S.has_room S.may_lack (size_of parts.now) screens.old screens.new result }
     ensures needed { IfOk result (λ needed. (needed ≡ false)
         ↔ IsGood (size_of parts.now) (all_but part) (content_of parts.now)) }
@@ -150,10 +150,10 @@ fn needs_part<S: Screens>(
 fn class_by_parts<S: Screens>(
     screens: &mut S,
     parts: &Parts<'_>,
-    passing: &Passing,
+    passing: &PassingClass,
 ) -> Result<Start, AllocError>
     requires length { length (content_of parts.now) ≤ longest_file }
-    requires passes { IsPassing (size_of parts.now) (content_of parts.now) passing.now }
+    requires passes { IsPassingClass (size_of parts.now) (content_of parts.now) passing.now }
     ensures room { TakesRoom S.has_room S.may_lack (size_of parts.now) screens.old screens.new result }
     ensures found { IfOk result (IsFoundByParts (size_of parts.now) (content_of parts.now)) }
 {

@@ -15,13 +15,13 @@ fonts_of_437 =
     ∷ []
 
 -- the byte that ends a text (SAUCE 00.5, ZString)
-abbrev pub is_zero : ℕ → Bool
-is_zero b = b == 0x00
+abbrev pub ends_text : ℕ → Bool
+ends_text b = b == 0x00
 
 -- the name in the record's field of the font: it ends before the first zero byte (SAUCE 00.5, TInfoS is a ZString),
 -- and has no trailing blanks
 abbrev pub font_name : List ℕ → List ℕ
-font_name field = trimmed (before_first is_zero field)
+font_name field = trimmed (before_first ends_text field)
 
 -- the name is not empty, and it is none of those
 abbrev pub has_other_code_page : List ℕ → Bool

@@ -15,20 +15,20 @@ abbrev pub hint_line : List ℕ → List ℕ
 hint_line text = line_of (codes "hint: " ++ text)
 
 -- how many times, and where first
-abbrev pub times_text : Times → List ℕ
-times_text times = counted.times_text times.count times.first
+abbrev pub hint_times : Times → List ℕ
+hint_times times = counted.times_text times.count times.first
 
 -- what comes, how often, and what to do; no line where it never comes
-abbrev pub times_line : List ℕ → Option Times → List ℕ → List ℕ
-times_line what None advice = []
-times_line what (Some times) advice = hint_line (what ++ (codes ", " ++ (times_text times ++ advice)))
+abbrev pub hint_times_line : List ℕ → Option Times → List ℕ → List ℕ
+hint_times_line what None advice = []
+hint_times_line what (Some times) advice = hint_line (what ++ (codes ", " ++ (hint_times times ++ advice)))
 
 -- rows of a drawing that was made for more columns
 abbrev pub wider_line : Option WiderRows → List ℕ
 wider_line None = []
 wider_line (Some rows) =
     hint_line (codes "a row runs over the edge and then ends, "
-    ++ (times_text rows.times ++ (codes ": the widest has " ++ (decimal rows.columns ++ codes " columns"))))
+    ++ (hint_times rows.times ++ (codes ": the widest has " ++ (decimal rows.columns ++ codes " columns"))))
 
 -- a font that is known for other characters, or not known, by the field that names it
 abbrev pub font_line : List ℕ → List ℕ
@@ -47,10 +47,10 @@ empty_rows_line rows =
 -- the hints of rows
 abbrev pub row_hints : Hints → List ℕ
 row_hints hints =
-    times_line (codes "a line feed with no return beside it goes straight down") hints.loose_line_feeds []
-    ++ (times_line (codes "a full row and a line end take two rows") hints.row_ends.ended []
+    hint_times_line (codes "a line feed with no return beside it goes straight down") hints.loose_line_feeds []
+    ++ (hint_times_line (codes "a full row and a line end take two rows") hints.row_ends.ended []
     ++ (wider_line (wider_rows hints.row_ends)
-    ++ times_line (codes "with wrap off a character is printed over another in the last column")
+    ++ hint_times_line (codes "with wrap off a character is printed over another in the last column")
     hints.row_ends.overprints []))
 
 -- what to do with the text of another system
@@ -60,19 +60,19 @@ convert_text = codes ": convert the text to code page 437"
 -- the hints of text of other systems
 abbrev pub foreign_hints : Hints → List ℕ
 foreign_hints hints =
-    times_line (codes "a character is in UTF-8") hints.wide_characters convert_text
-    ++ (times_line (codes "a letter is in UTF-8") hints.two_byte_letters convert_text
-    ++ (times_line (codes "a letter is in Latin-1") hints.latin_letters convert_text
-    ++ times_line (codes "a colour code of a bulletin board (|07, @X1F) is printed as text") hints.board_codes []))
+    hint_times_line (codes "a character is in UTF-8") hints.wide_characters convert_text
+    ++ (hint_times_line (codes "a letter is in UTF-8") hints.two_byte_letters convert_text
+    ++ (hint_times_line (codes "a letter is in Latin-1") hints.latin_letters convert_text
+    ++ hint_times_line (codes "a colour code of a bulletin board (|07, @X1F) is printed as text") hints.board_codes []))
 
 -- the hints of colours
 abbrev pub colour_hints : Hints → List ℕ
 colour_hints hints =
-    times_line (codes "a sequence has a colour of later terminals (38, 48, 90 to 97 or 100 to 107)")
+    hint_times_line (codes "a sequence has a colour of later terminals (38, 48, 90 to 97 or 100 to 107)")
     hints.later_colours []
-    ++ (times_line (codes "a character blinks") hints.blinking_glyphs
+    ++ (hint_times_line (codes "a character blinks") hints.blinking_glyphs
     (codes ": for bright backgrounds set the non-blink flag")
-    ++ times_line (codes "a character is dark grey on black") (much_dark hints)
+    ++ hint_times_line (codes "a character is dark grey on black") (much_dark hints)
     (codes ": some terminals show it as black"))
 
 -- the hints of a content, and that of the font, by the record's field

@@ -3,10 +3,10 @@
 ghost use Rattle.std.specs.Prelude.{◌≡◌};
 ghost use Rattle.std.specs.List.{list_any, position};
 ghost use Rattle.std.specs.Str.{bytes_eq};
-ghost use Rattle.ans_why.specs.Fonts.{fonts_of_437, is_zero, font_name, has_other_code_page};
+ghost use Rattle.ans_why.specs.Fonts.{fonts_of_437, ends_text, font_name, has_other_code_page};
 
 fn first_zero(field: &[u8]) -> Option<usize>
-    ensures { result ≡ position is_zero field.now }
+    ensures { result ≡ position ends_text field.now }
 {
     field.iter().position(|byte| *byte == 0)
 }

@@ -1,7 +1,7 @@
 //! The lines of hints.
 
 ghost use Rattle.ans_why.specs.HintsText.{colour_hints, empty_rows_line, font_line, foreign_hints, hints_text};
-ghost use Rattle.ans_why.specs.HintsText.{row_hints, times_line, wider_line};
+ghost use Rattle.ans_why.specs.HintsText.{row_hints, hint_times_line, wider_line};
 ghost use Rattle.ans_write.specs.Puts.{Puts};
 
 use crate::font::{font_name, has_other_code_page};
@@ -16,7 +16,7 @@ fn put_times_line<W: Write>(
     times: Option<Times>,
     advice: &[u8],
 )
-    ensures { Puts W.contents out.old out.new (times_line what.now times advice.now) }
+    ensures { Puts W.contents out.old out.new (hint_times_line what.now times advice.now) }
 {
     let Some(times) = times else {
         return;

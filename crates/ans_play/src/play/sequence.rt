@@ -1,7 +1,7 @@
 //! A sequence that is read without a list of its numbers.
 
 ghost use Rattle.std.specs.Prelude.{◌≤◌, length, IfSome};
-ghost use Rattle.ans_play.specs.Brushes.{IsRead};
+ghost use Rattle.ans_play.specs.Brushes.{IsReadFront};
 
 use ans_model::limits::MAX_PARAMETERS;
 use ans_screen::Attr;
@@ -35,7 +35,7 @@ pub(super) struct ReadSequence {
 #[inline(always)]
 pub(super) fn read_front(bytes: &[u8], attribute: Attr) -> Option<ReadSequence>
     requires { 66 ≤ length bytes.now }
-    ensures { IfSome result (IsRead bytes.now attribute) }
+    ensures { IfSome result (IsReadFront bytes.now attribute) }
 {
     if bytes[0] != ESCAPE || bytes[1] != b'[' {
         return None;

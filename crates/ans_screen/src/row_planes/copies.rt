@@ -6,11 +6,11 @@ ghost use Rattle.ans_screen.specs.HalfCells.{byte_of};
 ghost use Rattle.ans_screen.specs.RowCells.{cells_of_grid, IsHeldRow, IsCopied};
 
 use super::rows::{held_row, row_start};
-use super::{Row, RowPlanes};
+use super::{RowPlanes, RowState};
 use crate::cell::CellByte;
 use crate::planes::copy_known;
 
-fn copy_held<P: RowPlanes>(grid: &P, row: usize, held: Row, which: CellByte, copied: &mut [u8])
+fn copy_held<P: RowPlanes>(grid: &P, row: usize, held: RowState, which: CellByte, copied: &mut [u8])
     requires row { row < (P.planes_of grid.now).rows }
     requires held { IsHeldRow (P.planes_of grid.now) row held }
     requires all { held.first + length copied.old ≡ held.end }

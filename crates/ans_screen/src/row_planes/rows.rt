@@ -6,7 +6,7 @@ ghost use Rattle.ans_screen.specs.HalfCells.{is_known};
 ghost use Rattle.ans_screen.specs.RowCells.{AreFilled, cell_in_grid, states_of, state_of, holds_none, IsHeldRow};
 ghost use Rattle.ans_screen.specs.RowCells.{SameRows, HasBlanks, IsMarked, ShowsSame, FindsUnknown};
 
-use super::{Row, RowPlanes};
+use super::{RowPlanes, RowState};
 use crate::cell::CellByte;
 use crate::planes::{CellBytes, first_gap};
 
@@ -25,20 +25,20 @@ pub(crate) fn row_start<P: RowPlanes>(grid: &P, row: usize) -> usize
 
 /// The row as this round holds it. If it holds no cell, what it holds begins and ends at `at`.
 #[inline(always)]
-pub(crate) fn held_row<P: RowPlanes>(grid: &P, row: usize, at: usize) -> Row
+pub(crate) fn held_row<P: RowPlanes>(grid: &P, row: usize, at: usize) -> RowState
     requires row { row < (P.planes_of grid.now).rows }
     requires start { row * (P.planes_of grid.now).width ≤ at }
     requires end { at ≤ row * (P.planes_of grid.now).width + (P.planes_of grid.now).width }
     ensures { IsHeldRow (P.planes_of grid.now) row result }
 {
-    let Row {
+    let RowState {
         round,
         known,
         first,
         end,
     } = grid.row(row);
     if round != grid.round() {
-        return Row {
+        return RowState {
             round: grid.round(),
             known: true,
             first: at,
@@ -49,7 +49,7 @@ pub(crate) fn held_row<P: RowPlanes>(grid: &P, row: usize, at: usize) -> Row
     let stop = start + grid.frame().width;
     let first = first.max(start).min(stop);
     let end = end.max(first).min(stop);
-    Row {
+    RowState {
         round,
         known,
         first,
@@ -58,7 +58,7 @@ pub(crate) fn held_row<P: RowPlanes>(grid: &P, row: usize, at: usize) -> Row
 }
 
 /// Has the four planes say of a row's cells what two do, if the two alone no longer count.
-fn mark_known<P: RowPlanes>(grid: &mut P, held: Row, known: bool)
+fn mark_known<P: RowPlanes>(grid: &mut P, held: RowState, known: bool)
     requires ordered { held.first ≤ held.end }
     requires within { held.end ≤ (P.planes_of grid.old).width * (P.planes_of grid.old).rows }
     requires known { known ≡ true → held.known ≡ true }
@@ -105,7 +105,7 @@ fn write_blank<P: RowPlanes>(grid: &mut P, from: usize, to: usize, known: bool)
 /// Where the cells of a row end that are to be held, if those before `to` are: as many more as it
 /// holds, and 15 at least, as far as the row goes. So a row that is written from the left is
 /// widened a few times.
-fn stop_ahead<P: RowPlanes>(grid: &P, row: usize, held: Row, to: usize) -> usize
+fn stop_ahead<P: RowPlanes>(grid: &P, row: usize, held: RowState, to: usize) -> usize
     requires row { row < (P.planes_of grid.now).rows }
     requires end { to ≤ row * (P.planes_of grid.now).width + (P.planes_of grid.now).width }
     ensures from { to ≤ result }
@@ -192,7 +192,7 @@ pub(crate) fn open<P: RowPlanes>(
 }
 
 #[inline(always)]
-fn holds<P: RowPlanes>(grid: &P, held: Row, from: usize, to: usize) -> bool
+fn holds<P: RowPlanes>(grid: &P, held: RowState, from: usize, to: usize) -> bool
     ensures { IsTrue result → (held.round ≡ (P.planes_of grid.now).round) × (held.first ≤ from) × (to ≤ held.end) }
 {
     held.round == grid.round() && held.first <= from && to <= held.end

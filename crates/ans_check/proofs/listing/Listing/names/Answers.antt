@@ -2,13 +2,13 @@ use Rattle.std.proofs.Common.{◌∙◌, List, ◌++◌, ap, sym}
 use Rattle.std.specs.Borrow.{Bor}
 use Rattle.clap.specs.Words.{Text}
 use Rattle.ans_model.specs.Text.Words.{texts_of}
-use Rattle.ans_check.specs.Listing.{is_whole, names_in}
+use Rattle.ans_check.specs.Listing.{was_read_whole, names_in}
 use Rattle.ans_check.proofs.ListingLemmas.{name_named, one_name_more}
 use Rattle.ans_check.proofs.listing.Listing.names.Goals as goal
 
 pub loop-name-preserved : goal.loop-name-preserved
 loop-name-preserved c =
-    let whole = is_whole c.args.self.now in
+    let whole = was_read_whole c.args.self.now in
     let names = c.loop-name.names.items in
     let more = names_in whole c.in-Some.more.now in
     c.loop-name.invariant

@@ -2,7 +2,7 @@ use Rattle.std.proofs.Common.{rules, ◌≡◌, ◌<◌, ◌/◌, All, replicate
 use Rattle.std.proofs.lemmas.List.Elements.{All-map, All-replicate}
 use Rattle.ans_screen.specs.LentRows.{row_of, never_lent}
 use Rattle.ans_screen.specs.declared.lent_row.LentRow.{LentRow}
-use Rattle.ans_screen.specs.declared.row_planes.Row.{Row}
+use Rattle.ans_screen.specs.declared.row_planes.RowState.{RowState}
 use Rattle.ans_screen.proofs.Places.{one_from_index}
 use Rattle.ans_screen.proofs.RowEdits.{all_stale}
 use Rattle.ans_screen.proofs.lent_grid.LentGrid.cut.Goals as goal
@@ -15,4 +15,4 @@ returns-clause-cells c =
     rw filled (All-replicate (λ (row : LentRow). row.round < 1) c.args.frame.rows never_lent (omega arith)) in
     one_from_index _ _ _ (λ i lt.
     rw (all_stale 1 (map row_of held) (i / c.args.frame.width) i (omega arith)
-    (All-map (λ (row : Row). row.round < 1) row_of held older)) refl)
+    (All-map (λ (row : RowState). row.round < 1) row_of held older)) refl)

@@ -1,7 +1,7 @@
 use Rattle.std.proofs.Common.{◌≡◌, ◌<◌, ◌≤◌, ◌+◌, ◌*◌, ◌/◌, ◌∙◌, All, arith, refl}
 use Rattle.std.proofs.lemmas.List.Elements.{All-weaker}
 use Rattle.ans_screen.specs.RowCells.{Stale, cell_in_grid}
-use Rattle.ans_screen.specs.declared.row_planes.Row.{Row}
+use Rattle.ans_screen.specs.declared.row_planes.RowState.{RowState}
 use Rattle.ans_screen.proofs.Places.{one_from_index}
 use Rattle.ans_screen.proofs.RowCells.{cell_in_state}
 use Rattle.ans_screen.proofs.RowEdits.{all_stale}
@@ -13,8 +13,8 @@ returns-clause-cells o c =
     let n = o.P.RowPlanes.planes_of c.begin_round.new.self in
     let begun = c.begin_round.ensures in
     let next : n.round ≡ g.round + 1 = omega arith in
-    let older : All (λ (row : Row). row.round < n.round) n.held =
-    rw begun.held (All-weaker (λ (row : Row). row.round ≤ g.round) (λ (row : Row). row.round < n.round)
+    let older : All (λ (row : RowState). row.round < n.round) n.held =
+    rw begun.held (All-weaker (λ (row : RowState). row.round ≤ g.round) (λ (row : RowState). row.round < n.round)
     (λ row le. omega arith) g.held g.no_later_round) in
     one_from_index (cell_in_grid n) (n.width * n.rows) n.blank
     (λ i lt. cell_in_state n Stale i (all_stale n.round n.held (i / n.width) i (omega arith) older))

@@ -1,7 +1,7 @@
 use Rattle.std.proofs.Common.{◌≡◌, ◌≤◌, ◌*◌, ◌++◌, length, take}
 use Rattle.std.specs.Simd.Lanes.{zip2}
 use Rattle.ans_model.specs.Screen.State.{cell}
-use Rattle.ans_show.specs.FormTables.{cells_in}
+use Rattle.ans_show.specs.FormTables.{cells_shown}
 use Rattle.ans_show.proofs.CellRuns.{cells_from}
 use Rattle.ans_show.proofs.form_tables.FormTables.write_row.Given as goal
 
@@ -9,6 +9,6 @@ abbrev pub invariant-loop-i : goal.invariant-loop-i
 invariant-loop-i l = record {
   within : l.end ≤ 56 * l.i;
   long : length l.text ≡ length l.fn.text;
-  so_far : take l.end l.text ++ cells_in l.self.form l.last (cells_from l.bytes l.attributes l.i)
-      ≡ cells_in l.self.form 256 (zip2 cell l.bytes l.attributes);
+  so_far : take l.end l.text ++ cells_shown l.self.form l.last (cells_from l.bytes l.attributes l.i)
+      ≡ cells_shown l.self.form 256 (zip2 cell l.bytes l.attributes);
 }
