@@ -6,7 +6,9 @@ use Rattle.ans_model.specs.declared.fault.Cause.TheVariants.{UnknownCell}
 use Rattle.ans_model.specs.declared.fault.Fault.{Fault}
 use Rattle.ans_model.specs.declared.start.Start.{Start}
 use Rattle.ans_model.specs.Text.FaultText.{cause_number}
+use Rattle.ans_model.specs.MendFlags.{mend_flags, with_given}
 use Rattle.ans_model.specs.declared.mends.Mends.{Mends}
+use Rattle.ans_model.specs.declared.mends.TheConstants.Mends as no_mends
 use Rattle.ans_c.specs.declared.numbers.PictureSize.{PictureSize}
 use Rattle.ans_c.specs.declared.numbers.ToldFault.{ToldFault}
 
@@ -55,15 +57,9 @@ number_or_none number = if number == 0 then None else Some number
 
 -- what bits and numbers ask for of a file that is mended
 abbrev pub mends_of : ℕ → ℕ → ℕ → Mends
-mends_of classes width lines = record {
-  width = number_or_none width;
-  line_ends = has_bit classes 2;
-  take_out = has_bit classes 1;
-  full_rows = has_bit classes 4;
-  least_lines = has_bit classes 8;
-  name_colours = has_bit classes 16;
-  lines = number_or_none lines;
-}
+mends_of classes width lines =
+    with_given (λ f. has_bit classes f.bit)
+    (record no_mends.NONE { width = number_or_none width; lines = number_or_none lines }) mend_flags
 
 -- the size, and what is to be lent for a play of it and for its picture
 pub record IsSizeOf (z : Size) (told : PictureSize) : Type 0 where

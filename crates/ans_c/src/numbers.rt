@@ -1,15 +1,17 @@
 //! What is told in numbers.
 
-ghost use Rattle.std.specs.Prelude.{◌≡◌, ◌≤◌, ◌≢◌, IfSome, IsNone};
+ghost use Rattle.std.specs.Prelude.{◌≡◌, ◌≤◌, ◌≢◌, IfSome, IsNone, map};
 ghost use Rattle.ans_model.specs.Bytes.{most_columns, most_lines};
+ghost use Rattle.ans_model.specs.MendFlags.{row_of_flag, with_given};
 ghost use Rattle.ans_model.specs.declared.fault.Cause.{Cause};
 ghost use Rattle.ans_model.specs.declared.note.Note.{Note};
 ghost use Rattle.ans_sauce.specs.Parts.{size_of};
 ghost use Rattle.ans_model.specs.Text.FaultText.{cause_number, note_number};
-ghost use Rattle.ans_c.specs.Numbers.{class_of, IsSizeOf, mends_of, NamesClass, number_if, number_or_none, TellsFault};
+ghost use Rattle.ans_c.specs.Numbers.{class_of, has_bit, IsSizeOf, mends_of, NamesClass, number_if, number_or_none};
+ghost use Rattle.ans_c.specs.Numbers.{TellsFault};
 
 use ans_model::fault::{Cause, Fault};
-use ans_model::mends::Mends;
+use ans_model::mends::{MendFlag, Mends, mend_flags};
 use ans_model::note::Note;
 use ans_model::start::Start;
 use ans_sauce::Parts;
@@ -98,24 +100,30 @@ fn number_or_none(number: u16) -> Option<u16>
     if number == 0 { None } else { Some(number) }
 }
 
-/// What these bits and numbers ask for of a file that is mended: 1 that sequences are taken out, 2 line ends,
-/// 4 full rows, 8 the least lines, 16 named colours; the columns of a record, and a number of lines, where they are not
-/// 0.
-/// Other bits count for nothing.
+/// With each change asked for whose flag's bit is set.
+fn with_bits(mends: Mends, bits: u32, flags: &[MendFlag]) -> Mends
+    ensures { result ≡ with_given (λ f. has_bit bits f.bit) mends (map row_of_flag flags.now) }
+{
+    let mut mends = mends;
+    for flag in flags {
+        mends = mends.with(flag.change, bits & flag.bit != 0);
+    }
+    mends
+}
+
+/// What these bits and numbers ask for of a file that is mended: the bits of the flags ([`mend_flags`]), the columns of
+/// a record, and a number of lines, where they are not 0. Other bits count for nothing.
 pub(crate) fn mends_of(classes: u32, width: u32, lines: u32) -> Mends
     requires width { width ≤ most_columns }
     requires lines { lines ≤ most_lines }
     ensures { result ≡ mends_of classes width lines }
 {
-    Mends {
+    let numbers = Mends {
         width: number_or_none(width as u16),
-        line_ends: classes & 2 != 0,
-        take_out: classes & 1 != 0,
-        full_rows: classes & 4 != 0,
-        least_lines: classes & 8 != 0,
-        name_colours: classes & 16 != 0,
         lines: number_or_none(lines as u16),
-    }
+        ..Mends::NONE
+    };
+    with_bits(numbers, classes, mend_flags())
 }
 
 /// A cause of a number.

@@ -7,3 +7,4 @@ pub mod Screen
 pub mod Verdict
 pub mod Text
 pub mod Inside
+pub mod MendFlags

@@ -1,5 +1,8 @@
 //! What is asked for of a file that is mended.
 
+ghost use Rattle.std.specs.Prelude.{◌≡◌, map};
+ghost use Rattle.ans_model.specs.MendFlags.{mend_flags, row_of_flag, with_change};
+
 /// What may be changed of a file that is mended, besides what is mended by itself.
 #[derive(Debug, Clone, Copy, PartialEq, Eq)]
 pub struct Mends {
@@ -36,4 +39,94 @@ impl Mends {
         least_lines: false,
         lines: None,
     };
+
+    /// The same, with this change asked for or not.
+    pub fn with(self, change: Change, asked: bool) -> Mends
+        ensures { result ≡ with_change change asked self }
+    {
+        match change {
+            Change::TakeOut => Mends {
+                take_out: asked,
+                ..self
+            },
+            Change::LineEnds => Mends {
+                line_ends: asked,
+                ..self
+            },
+            Change::FullRows => Mends {
+                full_rows: asked,
+                ..self
+            },
+            Change::NameColours => Mends {
+                name_colours: asked,
+                ..self
+            },
+            Change::LeastLines => Mends {
+                least_lines: asked,
+                ..self
+            },
+        }
+    }
+}
+
+/// A change that a flag asks for, and no number: a field of [`Mends`] each.
+#[derive(Debug, Clone, Copy, PartialEq, Eq)]
+pub enum Change {
+    TakeOut,
+    LineEnds,
+    FullRows,
+    NameColours,
+    LeastLines,
+}
+
+/// How a change is asked for.
+#[derive(Debug, Clone, Copy)]
+pub struct MendFlag {
+    pub change: Change,
+    /// The flag's name, without `--`.
+    pub name: &'static str,
+    /// The bit that stands for it in a number.
+    pub bit: u32,
+    /// What it does, as help says it.
+    pub help: &'static str,
+}
+
+const MEND_FLAGS: [MendFlag; 5] = [
+    MendFlag {
+        change: Change::TakeOut,
+        name: "take-out",
+        bit: 1,
+        help: "Take out refused sequences, such as screen modes",
+    },
+    MendFlag {
+        change: Change::LineEnds,
+        name: "line-ends",
+        bit: 2,
+        help: "Put a return before each line feed, where there is none",
+    },
+    MendFlag {
+        change: Change::FullRows,
+        name: "full-rows",
+        bit: 4,
+        help: "Take out the line ends behind full rows, if each has one",
+    },
+    MendFlag {
+        change: Change::NameColours,
+        name: "name-colours",
+        bit: 16,
+        help: "Put 37 and 40 after a 0 that something is printed in",
+    },
+    MendFlag {
+        change: Change::LeastLines,
+        name: "least-lines",
+        bit: 8,
+        help: "State the least number of lines that is enough",
+    },
+];
+
+/// The flags, in the order of the help.
+pub fn mend_flags() -> &'static [MendFlag]
+    ensures { map row_of_flag result.now ≡ mend_flags }
+{
+    &MEND_FLAGS
 }

@@ -23,6 +23,7 @@ use Rattle.ans_options.specs.declared.command.Command.TheVariants.{Why, Check, S
 use Rattle.ans_options.specs.declared.command.Command.TheVariants.{Redraw}
 use Rattle.ans_model.specs.declared.mends.TheConstants.Mends as no_mends
 use Rattle.ans_model.specs.declared.mends.Mends.{Mends}
+use Rattle.ans_model.specs.MendFlags.{mend_flags, with_given}
 use Rattle.ans_options.specs.declared.command.Form.{Form}
 use Rattle.ans_options.specs.declared.command.Form.TheVariants.{Terminal, Vga, Page}
 use Rattle.ans_options.specs.declared.command.TableForm.{TableForm}
@@ -88,10 +89,8 @@ command_app (Show form) =
 command_app (Table form) =
     with_flags (with_rule (new_app (command_name (Table form))) files_rule) (codes "json" ∷ codes "no-header" ∷ [])
 command_app (Mend mends) =
-    let flags =
-    codes "take-out" ∷ codes "line-ends" ∷ codes "full-rows" ∷ codes "name-colours" ∷ codes "least-lines" ∷ [] in
     with_rule
-    (with_rule (with_flags (file_app (command_name (Mend mends))) flags)
+    (with_rule (with_flags (file_app (command_name (Mend mends))) (map (λ f. f.name) mend_flags))
     (number_rule (codes "lines") (numbers_up_to 8192)))
     (number_rule (codes "width") (numbers_up_to 1024))
 command_app command = file_app (command_name command)
@@ -232,15 +231,10 @@ HasNumbersOfMend rows = HasNumberUpTo 1024 (codes "width") rows × HasNumberUpTo
 
 -- what may be changed of a file that is mended: what the flags name, and the numbers that the options are given
 abbrev pub mends_asked : List Row → Mends
-mends_asked rows = record {
-  width = number_asked (codes "width") rows;
-  line_ends = holds_flag (codes "line-ends") rows;
-  take_out = holds_flag (codes "take-out") rows;
-  full_rows = holds_flag (codes "full-rows") rows;
-  name_colours = holds_flag (codes "name-colours") rows;
-  least_lines = holds_flag (codes "least-lines") rows;
-  lines = number_asked (codes "lines") rows;
-}
+mends_asked rows =
+    with_given (λ f. holds_flag f.name rows)
+    (record no_mends.NONE { width = number_asked (codes "width") rows; lines = number_asked (codes "lines") rows })
+    mend_flags
 
 -- a width is 1 to 1024 columns, and a number of lines 1 to 8192
 abbrev pub AreInRange : Mends → Type 0

@@ -13,6 +13,7 @@ ghost use Rattle.ans_options.specs.CommandLine.{asks_for_cleared, holds_flag};
 ghost use Rattle.ans_options.specs.CommandLine.{AreInRange, HasNumberUpTo, HasNumbersOfMend, is_mend, mends_asked};
 ghost use Rattle.ans_options.specs.CommandLine.{is_redraw};
 ghost use Rattle.ans_options.specs.CommandLine.{number_asked, number_rule};
+ghost use Rattle.ans_model.specs.MendFlags.{row_of_flag, with_given};
 ghost use Rattle.ans_model.specs.Text.Words.{texts_of};
 ghost use Rattle.ans_options.specs.CommandLine.{AsksAs, IsAskedBy, IsReadAs, files_of, is_table, table_form_asked};
 ghost use Rattle.ans_options.specs.Topics.{topic_of};
@@ -24,7 +25,7 @@ ghost use Rattle.ans_options.specs.declared.command_line.WordsError.TheVariants.
 
 use crate::command::{Asked, Command, Form, Options, TableForm};
 use crate::topic::topic_of;
-use ans_model::mends::Mends;
+use ans_model::mends::{MendFlag, Mends, mend_flags};
 use ans_model::start::Start;
 use clap::builder::ValueParser;
 use clap::{Arg, ArgAction, ArgMatches, value_parser};
@@ -200,30 +201,6 @@ const COMMANDS: [Command; 9] = [
     Command::Table(TableForm::Headed),
 ];
 
-/// The flags of `mend`.
-const MEND_FLAGS: [(&str, &str); 5] = [
-    (
-        "take-out",
-        "Take out refused sequences, such as screen modes",
-    ),
-    (
-        "line-ends",
-        "Put a return before each line feed, where there is none",
-    ),
-    (
-        "full-rows",
-        "Take out the line ends behind full rows, if each has one",
-    ),
-    (
-        "name-colours",
-        "Put 37 and 40 after a 0 that something is printed in",
-    ),
-    (
-        "least-lines",
-        "State the least number of lines that is enough",
-    ),
-];
-
 /// What `--lines` of `mend` does.
 const LINES: &str = "State N lines, if too few or none are stated: 1 to 8192";
 
@@ -325,6 +302,20 @@ fn with_flags<'a>(
     Ok(command)
 }
 
+fn with_mend_flags<'a>(
+    alloc: Global,
+    mut command: clap::Command<'a>,
+    flags: &[MendFlag],
+) -> Result<clap::Command<'a>, AllocError>
+    ensures { IfOk result (λ c.
+        app_of c ≡ with_flags (app_of command.entry) (map (λ f. f.name) (map row_of_flag flags.now))) }
+{
+    for one in flags {
+        command = command.arg(flag(alloc, one.name, one.help))?;
+    }
+    Ok(command)
+}
+
 fn check_command<'a>(alloc: Global) -> Result<clap::Command<'a>, AllocError>
     ensures { IfOk result (λ c. app_of c ≡ command_app Check) }
 {
@@ -345,7 +336,7 @@ fn mend_command<'a>(alloc: Global) -> Result<clap::Command<'a>, AllocError>
     ensures { IfOk result (λ c. app_of c ≡ command_app (Mend no_mends.NONE)) }
 {
     let command = file_command(alloc, "mend", MEND, MEND_END)?;
-    let command = with_flags(alloc, command, &MEND_FLAGS)?;
+    let command = with_mend_flags(alloc, command, mend_flags())?;
     let lines = number(alloc, "lines", value_parser!(u16).range(1..=8192), LINES);
     let width = number(alloc, "width", value_parser!(u16).range(1..=1024), WIDTH);
     command.arg(lines)?.arg(width)
@@ -463,20 +454,29 @@ fn number_asked(matches: &ArgMatches<'_>, id: &str) -> Option<u16>
     matches.get_one::<u16>(id)
 }
 
+/// With each change asked for whose flag is given.
+fn with_given(matches: &ArgMatches<'_>, mends: Mends, flags: &[MendFlag]) -> Mends
+    ensures { result ≡ with_given (λ f. holds_flag f.name (rows_of (found_of matches.now))) mends
+        (map row_of_flag flags.now) }
+{
+    let mut mends = mends;
+    for flag in flags {
+        mends = mends.with(flag.change, holds(matches, flag.name));
+    }
+    mends
+}
+
 fn mends_asked(matches: &ArgMatches<'_>) -> Mends
     requires { HasNumbersOfMend (rows_of (found_of matches.now)) }
     ensures is { result ≡ mends_asked (rows_of (found_of matches.now)) }
     ensures range { AreInRange result }
 {
-    Mends {
+    let numbers = Mends {
         width: number_asked(matches, "width"),
-        line_ends: holds(matches, "line-ends"),
-        take_out: holds(matches, "take-out"),
-        full_rows: holds(matches, "full-rows"),
-        name_colours: holds(matches, "name-colours"),
-        least_lines: holds(matches, "least-lines"),
         lines: number_asked(matches, "lines"),
-    }
+        ..Mends::NONE
+    };
+    with_given(matches, numbers, mend_flags())
 }
 
 /// The command, with the form that the flags ask for.

@@ -1,0 +1,42 @@
+-- The flags of mend: what each is called, and what it asks for.
+use Rattle.std.specs.Prelude.{ℕ, Bool, List, [], ◌∷◌, codes}
+use Rattle.ans_model.specs.declared.mends.Change.{Change}
+use Rattle.ans_model.specs.declared.mends.Change.TheVariants.{TakeOut, LineEnds, FullRows, NameColours, LeastLines}
+use Rattle.ans_model.specs.declared.mends.MendFlag.{MendFlag}
+use Rattle.ans_model.specs.declared.mends.Mends.{Mends}
+
+-- a flag without its help
+pub record FlagRow : Type 0 where
+  pub change : Change
+  pub name : List ℕ
+  pub bit : ℕ
+
+abbrev pub flag_row : Change → List ℕ → ℕ → FlagRow
+flag_row change name bit = record { change = change; name = name; bit = bit }
+
+-- the flags, in the order of the help
+abbrev pub mend_flags : List FlagRow
+mend_flags =
+    flag_row TakeOut (codes "take-out") 1
+    ∷ flag_row LineEnds (codes "line-ends") 2
+    ∷ flag_row FullRows (codes "full-rows") 4
+    ∷ flag_row NameColours (codes "name-colours") 16
+    ∷ flag_row LeastLines (codes "least-lines") 8
+    ∷ []
+
+-- what the program's table has of one
+abbrev pub row_of_flag : MendFlag → FlagRow
+row_of_flag f = flag_row f.change f.name.now f.bit
+
+-- with this change asked for, or not
+abbrev pub with_change : Change → Bool → Mends → Mends
+with_change TakeOut asked mends = record mends { take_out = asked }
+with_change LineEnds asked mends = record mends { line_ends = asked }
+with_change FullRows asked mends = record mends { full_rows = asked }
+with_change NameColours asked mends = record mends { name_colours = asked }
+with_change LeastLines asked mends = record mends { least_lines = asked }
+
+-- with each change asked for whose flag is given
+abbrev pub with_given : (FlagRow → Bool) → Mends → List FlagRow → Mends
+with_given is_given mends [] = mends
+with_given is_given mends (f ∷ more) = with_given is_given (with_change f.change (is_given f) mends) more
