@@ -1,5 +1,5 @@
 -- What redrawing says is clean.
-use Rattle.ans_mend.specs.MendedText.{end_mark_line}
+use Rattle.ans_report.specs.Changes.{end_mark_line}
 use Rattle.ans_redraw_file.specs.RedrawnText.{redrawn_text, unredrawn_text}
 use Rattle.ans_redraw_file.specs.declared.outcome.Redrawn.{Redrawn}
 use Rattle.ans_redraw_file.specs.declared.outcome.Unredrawn.{Unredrawn}

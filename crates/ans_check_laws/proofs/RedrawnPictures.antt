@@ -11,7 +11,7 @@ use Rattle.ans_model.specs.Screen.StartClass.{all_known}
 use Rattle.ans_model.specs.Verdict.Good.{Picture}
 use Rattle.ans_model.specs.declared.start.Start.{Start}
 use Rattle.ans_sauce.proofs.LaidParts.{laid_body}
-use Rattle.ans_mend.specs.Contents.{content_in}
+use Rattle.ans_sauce.specs.Contents.{content_in}
 use Rattle.ans_picture_laws.specs.RedrawnFileLaws.{CanBeRedrawn, IsRedrawnTo, stays}
 use Rattle.ans_redraw_file.specs.RedrawnFile.{redrawn_file}
 use Rattle.ans_redraw_file.specs.declared.outcome.Redrawn.{Redrawn}

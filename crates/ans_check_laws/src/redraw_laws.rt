@@ -8,7 +8,7 @@ ghost use Rattle.ans_model.specs.File.Record.{stated_size};
 ghost use Rattle.ans_model.specs.Screen.StartClass.{all_known};
 ghost use Rattle.ans_model.specs.Verdict.Good.{Picture};
 ghost use Rattle.ans_model.specs.declared.start.Start.{Start};
-ghost use Rattle.ans_mend.specs.Contents.{content_in};
+ghost use Rattle.ans_sauce.specs.Contents.{content_in};
 ghost use Rattle.ans_mend.specs.declared.outcome.Mended.{Mended};
 ghost use Rattle.ans_model.specs.declared.mends.Mends.{Mends};
 ghost use Rattle.ans_picture_laws.specs.RedrawnFileLaws.{stays};

@@ -13,7 +13,7 @@ use Rattle.ans_model.specs.Verdict.Good.{Picture}
 use Rattle.ans_sauce.specs.Found.{body_in, front_in, record_in}
 use Rattle.ans_sauce.proofs.LaidParts.{laid_body, laid_front, laid_record}
 use Rattle.ans_sauce.specs.Fields.{four_bytes, with_file_size}
-use Rattle.ans_mend.specs.Contents.{content_in}
+use Rattle.ans_sauce.specs.Contents.{content_in}
 use Rattle.ans_redraw.specs.Form.{form_bytes}
 use Rattle.ans_redraw_file.specs.RedrawnFile.{block_in, marked_end, redrawn_file}
 

@@ -8,7 +8,7 @@ use Rattle.ans_model.specs.File.Record.{file_size}
 use Rattle.ans_model.specs.Verdict.Good.{Picture}
 use Rattle.ans_sauce.specs.Found.{body_in, front_in, record_in}
 use Rattle.ans_sauce.specs.Fields.{with_file_size}
-use Rattle.ans_mend.specs.Contents.{content_in}
+use Rattle.ans_sauce.specs.Contents.{content_in}
 use Rattle.ans_redraw.specs.Form.{form_bytes}
 use Rattle.ans_redraw_file.specs.declared.outcome.Redrawn.{Redrawn}
 use Rattle.ans_redraw_file.specs.declared.outcome.Unredrawn.{Unredrawn}

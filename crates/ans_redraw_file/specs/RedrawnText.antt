@@ -1,8 +1,8 @@
 -- What redrawing says: what was changed, or why there is none.
 use Rattle.std.specs.Prelude.{ℕ, List, ◌++◌, codes, decimal}
 use Rattle.ans_model.specs.Text.FaultText.{fault_line}
-use Rattle.ans_mend.specs.MendedText.{end_mark_line, reset_line}
-use Rattle.ans_mend.specs.declared.outcome.Reset.{Reset}
+use Rattle.ans_report.specs.Changes.{end_mark_line, reset_line}
+use Rattle.ans_sauce.specs.declared.writing.Reset.{Reset}
 use Rattle.ans_redraw_file.specs.declared.outcome.Redrawn.{Redrawn}
 use Rattle.ans_redraw_file.specs.declared.outcome.Unredrawn.{Unredrawn}
 use Rattle.ans_redraw_file.specs.declared.outcome.Unredrawn.TheVariants as unredrawn

@@ -1,7 +1,7 @@
 //! What comes of redrawing.
 
-use ans_mend::Reset;
 use ans_model::fault::Fault;
+use ans_sauce::Reset;
 
 /// What was changed of a file that is redrawn.
 #[derive(Debug, Clone, Copy, PartialEq, Eq)]

@@ -4,8 +4,8 @@ ghost use Rattle.ans_redraw_file.specs.RedrawnText.{length_line, redrawn_text, u
 ghost use Rattle.ans_write.specs.Puts.{Puts};
 
 use crate::outcome::{Redrawn, Unredrawn};
-use ans_mend::{Reset, put_end_mark_line, put_reset_line};
-use ans_report::put_fault_line;
+use ans_report::{put_end_mark_line, put_fault_line, put_reset_line};
+use ans_sauce::Reset;
 use ans_write::Outbox;
 use std::io::Write;
 

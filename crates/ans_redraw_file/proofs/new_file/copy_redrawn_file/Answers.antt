@@ -1,6 +1,6 @@
 use Rattle.std.proofs.Common.{◌≡◌, ◌+◌, ◌++◌, ℕ, List, length, take, drop, arith, ap, ap₂, sym, ◌∙◌}
 use Rattle.ans_sauce.specs.Found.{front_in, record_in}
-use Rattle.ans_mend.specs.Contents.{content_in}
+use Rattle.ans_sauce.specs.Contents.{content_in}
 use Rattle.ans_redraw.specs.Form.{form_bytes}
 use Rattle.ans_sauce.specs.Fields.{with_file_size}
 use Rattle.ans_redraw_file.proofs.NewFiles.{joined, missing, sauce_is, total, whole_is}

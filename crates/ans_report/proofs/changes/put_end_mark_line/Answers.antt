@@ -1,7 +1,7 @@
 use Rattle.std.proofs.Common.{ap, sym}
 use Rattle.ans_write.proofs.PutsLemmas.{Puts-same, Puts-then}
-use Rattle.ans_mend.specs.MendedText.{end_mark_line}
-use Rattle.ans_mend.proofs.mended_text.put_end_mark_line.Goals as goal
+use Rattle.ans_report.specs.Changes.{end_mark_line}
+use Rattle.ans_report.proofs.changes.put_end_mark_line.Goals as goal
 
 pub returns-in-Some : goal.returns-in-Some
 returns-in-Some g c =

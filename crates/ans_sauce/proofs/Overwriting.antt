@@ -1,13 +1,22 @@
--- A file of which fields of the record are set anew is as long as before.
-use Rattle.std.proofs.Common.{◌≡◌, ℕ, ◌+◌, ◌-◌, ◌≤◌, Bool, List, [], ◌∷◌, ◌++◌, length, take, drop, ap, ap₂, ◌∙◌}
-use Rattle.std.proofs.Common.{arith, length-append, Option, None, Some, refl}
-use Rattle.std.proofs.lemmas.List.{length-drop, length-take-le}
-use Rattle.std.specs.Prelude.{◌%◌, if◌then◌else◌}
-use Rattle.ans_model.specs.File.Record.{flags}
+-- Bytes of a record, at the end of a file, that are written over as many.
+use Rattle.std.proofs.Common.{◌≡◌, ℕ, ◌+◌, ◌-◌, ◌≤◌, List, ◌++◌, length, take, drop, ap, ap₂, sym, ◌∙◌, arith}
+use Rattle.std.proofs.Common.{append_assoc, length-append}
+use Rattle.std.proofs.Math.Seq.{take-add}
+use Rattle.std.proofs.lemmas.List.{drop-drop, length-drop, length-take-le}
 use Rattle.ans_sauce.specs.Found.{front_in, record_in}
-use Rattle.ans_sauce.specs.Fields.{overwritten}
-use Rattle.ans_sauce.specs.Fields.{with_record}
-use Rattle.ans_mend.specs.TakingOut.{flagged}
+use Rattle.ans_sauce.specs.Fields.{overwritten, with_record}
+
+pub of_record : (file bytes : List ℕ) (offset : ℕ) → 128 ≤ length file
+    → overwritten (length file - 128 + offset) bytes file ≡ with_record (overwritten offset bytes (record_in file)) file
+of_record file bytes offset long =
+    let start : ℕ = length file - 128 in
+    let front : take (start + offset) file ≡ take start file ++ take offset (drop start file) =
+    take-add start offset file in
+    let behind : drop (start + offset + length bytes) file ≡ drop (offset + length bytes) (drop start file) =
+    ap (λ (v : ℕ). drop v file) (omega arith) ∙ sym (drop-drop (offset + length bytes) start file) in
+    ap₂ (λ (v w : List ℕ). v ++ (bytes ++ w)) front behind
+    ∙ append_assoc (take start file) (take offset (drop start file))
+    (bytes ++ drop (offset + length bytes) (drop start file))
 
 pub overwritten_length : (offset : ℕ) (bytes file : List ℕ) → offset + length bytes ≤ length file
     → length (overwritten offset bytes file) ≡ length file
@@ -29,9 +38,3 @@ recorded_length offset bytes file long within =
     overwritten_length offset bytes (record_in file) (rw record_long within) ∙ record_long in
     length-append (front_in file) (overwritten offset bytes (record_in file))
     ∙ omega (arith, long, front_long, new_long)
-
-pub flagged_long : (on : Option Bool) (file : List ℕ) → 128 ≤ length file → length (flagged on file) ≡ length file
-flagged_long None file long = refl
-flagged_long (Some on) file long =
-    let r : List ℕ = record_in file in
-    recorded_length 105 ((flags r - flags r % 2 + (if on then 1 else 0)) ∷ []) file long (omega arith)
