@@ -4,9 +4,8 @@ use Rattle.std.proofs.Common.{inl, inr, refl, sym, ap, ◌∙◌, arith, subst, 
 use Rattle.std.specs.Prelude.{if◌then◌else◌, ◌&&◌}
 use Rattle.std.specs.List.{position_or_len}
 use Rattle.std.specs.Option.{option_map_or}
-use Rattle.std.proofs.lemmas.List.{length-append, length-drop, take-append-drop}
+use Rattle.std.proofs.lemmas.List.{length-append, length-drop}
 use Rattle.std.proofs.lemmas.List.Sums.{sum_by-append, sum_by-cons, sum_by-take-le}
-use Rattle.std.proofs.Math.Seq.{take-append_seam}
 use Rattle.ans_model.specs.Bytes.{end_mark}
 use Rattle.ans_model.specs.File.Layout.{content, is_end_mark}
 use Rattle.ans_model.specs.File.Record.{comment_count}

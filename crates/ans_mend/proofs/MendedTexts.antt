@@ -1,5 +1,5 @@
 -- What mending says, by the pieces that are put.
-use Rattle.std.proofs.Common.{◌≡◌, ℕ, ◌-◌, ◌<◌, List, ◌++◌, codes, decimal, refl}
+use Rattle.std.proofs.Common.{◌≡◌, ℕ, ◌-◌, ◌<◌, ◌++◌, codes, decimal, refl}
 use Rattle.std.specs.List.{flat_map}
 use Rattle.std.specs.Prelude.{min, take}
 use Rattle.std.proofs.lemmas.Bool.{eq-eqb, lt-leb, lt-ltb, ne_eqb}

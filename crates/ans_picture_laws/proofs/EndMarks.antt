@@ -1,8 +1,8 @@
 -- The content, and the end marks behind it.
-use Rattle.std.proofs.Common.{◌≡◌, ℕ, suc, ◌+◌, Bool, true, false, List, [], ◌∷◌, length, take, drop, refl, sym}
-use Rattle.std.proofs.Common.{ap, ◌∙◌, arith}
+use Rattle.std.proofs.Common.{◌≡◌, ℕ, Bool, true, false, List, [], ◌∷◌, length, drop, refl, sym}
+use Rattle.std.proofs.Common.{ap, ◌∙◌}
 use Rattle.std.specs.Prelude.{if◌then◌else◌}
-use Rattle.std.specs.List.{list_all, list_any, position_or_len}
+use Rattle.std.specs.List.{list_all, list_any}
 use Rattle.ans_model.specs.Bytes.{end_mark}
 use Rattle.ans_model.specs.File.Layout.{after_content, content, is_end_mark}
 use Rattle.ans_redraw.specs.RedrawnFile.{marked_end}

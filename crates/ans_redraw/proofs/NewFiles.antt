@@ -1,8 +1,7 @@
 -- What stands behind the content of a file, and the file that is put in its place.
-use Rattle.std.proofs.Common.{◌≡◌, ℕ, suc, ◌+◌, ◌-◌, ◌^◌, ◌<◌, ◌≤◌, min, ◌==◌, Bool, true, false, List, []}
+use Rattle.std.proofs.Common.{◌≡◌, ℕ, ◌+◌, ◌-◌, ◌^◌, ◌<◌, ◌≤◌, min, ◌==◌, Bool, true, false, List, []}
 use Rattle.std.proofs.Common.{◌∷◌, ◌++◌, length, take, drop, refl, sym, ap, ap₂, ◌∙◌, arith, append_assoc, true≢false}
-use Rattle.std.proofs.lemmas.List.{drop-append-le, drop-take, length-append, length-drop, length-take-le}
-use Rattle.std.proofs.lemmas.List.{take-append-drop, take_all}
+use Rattle.std.proofs.lemmas.List.{drop-append-le, drop-take, length-append}
 use Rattle.std.proofs.Math.Seq.{drop-append_seam}
 use Rattle.std.specs.Prelude.{Some, None, if◌then◌else◌, ◌||◌}
 use Rattle.std.specs.List.{list_any, position_or_len}
@@ -15,7 +14,7 @@ use Rattle.ans_sauce.proofs.ContentLemmas.{after_marked, after_one}
 use Rattle.ans_sauce.proofs.LaidParts.{laid_body, laid_front, laid_has_record, laid_record}
 use Rattle.ans_sauce.proofs.RecordLemmas.{content_within, front_shorter, record_length, recorded_long}
 use Rattle.ans_sauce.proofs.ResizedFiles.{its_length}
-use Rattle.ans_sauce.specs.Fields.{four_bytes, with_file_size}
+use Rattle.ans_sauce.specs.Fields.{with_file_size}
 use Rattle.ans_sauce.specs.Contents.{content_in}
 use Rattle.ans_redraw.specs.Form.{form_bytes}
 use Rattle.ans_redraw.specs.RedrawnFile.{block_in, marked_end, redrawn_file}
