@@ -5,10 +5,10 @@ use Rattle.ans_model.specs.Verdict.Good.{Picture, GoodWith}
 use Rattle.ans_sauce.specs.declared.parts.Parts.{Parts}
 use Rattle.ans_sauce.specs.Parts.{content_of, size_of}
 use Rattle.ans_sauce.specs.Split.{IsSplit}
-use Rattle.ans_redraw_file.specs.RedrawnFile.{IsRedrawnWith, IsTooLong, redrawn_file}
-use Rattle.ans_redraw_file.specs.declared.outcome.Redrawn.{Redrawn}
-use Rattle.ans_redraw_file.specs.declared.outcome.Unredrawn.{Unredrawn}
-use Rattle.ans_redraw_file.specs.Redrawing.{IsReasonNot, IsRedrawn, TellsRedrawn}
+use Rattle.ans_redraw.specs.RedrawnFile.{IsRedrawnWith, IsTooLong, redrawn_file}
+use Rattle.ans_redraw.specs.declared.outcome.Redrawn.{Redrawn}
+use Rattle.ans_redraw.specs.declared.outcome.Unredrawn.{Unredrawn}
+use Rattle.ans_redraw.specs.Redrawing.{IsReasonNot, IsRedrawn, TellsRedrawn}
 use Rattle.ans_verdict.proofs.VerdictLemmas.{passes}
 use Rattle.ans_c.specs.Told.{HoldsRedrawn, whole_of}
 

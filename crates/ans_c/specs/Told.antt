@@ -13,15 +13,15 @@ use Rattle.ans_mend.specs.MendedText.{mended_text, unmended_text}
 use Rattle.ans_model.specs.Screen.Beginning.{mending}
 use Rattle.ans_mend.specs.declared.outcome.Mended.{Mended}
 use Rattle.ans_mend.specs.declared.outcome.Unmended.{Unmended}
-use Rattle.ans_redraw_file.specs.RedrawnText.{redrawn_text, unredrawn_text}
-use Rattle.ans_redraw_file.specs.declared.outcome.Redrawn.{Redrawn}
-use Rattle.ans_redraw_file.specs.declared.outcome.Unredrawn.{Unredrawn}
+use Rattle.ans_redraw.specs.RedrawnText.{redrawn_text, unredrawn_text}
+use Rattle.ans_redraw.specs.declared.outcome.Redrawn.{Redrawn}
+use Rattle.ans_redraw.specs.declared.outcome.Unredrawn.{Unredrawn}
 use Rattle.ans_model.specs.declared.mends.Mends.{Mends}
 use Rattle.ans_verdict.specs.FileNeeds.{NeedsClass}
 use Rattle.ans_verdict.specs.FileVerdict.{Deserves, Passes, IsRefusedFor, IsGoodFile}
 use Rattle.ans_verdict.specs.LentScreen.{HasScreen}
 use Rattle.ans_mend.specs.MendingRoom.{LacksScreenInTheEnd, most_put}
-use Rattle.ans_redraw_file.specs.Redrawing.{IsReasonNot, IsRedrawn, TellsRedrawn}
+use Rattle.ans_redraw.specs.Redrawing.{IsReasonNot, IsRedrawn, TellsRedrawn}
 use Rattle.ans_mend.specs.Mending.{TellsMended}
 use Rattle.ans_c.specs.Numbers.{IsSizeOf, TellsFault, class_of}
 use Rattle.ans_c.specs.declared.numbers.PictureSize.{PictureSize}

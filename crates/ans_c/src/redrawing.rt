@@ -2,7 +2,7 @@
 
 ghost use Rattle.std.specs.Prelude.{◌≡◌, ◌≢◌, ◌↔◌, ◌⊎◌, ◌+◌, ◌<◌, ◌≤◌, IfErr, IfOk, IfSome, IsNone, length, take};
 ghost use Rattle.ans_model.specs.Bytes.{longest_file};
-ghost use Rattle.ans_redraw_file.specs.RedrawnFile.{IsRedrawnWith, IsTooLong, redrawn_file};
+ghost use Rattle.ans_redraw.specs.RedrawnFile.{IsRedrawnWith, IsTooLong, redrawn_file};
 ghost use Rattle.ans_sauce.specs.Parts.{lines_of, width_of};
 ghost use Rattle.ans_sauce.specs.Split.{IsSplit};
 ghost use Rattle.ans_write.specs.Puts.{Puts};
@@ -14,9 +14,7 @@ use crate::texts::{Nowhere, hand_over};
 use ans_model::limits::MAX_FILE;
 use ans_model::start::Start;
 use ans_play::Picture;
-use ans_redraw_file::{
-    Redrawn, Unredrawn, copy_redrawn_file, put_redrawn, put_unredrawn, redrawn_with,
-};
+use ans_redraw::{Redrawn, Unredrawn, copy_redrawn_file, put_redrawn, put_unredrawn, redrawn_with};
 use ans_sauce::{Parts, split};
 use ans_screen::{HalfCell, LentGrid, LentRow, Screen};
 use ans_verdict::play_on;

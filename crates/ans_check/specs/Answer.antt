@@ -5,7 +5,7 @@ use Rattle.std.specs.List.{list_any}
 use Rattle.std.specs.Str.{bytes_eq}
 use Rattle.clap.specs.Words.{Text}
 use Rattle.ans_mend.specs.MendedText.{mended_text, unmended_text}
-use Rattle.ans_redraw_file.specs.RedrawnText.{redrawn_text, unredrawn_text}
+use Rattle.ans_redraw.specs.RedrawnText.{redrawn_text, unredrawn_text}
 use Rattle.ans_options.specs.CommandLine.{HasKindAmong, IsAskedBy, RanOutOfMemory, faults_of}
 use Rattle.ans_options.specs.Topics.{topic_of}
 use Rattle.ans_options.specs.declared.command.Asked.{Asked}
@@ -27,7 +27,7 @@ use Rattle.ans_write.specs.declared.tried.Tried.{Tried}
 use Rattle.ans_check.specs.CommandText.{Reports}
 use Rattle.ans_check.specs.Ending.{ending_message, ending_of_mending, ending_of_redrawing, ending_of_words}
 use Rattle.ans_check.specs.Listing.{IsListing, was_read_whole, names_in, listed_bytes}
-use Rattle.ans_redraw_file.specs.Redrawing.{TellsRedrawn}
+use Rattle.ans_redraw.specs.Redrawing.{TellsRedrawn}
 use Rattle.ans_check.specs.Served.{ServesAs}
 use Rattle.ans_mend.specs.Mending.{TellsMended}
 use Rattle.ans_check.specs.Table.{WritesTable, header, IsFoundByName}

@@ -5,8 +5,8 @@ use Rattle.clap.specs.declared.error.ErrorKind.{ErrorKind}
 use Rattle.clap.specs.declared.error.ErrorKind.TheVariants.{DisplayHelp, DisplayVersion, OutOfMemory}
 use Rattle.ans_mend.specs.declared.outcome.Mended as outcome
 use Rattle.ans_mend.specs.declared.outcome.Unmended.{Unmended}
-use Rattle.ans_redraw_file.specs.declared.outcome.Redrawn as redrawing
-use Rattle.ans_redraw_file.specs.declared.outcome.Unredrawn.{Unredrawn}
+use Rattle.ans_redraw.specs.declared.outcome.Redrawn as redrawing
+use Rattle.ans_redraw.specs.declared.outcome.Unredrawn.{Unredrawn}
 use Rattle.ans_model.specs.declared.mends.Mends.{Mends}
 use Rattle.ans_options.specs.declared.command_line.WordsError.{WordsError}
 use Rattle.ans_options.specs.declared.command_line.WordsError.TheVariants as words_error

@@ -24,7 +24,7 @@ use crate::rows::table;
 use crate::task::{Task, serve_task};
 use ans_mend::{put_mended, put_unmended};
 use ans_options::{Asked, TableForm, Topic, WordsError, asked};
-use ans_redraw_file::{put_redrawn, put_unredrawn};
+use ans_redraw::{put_redrawn, put_unredrawn};
 use ans_report::{Tried, fault_meaning, note_meaning, put_message};
 use ans_table::{Counts, put_counts};
 use ans_write::Outbox;

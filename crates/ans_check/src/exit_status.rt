@@ -8,7 +8,7 @@ ghost use Rattle.ans_check.specs.Run.{status_of};
 use crate::errors::RunError;
 use ans_mend::{Mended, Unmended};
 use ans_options::{Mends, WordsError};
-use ans_redraw_file::{Redrawn, Unredrawn};
+use ans_redraw::{Redrawn, Unredrawn};
 use ans_table::{Counts, Unread};
 use clap::error::ErrorKind;
 

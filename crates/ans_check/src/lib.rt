@@ -33,7 +33,7 @@ pub use ans_model::start::Start;
 pub use ans_options::{
     Asked, Command, Form, Mends, Options, TableForm, Topic, WordsError, asked, options,
 };
-pub use ans_redraw_file::{Redrawn, Unredrawn};
+pub use ans_redraw::{Redrawn, Unredrawn};
 pub use ans_report::Needs;
 pub use ans_sauce::Judged;
 pub use ans_table::{

@@ -6,7 +6,7 @@ ghost use Rattle.ans_model.specs.Screen.StartClass.{all_known};
 ghost use Rattle.ans_model.specs.Verdict.Good.{GoodWith};
 ghost use Rattle.ans_sauce.specs.Parts.{content_of, size_of};
 ghost use Rattle.ans_sauce.specs.Split.{IsSplit};
-ghost use Rattle.ans_redraw_file.specs.Redrawing.{TellsRedrawn};
+ghost use Rattle.ans_redraw.specs.Redrawing.{TellsRedrawn};
 ghost use Rattle.ans_check.specs.Ending.{ending_of_redrawing};
 ghost use Rattle.ans_check.specs.Reported.{PutsTold};
 
@@ -15,7 +15,7 @@ use crate::exit_status::Ending;
 use crate::task::Task;
 use ans_model::start::Start;
 use ans_play::Picture;
-use ans_redraw_file::{Redrawn, Unredrawn, put_redrawn_file, redrawn_with};
+use ans_redraw::{Redrawn, Unredrawn, put_redrawn_file, redrawn_with};
 use ans_sauce::Parts;
 use ans_screen::{PlaneGrid, Screen};
 use ans_verdict::{Verdict, check};

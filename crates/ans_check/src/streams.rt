@@ -2,7 +2,7 @@
 
 ghost use Rattle.std.specs.Prelude.{◌≡◌, false};
 ghost use Rattle.ans_write.specs.Tried.{has_failed};
-ghost use Rattle.ans_redraw_file.specs.Redrawing.{TellsRedrawn};
+ghost use Rattle.ans_redraw.specs.Redrawing.{TellsRedrawn};
 ghost use Rattle.ans_check.specs.Served.{Serves, ServesAs};
 ghost use Rattle.ans_mend.specs.Mending.{TellsMended};
 
@@ -11,7 +11,7 @@ use crate::redraw_file::Redrawing;
 use crate::task::serve_task;
 use ans_mend::{Mended, Unmended};
 use ans_options::{Mends, Options};
-use ans_redraw_file::{Redrawn, Unredrawn};
+use ans_redraw::{Redrawn, Unredrawn};
 use ans_report::Tried;
 use std::alloc::Global;
 use std::io::{Read, Write};

@@ -14,7 +14,7 @@ use Rattle.ans_model.specs.File.Refusals.{has_record}
 use Rattle.ans_sauce.specs.Found.{body_in, front_in, record_in}
 use Rattle.ans_forms.specs.declared.kinds.Before.{Before}
 use Rattle.ans_forms.specs.declared.kinds.TheConstants.Before as before
-use Rattle.ans_mend.specs.Contents.{content_in, with_content}
+use Rattle.ans_sauce.specs.Contents.{content_in, with_content}
 use Rattle.ans_sauce.specs.Fields.{two_bytes, with_lines, with_record}
 use Rattle.ans_mend.specs.LineEnds.{wants_returns, with_line_ends, with_returns}
 use Rattle.ans_mend.specs.MendedText.{mended_text}

@@ -5,7 +5,8 @@ use Rattle.ans_model.specs.Bytes.{IsByte}
 use Rattle.ans_model.specs.declared.fault.Cause.{Cause}
 use Rattle.ans_model.specs.declared.fault.Cause.TheVariants as cause
 use Rattle.ans_walks.specs.declared.times.Times.{Times}
-use Rattle.ans_mend.specs.MendedText.{end_mark_line, flag_line, front_line, help_text, mended_text, record_line}
+use Rattle.ans_report.specs.Changes.{end_mark_line}
+use Rattle.ans_mend.specs.MendedText.{flag_line, front_line, help_text, mended_text, record_line}
 use Rattle.ans_mend.specs.MendedText.{tail_line, taken_line, times_line, unmended_text}
 use Rattle.ans_mend.specs.declared.outcome.Mended.{Mended}
 use Rattle.ans_mend.specs.declared.outcome.Unmended.{Unmended}

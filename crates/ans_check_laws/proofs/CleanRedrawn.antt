@@ -1,9 +1,9 @@
 -- What redrawing says is clean.
-use Rattle.ans_mend.specs.MendedText.{end_mark_line}
-use Rattle.ans_redraw_file.specs.RedrawnText.{redrawn_text, unredrawn_text}
-use Rattle.ans_redraw_file.specs.declared.outcome.Redrawn.{Redrawn}
-use Rattle.ans_redraw_file.specs.declared.outcome.Unredrawn.{Unredrawn}
-use Rattle.ans_redraw_file.specs.declared.outcome.Unredrawn.TheVariants as unredrawn
+use Rattle.ans_report.specs.Changes.{end_mark_line}
+use Rattle.ans_redraw.specs.RedrawnText.{redrawn_text, unredrawn_text}
+use Rattle.ans_redraw.specs.declared.outcome.Redrawn.{Redrawn}
+use Rattle.ans_redraw.specs.declared.outcome.Unredrawn.{Unredrawn}
+use Rattle.ans_redraw.specs.declared.outcome.Unredrawn.TheVariants as unredrawn
 use Rattle.ans_check_laws.specs.CleanTexts.{IsCleanText}
 use Rattle.ans_check_laws.proofs.CleanLines.{clean_lines}
 use Rattle.ans_check_laws.proofs.CleanPieces.{clean_option}

@@ -13,63 +13,17 @@ use Rattle.ans_model.specs.File.Layout.{after_content, content, is_end_mark}
 use Rattle.ans_model.specs.File.Record.{comment_count, number}
 use Rattle.ans_model.specs.File.Refusals.{block_size, has_record}
 use Rattle.ans_sauce.specs.Found.{body_in, front_in, record_in}
-use Rattle.ans_mend.specs.Contents.{content_in, with_content}
+use Rattle.ans_sauce.specs.Contents.{content_in, with_content}
+use Rattle.ans_sauce.proofs.ContentLemmas.{content_after, content_append, content_unmarked}
+use Rattle.ans_sauce.proofs.Overwriting.{overwritten_length}
+use Rattle.ans_sauce.proofs.RecordLemmas.{body_before, content_before, front_shorter, has_by, length_front}
+use Rattle.ans_sauce.proofs.RecordLemmas.{record_behind, record_length, recorded_id, recorded_long}
 use Rattle.ans_mend.specs.Drafts.{with_byte}
 use Rattle.ans_mend.specs.EndMark.{lacks_end_mark, with_end_mark}
 use Rattle.ans_sauce.specs.Fields.{two_bytes, with_lines, with_record}
 use Rattle.ans_mend.specs.LineEnds.{wants_returns, with_line_ends, with_returns}
 use Rattle.ans_check_laws.proofs.MarkedContents.{content_marked, unmarked}
 use Rattle.ans_check_laws.proofs.ReturnsPut.{put_unmarked, put_wants_none}
-
--- ---- fronts
-
--- a front, and what is not of it
-pub length_front : (xs : List ℕ) (n : ℕ) → length (take n xs) + (length xs - n) ≡ length xs
-length_front xs n =
-    ap (λ (v : ℕ). length (take n xs) + v) (sym (length-drop n xs)) ∙ sym (length-append (take n xs) (drop n xs))
-    ∙ ap length (take-append-drop n xs)
-
-pub front_shorter : (xs : List ℕ) (n : ℕ) → length (take n xs) ≤ length xs
-front_shorter xs n = let few = length_front xs n in omega (arith, few)
-
-pub content_before : (file : List ℕ) → length (content_in file) ≤ length (front_in file)
-content_before file =
-    let body = front_shorter (front_in file) (length (front_in file) - block_size (comment_count (record_in file))) in
-    let few = front_shorter (body_in file) (position_or_len is_end_mark (body_in file)) in
-    omega (arith, body, few)
-
--- ---- what stands behind any bytes is the record of the whole, where it is as long as one
-module _ (bytes record_bytes : List ℕ) (size : length record_bytes ≡ 128) where
-  cut_is : length (bytes ++ record_bytes) - 128 ≡ length bytes
-  cut_is =
-      let all : length (bytes ++ record_bytes) ≡ length bytes + length record_bytes =
-      length-append bytes record_bytes in
-      omega (arith, all, size)
-
-  pub record_behind : record_in (bytes ++ record_bytes) ≡ record_bytes
-  record_behind = ap (λ (v : ℕ). drop v (bytes ++ record_bytes)) cut_is ∙ drop-append_seam bytes record_bytes
-
-  pub front_before : front_in (bytes ++ record_bytes) ≡ bytes
-  front_before = ap (λ (v : ℕ). take v (bytes ++ record_bytes)) cut_is ∙ take-append_seam bytes record_bytes
-
-  pub body_before : body_in (bytes ++ record_bytes)
-      ≡ take (length bytes - block_size (comment_count record_bytes)) bytes
-  body_before =
-      ap₂ (λ (f r : List ℕ). take (length f - block_size (comment_count r)) f) front_before record_behind
-
--- ---- a file that has a record
-pub recorded_long : (file : List ℕ) → has_record file ≡ true → 128 ≤ length file
-recorded_long file has =
-    leb-true 128 (length file)
-    (and_parts (nat_le 128 (length file)) (bytes_eq (take 5 (record_in file)) (codes "SAUCE")) has).0
-
-pub recorded_id : (file : List ℕ) → has_record file ≡ true → bytes_eq (take 5 (record_in file)) (codes "SAUCE") ≡ true
-recorded_id file has =
-    (and_parts (nat_le 128 (length file)) (bytes_eq (take 5 (record_in file)) (codes "SAUCE")) has).1
-
-pub has_by : (file : List ℕ) → 128 ≤ length file → bytes_eq (take 5 (record_in file)) (codes "SAUCE") ≡ true
-    → has_record file ≡ true
-has_by file long id = ap₂ (λ (a b : Bool). a && b) (le-leb 128 (length file) long) id
 
 -- a front of what is written over behind it
 pub front_of_front : (k n : ℕ) (r behind : List ℕ) → k ≤ n → n ≤ length r → take k (take n r ++ behind) ≡ take k r
@@ -112,12 +66,10 @@ module _ (n : ℕ) (file : List ℕ) where
 
   module _ (long : 128 ≤ length file) where
     size : length r ≡ 128
-    size = length-drop (length file - 128) file ∙ omega (arith, long)
+    size = record_length file long
 
     lines_size : length (with_lines n r) ≡ 128
-    lines_size =
-        let first : length (take 98 r) ≡ 98 = length-take-le 98 r (omega (arith, size)) in
-        omega (arith, lines_length, first, size)
+    lines_size = overwritten_length 98 (two_bytes n) r (omega (arith, size)) ∙ size
 
     lines_id : take 5 (record_in with_them) ≡ take 5 r
     lines_id =
@@ -170,11 +122,6 @@ module _ (file : List ℕ) where
 
     abbrev block : ℕ
     block = block_size (comment_count (record_in file))
-
-    record_size : length (record_in file) ≡ 128
-    record_size =
-        let long = recorded_long file has in
-        length-drop (length file - 128) file ∙ omega (arith, long)
 
     abbrev marked_front : List ℕ
     marked_front = take place front ++ end_mark ∷ drop place front
@@ -230,7 +177,7 @@ module _ (file : List ℕ) where
         go : (lacks : Bool) → lacks_end_mark file ≡ lacks → content_in (marked_if lacks) ≡ content_in file
         go true is =
             ap content_in marked_whole
-            ∙ ap content (body_before marked_front (record_in file) record_size)
+            ∙ ap content (body_before marked_front (record_in file) (record_length file (recorded_long file has)))
             ∙ marked_body (unmarked (has_record file) (list_any is_end_mark (body_in file)) is)
         go false is = refl
 
@@ -238,68 +185,10 @@ module _ (file : List ℕ) where
     mark_record = go (lacks_end_mark file)
       where
         go : (lacks : Bool) → record_in (marked_if lacks) ≡ record_in file
-        go true = ap record_in marked_whole ∙ record_behind marked_front (record_in file) record_size
+        go true = ap record_in marked_whole ∙ record_behind marked_front (record_in file) (record_length file (recorded_long file has))
         go false = refl
 
 -- ---- returns
-
-pub content_unmarked : (body : List ℕ) → list_any is_end_mark (content body) ≡ false
-content_unmarked [] = refl
-content_unmarked (b ∷ body) = go (is_end_mark b) refl (content_unmarked body)
-  where
-    one_and : (n : ℕ) → 1 + n ≡ suc n
-    one_and n = omega arith
-
-    one_more : (n : ℕ) → take (1 + n) (b ∷ body) ≡ b ∷ take n body
-    one_more n = ap (λ (v : ℕ). take v (b ∷ body)) (one_and n)
-
-    go : (marked : Bool) → is_end_mark b ≡ marked → list_any is_end_mark (content body) ≡ false
-        → list_any is_end_mark (content (b ∷ body)) ≡ false
-    go true is more = rw is refl
-    go false is more =
-        rw is (ap (list_any is_end_mark) (one_more (position_or_len is_end_mark body))
-        ∙ (rw is more))
-
--- behind the content stands an end mark, or nothing
-content_after : (body : List ℕ) → content (after_content body) ≡ []
-content_after [] = refl
-content_after (b ∷ body) = go (is_end_mark b) refl (content_after body)
-  where
-    one_and : (n : ℕ) → 1 + n ≡ suc n
-    one_and n = omega arith
-
-    ends : is_end_mark b ≡ true → content (b ∷ body) ≡ []
-    ends is = rw is refl
-
-    goes_on : is_end_mark b ≡ false → content (b ∷ body) ≡ b ∷ content body
-    goes_on is = rw is (ap (λ (v : ℕ). take v (b ∷ body)) (one_and (position_or_len is_end_mark body)))
-
-    go : (marked : Bool) → is_end_mark b ≡ marked → content (after_content body) ≡ []
-        → content (after_content (b ∷ body)) ≡ []
-    go true is more = ap (λ (v : List ℕ). content (drop (length v) (b ∷ body))) (ends is) ∙ ends is
-    go false is more = ap (λ (v : List ℕ). content (drop (length v) (b ∷ body))) (goes_on is) ∙ more
-
--- bytes without an end mark in front of a body
-content_behind : (bytes body : List ℕ) → list_any is_end_mark bytes ≡ false
-    → content (bytes ++ body) ≡ bytes ++ content body
-content_behind [] body none = refl
-content_behind (b ∷ bytes) body none = go (is_end_mark b) refl (content_behind bytes body)
-  where
-    one_and : (n : ℕ) → 1 + n ≡ suc n
-    one_and n = omega arith
-
-    one_more : (n : ℕ) → take (1 + n) (b ∷ (bytes ++ body)) ≡ b ∷ take n (bytes ++ body)
-    one_more n = ap (λ (v : ℕ). take v (b ∷ (bytes ++ body))) (one_and n)
-
-    go : (marked : Bool) → is_end_mark b ≡ marked
-        → (list_any is_end_mark bytes ≡ false → content (bytes ++ body) ≡ bytes ++ content body)
-        → content (b ∷ (bytes ++ body)) ≡ b ∷ (bytes ++ content body)
-    go true is more = absurd (true≢false (rw is at none))
-    go false is more =
-        let behind : list_any is_end_mark bytes ≡ false = rw is at none in
-        let tail : b ∷ content (bytes ++ body) ≡ b ∷ (bytes ++ content body) =
-        ap (λ (v : List ℕ). b ∷ v) (more behind) in
-        rw is (one_more (position_or_len is_end_mark (bytes ++ body)) ∙ tail)
 
 module _ (file : List ℕ) (has : has_record file ≡ true) where
   abbrev c : List ℕ
@@ -333,8 +222,7 @@ module _ (file : List ℕ) (has : has_record file ≡ true) where
     new_body : body_in (with_content new file)
         ≡ new ++ take (length before - length c - comments) (drop (length c) before)
     new_body =
-        let long = recorded_long file has in
-        let size : length (record_in file) ≡ 128 = length-drop (length file - 128) file ∙ omega (arith, long) in
+        let size : length (record_in file) ≡ 128 = record_length file (recorded_long file has) in
         let few = front_shorter (body_in file) (position_or_len is_end_mark (body_in file)) in
         let body = body_size in
         let at : length new_front - comments ≡ length new + (length before - length c - comments) =
@@ -356,7 +244,7 @@ module _ (file : List ℕ) (has : has_record file ≡ true) where
     some_put : content_in (with_content new file) ≡ new
     some_put =
         let rest : List ℕ = take (length before - length c - comments) (drop (length c) before) in
-        ap content new_body ∙ content_behind new rest unmarked
+        ap content new_body ∙ content_append new rest unmarked
         ∙ ap (λ (v : List ℕ). new ++ v) (ap content same_rest ∙ content_after (body_in file)) ∙ append-nil new
 
   -- bytes in the place of a content are the content then
@@ -378,14 +266,12 @@ module _ (file : List ℕ) (has : has_record file ≡ true) where
   -- and the record stays, whatever is put
   pub record_stays : (new : List ℕ) → record_in (with_content new file) ≡ record_in file
   record_stays new =
-      let long = recorded_long file has in
       let front : List ℕ = new ++ drop (length c) before in
       let whole : with_content new file ≡ front ++ record_in file =
       ap (λ (v : List ℕ). new ++ drop (length c) v) (sym (take-append-drop (length file - 128) file))
       ∙ ap (λ (v : List ℕ). new ++ v) (drop-append-le (length c) before (record_in file) (content_before file))
       ∙ sym (append_assoc new (drop (length c) before) (record_in file)) in
-      ap record_in whole
-      ∙ record_behind front (record_in file) (length-drop (length file - 128) file ∙ omega (arith, long))
+      ap record_in whole ∙ record_behind front (record_in file) (record_length file (recorded_long file has))
 
   put_wanted : wants_returns c ≡ true → wants_returns (content_in (with_content (with_returns c) file)) ≡ false
   put_wanted wants =

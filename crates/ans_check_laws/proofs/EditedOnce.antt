@@ -22,7 +22,7 @@ use Rattle.ans_mend.specs.LastEnds.{LeavesMost}
 use Rattle.ans_walks.specs.Lines.{IsLeastLines}
 use Rattle.ans_walks.specs.declared.hints.Hints.{Hints}
 use Rattle.ans_walks.specs.declared.times.Times.{Times}
-use Rattle.ans_mend.specs.Contents.{content_in, with_content}
+use Rattle.ans_sauce.specs.Contents.{content_in, with_content}
 use Rattle.ans_mend.specs.FullRows.{AreRowEndsOut, HasFullRows}
 use Rattle.ans_mend.specs.LastEnds.{AreLastEndsOut, HasFewerEnds}
 use Rattle.ans_mend.specs.NamedColours.{AreColoursNamed, HasNamedColours, named_content}

@@ -10,7 +10,7 @@ use Rattle.ans_model.specs.File.Record.{comment_count}
 use Rattle.ans_model.specs.File.Refusals.{has_record}
 use Rattle.ans_sauce.specs.Found.{body_in, record_in}
 use Rattle.ans_sauce.proofs.LaidParts.{laid_body, laid_record, laid_has_record}
-use Rattle.ans_mend.specs.Contents.{content_in}
+use Rattle.ans_sauce.specs.Contents.{content_in}
 use Rattle.ans_mend.specs.Drafts.{with_byte}
 use Rattle.ans_mend.specs.EndMark.{lacks_end_mark, with_end_mark}
 

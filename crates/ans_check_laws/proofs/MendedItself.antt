@@ -14,7 +14,7 @@ use Rattle.ans_sauce.proofs.LaidParts.{laid_record}
 use Rattle.ans_play_laws.proofs.OneEnd.{one_picture}
 use Rattle.ans_sauce.specs.Fields.{with_file_size}
 use Rattle.ans_sauce.proofs.ResizedFiles.{resized_accepted, resized_size}
-use Rattle.ans_mend.specs.Contents.{content_in}
+use Rattle.ans_sauce.specs.Contents.{content_in}
 use Rattle.ans_mend.specs.EndMark.{with_end_mark}
 use Rattle.ans_sauce.specs.Fields.{with_lines, with_record}
 use Rattle.ans_mend.specs.declared.outcome.Edits.{Edits}
@@ -25,7 +25,7 @@ use Rattle.ans_verdict.specs.FileVerdict.{Passes}
 use Rattle.ans_mend.specs.Mending.{AreLinesFor, IsEdited, IsEditedAsStated, IsMended, TakesLines, front_bytes}
 use Rattle.ans_mend.specs.Mending.{lacks_lines, lined, opened}
 use Rattle.ans_check_laws.proofs.WholeFiles.{nothing_cut}
-use Rattle.ans_check_laws.proofs.CutFiles.{record_behind}
+use Rattle.ans_sauce.proofs.RecordLemmas.{record_behind}
 use Rattle.ans_check_laws.proofs.MarkedContents.{marked_content, marked_record}
 
 -- ---- nothing is asked for

@@ -16,7 +16,7 @@ use Rattle.ans_sauce.proofs.LaidParts.{laid_record}
 use Rattle.ans_model.specs.Screen.Beginning.{mending}
 use Rattle.ans_sauce.specs.Fields.{with_file_size}
 use Rattle.ans_sauce.proofs.ResizedFiles.{resized_accepted, resized_size}
-use Rattle.ans_mend.specs.Contents.{content_in}
+use Rattle.ans_sauce.specs.Contents.{content_in}
 use Rattle.ans_mend.specs.EndMark.{with_end_mark}
 use Rattle.ans_mend.specs.declared.outcome.Mended.{Mended}
 use Rattle.ans_mend.specs.declared.outcome.Unmended.{Unmended}

@@ -6,10 +6,10 @@ use Rattle.ans_model.specs.Screen.StartClass.{all_known, none_known}
 use Rattle.ans_model.proofs.ClassLemmas.{covers_good, none_known_covers}
 use Rattle.ans_mend.specs.declared.outcome.Mended.{Mended}
 use Rattle.ans_model.specs.declared.mends.Mends.{Mends}
-use Rattle.ans_redraw_file.specs.RedrawnFile.{IsTooLong}
-use Rattle.ans_redraw_file.specs.declared.outcome.Unredrawn.{Unredrawn}
+use Rattle.ans_redraw.specs.RedrawnFile.{IsTooLong}
+use Rattle.ans_redraw.specs.declared.outcome.Unredrawn.{Unredrawn}
 use Rattle.ans_mend.specs.Mending.{IsMended, front_bytes}
-use Rattle.ans_redraw_file.specs.Redrawing.{IsReasonNot}
+use Rattle.ans_redraw.specs.Redrawing.{IsReasonNot}
 use Rattle.ans_check_laws.proofs.UnredrawnFiles.{only_length}
 
 -- it passes from every start, so from the cleared one

@@ -17,12 +17,15 @@ use Rattle.ans_players.specs.Situations.{spelled}
 use Rattle.ans_sauce.specs.Found.{body_in, front_in, record_in}
 use Rattle.ans_sauce.proofs.LaidParts.{laid_body, laid_record}
 use Rattle.ans_sauce.specs.Fields.{four_bytes, with_file_size}
-use Rattle.ans_sauce.proofs.ResizedFiles.{resized_again, resized_file_size}
+use Rattle.ans_sauce.proofs.ResizedFiles.{its_length, resized_again, resized_file_size}
+use Rattle.ans_sauce.proofs.ContentLemmas.{content_unmarked}
+use Rattle.ans_sauce.proofs.RecordLemmas.{content_before, front_shorter, has_by, length_front, record_behind}
+use Rattle.ans_sauce.proofs.RecordLemmas.{record_length}
 use Rattle.ans_model.specs.Screen.Beginning.{mending}
 use Rattle.ans_walks.specs.declared.times.Times.{Times}
 use Rattle.ans_walks.specs.SaidOfPlayers.{IsSameWhereCleared}
 use Rattle.ans_walks.proofs.NamedPlayers.{mended_is_same_where_cleared}
-use Rattle.ans_mend.specs.Contents.{content_in, with_content}
+use Rattle.ans_sauce.specs.Contents.{content_in, with_content}
 use Rattle.ans_mend.specs.EndMark.{with_end_mark}
 use Rattle.ans_mend.specs.LineEnds.{wants_returns, with_line_ends, with_returns}
 use Rattle.ans_mend.specs.NamedColours.{AreColoursNamed, HasNamedColours, NamesColours, begins_unnamed, named_content}
@@ -33,9 +36,8 @@ use Rattle.ans_mend.specs.Mending.{lined, opened}
 use Rattle.ans_names_laws.specs.NameLaws.{NeverOwn, NoneOwnIsLeft}
 use Rattle.ans_check_laws.proofs.WholeFiles.{accepted_long}
 use Rattle.ans_check_laws.proofs.MarkedContents.{marked_stays}
-use Rattle.ans_check_laws.proofs.CutFiles.{front_shorter, content_before, front_of_front, has_by, length_front}
-use Rattle.ans_check_laws.proofs.CutFiles.{lines_had, lines_kept, mark_had, mark_kept, mark_record, record_behind}
-use Rattle.ans_check_laws.proofs.CutFiles.{content_put, content_unmarked, record_stays, returned_wants_none}
+use Rattle.ans_check_laws.proofs.CutFiles.{front_of_front, lines_had, lines_kept, mark_had, mark_kept, mark_record}
+use Rattle.ans_check_laws.proofs.CutFiles.{content_put, record_stays, returned_wants_none}
 use Rattle.ans_check_laws.proofs.MendedAgain.{off, on, opened_stays, settled_stays}
 use Rattle.ans_check_laws.proofs.MendedItself.{same_size, settled_content}
 use Rattle.ans_check_laws.proofs.NamedAgain.{NamingLaws, begins_named, named_again, own_gone}
@@ -123,16 +125,11 @@ module _ (mends : Mends) (file : List ℕ) (mended : Mended) (draft : List ℕ) 
       too_short a b r s d short same first last all long = omega (arith, short, same, first, last, all, long)
 
   record_size : length (record_in h.settled) ≡ 128
-  record_size = length-drop (length h.settled - 128) h.settled ∙ omega (arith, settled_long)
+  record_size = record_length h.settled settled_long
 
   -- its record states the FileSize
   resized_size : length resized ≡ 128
-  resized_size =
-      let r : List ℕ = record_in h.settled in
-      let sum = resized_length size r in
-      let first = length_front r 90 in
-      let last : length (drop 94 r) ≡ length r - 94 = length-drop 94 r in
-      omega (arith, sum, first, last, record_size)
+  resized_size = its_length (record_in h.settled) record_size size
 
   pub its_record : h.apart.record_bytes ≡ resized
   its_record =

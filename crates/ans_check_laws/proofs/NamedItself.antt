@@ -13,7 +13,7 @@ use Rattle.ans_sauce.proofs.LaidParts.{laid_body, laid_record}
 use Rattle.ans_play_laws.proofs.OneEnd.{one_picture}
 use Rattle.ans_sauce.specs.Fields.{with_file_size}
 use Rattle.ans_sauce.proofs.ResizedFiles.{resized_size}
-use Rattle.ans_mend.specs.Contents.{content_in}
+use Rattle.ans_sauce.specs.Contents.{content_in}
 use Rattle.ans_mend.specs.NamedColours.{NamesColours, named_content}
 use Rattle.ans_mend.specs.declared.outcome.Edits.{Edits}
 use Rattle.ans_mend.specs.declared.outcome.Mended.{Mended}

@@ -13,7 +13,7 @@ use Rattle.ans_model.specs.Verdict.Good.{IsGood, Picture}
 use Rattle.ans_sauce.specs.Found.{body_in, record_in}
 use Rattle.ans_sauce.proofs.LaidParts.{laid_body}
 use Rattle.ans_model.specs.Screen.Beginning.{mending}
-use Rattle.ans_mend.specs.Contents.{content_in}
+use Rattle.ans_sauce.specs.Contents.{content_in}
 use Rattle.ans_mend.specs.EndMark.{lacks_end_mark, with_end_mark}
 use Rattle.ans_mend.specs.declared.outcome.Edits.{Edits}
 use Rattle.ans_mend.specs.declared.outcome.Unmended.{Unmended}

@@ -4,11 +4,11 @@ use Rattle.ans_model.specs.File.Layout.{FileParts, content}
 use Rattle.ans_model.specs.File.Record.{stated_size}
 use Rattle.ans_model.specs.Screen.StartClass.{all_known}
 use Rattle.ans_model.specs.Verdict.Good.{GoodWith}
-use Rattle.ans_redraw_file.specs.RedrawnFile.{redrawn_file}
-use Rattle.ans_redraw_file.specs.declared.outcome.Redrawn.{Redrawn}
+use Rattle.ans_redraw.specs.RedrawnFile.{redrawn_file}
+use Rattle.ans_redraw.specs.declared.outcome.Redrawn.{Redrawn}
 use Rattle.ans_picture_laws.proofs.RedrawnTwice.{once_is_enough}
-use Rattle.ans_redraw_file.specs.declared.outcome.Unredrawn.{Unredrawn}
-use Rattle.ans_redraw_file.specs.Redrawing.{IsReasonNot, IsRedrawn}
+use Rattle.ans_redraw.specs.declared.outcome.Unredrawn.{Unredrawn}
+use Rattle.ans_redraw.specs.Redrawing.{IsReasonNot, IsRedrawn}
 use Rattle.ans_check_laws.proofs.OnePicture.{same_apart}
 use Rattle.ans_check_laws.proofs.RedrawnPictures.{IsNew, is_new, new_accepts, new_parts, new_passes}
 use Rattle.ans_check_laws.proofs.UnredrawnFiles.{only_length}

@@ -11,14 +11,14 @@ use Rattle.ans_model.specs.Screen.StartClass.{all_known}
 use Rattle.ans_model.specs.Verdict.Good.{Picture}
 use Rattle.ans_model.specs.declared.start.Start.{Start}
 use Rattle.ans_sauce.proofs.LaidParts.{laid_body}
-use Rattle.ans_mend.specs.Contents.{content_in}
+use Rattle.ans_sauce.specs.Contents.{content_in}
 use Rattle.ans_picture_laws.specs.RedrawnFileLaws.{CanBeRedrawn, IsRedrawnTo, stays}
-use Rattle.ans_redraw_file.specs.RedrawnFile.{redrawn_file}
-use Rattle.ans_redraw_file.specs.declared.outcome.Redrawn.{Redrawn}
+use Rattle.ans_redraw.specs.RedrawnFile.{redrawn_file}
+use Rattle.ans_redraw.specs.declared.outcome.Redrawn.{Redrawn}
 use Rattle.ans_picture_laws.proofs.RedrawnContents.{content_tells_the_picture}
 use Rattle.ans_picture_laws.proofs.RedrawnFiles.{redrawn_files_pass}
 use Rattle.ans_verdict.specs.FileVerdict.{Passes}
-use Rattle.ans_redraw_file.specs.Redrawing.{IsRedrawn}
+use Rattle.ans_redraw.specs.Redrawing.{IsRedrawn}
 use Rattle.ans_check_laws.proofs.OnePicture.{same_picture}
 
 -- The file passes with this picture and has room for its form, and the new file is the redrawn one.

@@ -13,12 +13,12 @@ use Rattle.ans_players.specs.Players.{Behaviour, IsPlayer, IsShown}
 use Rattle.ans_players.specs.Situations.{spelled}
 use Rattle.ans_players.specs.declared.kind.Kind.{Kind}
 use Rattle.ans_picture_laws.specs.Drawable.{BytesAreAgreed}
-use Rattle.ans_redraw_file.specs.declared.outcome.Redrawn.{Redrawn}
+use Rattle.ans_redraw.specs.declared.outcome.Redrawn.{Redrawn}
 use Rattle.ans_picture_laws.proofs.RedrawnContents.{only_its_bytes_part}
 use Rattle.ans_walks.specs.SaidOfPlayers.{IsSaidOfPlayers}
 use Rattle.ans_walks.specs.declared.players.Players.TheVariants.{Any}
 use Rattle.ans_verdict.specs.FileVerdict.{Passes}
-use Rattle.ans_redraw_file.specs.Redrawing.{IsRedrawn}
+use Rattle.ans_redraw.specs.Redrawing.{IsRedrawn}
 use Rattle.ans_check_laws.proofs.OnePicture.{same_picture}
 use Rattle.ans_check_laws.proofs.PlayersShown.{none_agreed, same_is_shown}
 use Rattle.ans_check_laws.proofs.RedrawnPictures.{IsNew, is_new, new_parts, new_passes}

@@ -11,11 +11,11 @@ use Rattle.ans_model.specs.declared.fault.Fault.{Fault}
 use Rattle.ans_model.specs.declared.start.Start.{Start}
 use Rattle.ans_model.proofs.AcceptedFiles.{no_fault}
 use Rattle.ans_model.proofs.OneAnswer.{good_or_first, good_or_last}
-use Rattle.ans_redraw_file.specs.RedrawnFile.{IsTooLong}
-use Rattle.ans_redraw_file.specs.declared.outcome.Unredrawn.{Unredrawn}
-use Rattle.ans_redraw_file.specs.declared.outcome.Unredrawn.TheVariants.{Refused, TooLong}
+use Rattle.ans_redraw.specs.RedrawnFile.{IsTooLong}
+use Rattle.ans_redraw.specs.declared.outcome.Unredrawn.{Unredrawn}
+use Rattle.ans_redraw.specs.declared.outcome.Unredrawn.TheVariants.{Refused, TooLong}
 use Rattle.ans_verdict.specs.FileVerdict.{Passes}
-use Rattle.ans_redraw_file.specs.Redrawing.{IsReasonNot, IsRefusedFromCleared}
+use Rattle.ans_redraw.specs.Redrawing.{IsReasonNot, IsRefusedFromCleared}
 use Rattle.ans_check_laws.proofs.OnePicture.{same_apart, same_picture}
 
 good_deserves_none : (z : Size) (class : Start) (bytes : List ℕ) (f : Fault) → IsGood z class bytes

@@ -18,10 +18,10 @@ ghost use Rattle.ans_players.specs.declared.kind.Kind.TheVariants.{OwnColours};
 ghost use Rattle.ans_mend.specs.declared.outcome.Mended.{Mended};
 ghost use Rattle.ans_model.specs.declared.mends.Mends.{Mends};
 ghost use Rattle.ans_picture_laws.specs.Drawable.{BytesAreAgreed};
-ghost use Rattle.ans_redraw_file.specs.declared.outcome.Redrawn.{Redrawn};
+ghost use Rattle.ans_redraw.specs.declared.outcome.Redrawn.{Redrawn};
 ghost use Rattle.ans_verdict.specs.FileVerdict.{Passes};
 ghost use Rattle.ans_mend.specs.Mending.{IsMended};
-ghost use Rattle.ans_redraw_file.specs.Redrawing.{IsRedrawn};
+ghost use Rattle.ans_redraw.specs.Redrawing.{IsRedrawn};
 
 use ans_players::player::Player;
 

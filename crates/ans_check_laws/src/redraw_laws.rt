@@ -8,16 +8,16 @@ ghost use Rattle.ans_model.specs.File.Record.{stated_size};
 ghost use Rattle.ans_model.specs.Screen.StartClass.{all_known};
 ghost use Rattle.ans_model.specs.Verdict.Good.{Picture};
 ghost use Rattle.ans_model.specs.declared.start.Start.{Start};
-ghost use Rattle.ans_mend.specs.Contents.{content_in};
+ghost use Rattle.ans_sauce.specs.Contents.{content_in};
 ghost use Rattle.ans_mend.specs.declared.outcome.Mended.{Mended};
 ghost use Rattle.ans_model.specs.declared.mends.Mends.{Mends};
 ghost use Rattle.ans_picture_laws.specs.RedrawnFileLaws.{stays};
-ghost use Rattle.ans_redraw_file.specs.RedrawnFile.{IsTooLong};
-ghost use Rattle.ans_redraw_file.specs.declared.outcome.Redrawn.{Redrawn};
-ghost use Rattle.ans_redraw_file.specs.declared.outcome.Unredrawn.{Unredrawn};
+ghost use Rattle.ans_redraw.specs.RedrawnFile.{IsTooLong};
+ghost use Rattle.ans_redraw.specs.declared.outcome.Redrawn.{Redrawn};
+ghost use Rattle.ans_redraw.specs.declared.outcome.Unredrawn.{Unredrawn};
 ghost use Rattle.ans_verdict.specs.FileVerdict.{Passes};
 ghost use Rattle.ans_mend.specs.Mending.{IsMended, front_bytes};
-ghost use Rattle.ans_redraw_file.specs.Redrawing.{IsReasonNot, IsRedrawn};
+ghost use Rattle.ans_redraw.specs.Redrawing.{IsReasonNot, IsRedrawn};
 
 /// Redrawing changes no cell of a drawing. What is written passes from every start with the picture that the
 /// file shows from the cleared one. It states the same size, has the same comments, and of the notes those

@@ -1,5 +1,5 @@
 -- The content of a file is its front.
-use Rattle.std.proofs.Common.{◌≡◌, ℕ, ◌+◌, ◌-◌, ◌≤◌, List, ◌++◌, length, take, drop, ap, sym, ◌∙◌, arith, length-append}
+use Rattle.std.proofs.Common.{◌≡◌, ℕ, ◌-◌, ◌≤◌, List, ◌++◌, length, take, drop, ap, sym, ◌∙◌, arith}
 use Rattle.std.specs.List.{position_or_len}
 use Rattle.std.proofs.lemmas.List.{drop-take, length-take-le, take-append-drop, take-take}
 use Rattle.std.proofs.Math.Seq.{take-append_seam}
@@ -7,24 +7,19 @@ use Rattle.ans_model.specs.File.Layout.{is_end_mark}
 use Rattle.ans_model.specs.File.Record.{comment_count}
 use Rattle.ans_model.specs.File.Refusals.{block_size}
 use Rattle.ans_sauce.specs.Found.{body_in, front_in, record_in}
-use Rattle.ans_mend.specs.Contents.{content_in, with_content}
+use Rattle.ans_sauce.specs.Contents.{content_in, with_content}
+use Rattle.ans_sauce.proofs.RecordLemmas.{front_shorter}
 
 -- as many of the first bytes as a front has are that front
 pub front_again : (xs : List ℕ) (n : ℕ) → take (length (take n xs)) xs ≡ take n xs
 front_again xs n =
     ap (take (length (take n xs))) (sym (take-append-drop n xs)) ∙ take-append_seam (take n xs) (drop n xs)
 
-short : (xs : List ℕ) (n : ℕ) → length (take n xs) ≤ length xs
-short xs n =
-    let sum : length (take n xs) + length (drop n xs) ≡ length xs =
-    sym (length-append (take n xs) (drop n xs)) ∙ ap length (take-append-drop n xs) in
-    omega (arith, sum)
-
 -- a front of a front
 front_of_front : (xs : List ℕ) (m n : ℕ) → take (length (take m (take n xs))) xs ≡ take m (take n xs)
 front_of_front xs m n =
     let inner : List ℕ = take n xs in
-    sym (take-take (length (take m inner)) (length inner) xs (short inner m))
+    sym (take-take (length (take m inner)) (length inner) xs (front_shorter inner m))
     ∙ ap (take (length (take m inner))) (front_again xs n) ∙ front_again inner m
 
 pub content_front : (file : List ℕ) → take (length (content_in file)) file ≡ content_in file
@@ -32,16 +27,8 @@ content_front file =
     let body : List ℕ = body_in file in
     let body_front : take (length body) file ≡ body =
     front_of_front file (length (front_in file) - block_size (comment_count (record_in file))) (length file - 128) in
-    sym (take-take (length (content_in file)) (length body) file (short body (position_or_len is_end_mark body)))
+    sym (take-take (length (content_in file)) (length body) file (front_shorter body (position_or_len is_end_mark body)))
     ∙ ap (take (length (content_in file))) body_front ∙ front_again body (position_or_len is_end_mark body)
-
-pub content_within : (file : List ℕ) → 128 ≤ length file → length (content_in file) + 128 ≤ length file
-content_within file long =
-    let content_short = short (body_in file) (position_or_len is_end_mark (body_in file)) in
-    let body_short =
-    short (front_in file) (length (front_in file) - block_size (comment_count (record_in file))) in
-    let front : length (front_in file) ≡ length file - 128 = length-take-le (length file - 128) file (omega arith) in
-    omega (arith, content_short, body_short, front, long)
 
 pub same_content : (file : List ℕ) → with_content (content_in file) file ≡ file
 same_content file =
@@ -59,9 +46,9 @@ module _ (memory : List ℕ) (used : ℕ) (file : List ℕ) (within : used ≤ l
     (are : file ≡ take used memory) where
   pub content_few : length (content_in file) ≤ used
   content_few =
-      let a = short (body_in file) (position_or_len is_end_mark (body_in file)) in
-      let b = short (front_in file) (length (front_in file) - block_size (comment_count (record_in file))) in
-      let d = short file (length file - 128) in
+      let a = front_shorter (body_in file) (position_or_len is_end_mark (body_in file)) in
+      let b = front_shorter (front_in file) (length (front_in file) - block_size (comment_count (record_in file))) in
+      let d = front_shorter file (length file - 128) in
       let long : length file ≡ used = ap length are ∙ length-take-le used memory within in
       omega (arith, a, b, d, long)
 

@@ -10,7 +10,7 @@ use Rattle.ans_sauce.specs.Fields.{four_bytes, with_file_size}
 use Rattle.ans_mend.specs.Drafts.{DraftView, draft_of, memory_of, with_byte}
 use Rattle.ans_mend.specs.EndMark.{lacks_end_mark, with_end_mark}
 use Rattle.ans_sauce.specs.Fields.{two_bytes, with_record}
-use Rattle.ans_mend.proofs.SameLength.{recorded_length as same_length}
+use Rattle.ans_sauce.proofs.Overwriting.{recorded_length as same_length}
 use Rattle.ans_mend.specs.Tail.{IsTailCut}
 use Rattle.ans_model.specs.declared.mends.Mends.{Mends}
 use Rattle.ans_mend.specs.Mending.{asked_for, lined, opened, recorded}

@@ -10,7 +10,7 @@ use Rattle.ans_walks.specs.FullRowEnds.{AreEndsOver, EndsFullRows, full_row_ends
 use Rattle.ans_walks.specs.declared.full_row_ends.FullRowEnd.{FullRowEnd}
 use Rattle.ans_walks.specs.declared.row_play.RowPlay.{RowPlay}
 use Rattle.ans_walks.specs.declared.times.Times.{Times}
-use Rattle.ans_mend.specs.Contents.{content_in, with_content}
+use Rattle.ans_sauce.specs.Contents.{content_in, with_content}
 use Rattle.ans_mend.specs.FullRows.{AreRowEndsOut, HasFullRows, times_with}
 use Rattle.ans_mend.proofs.ContentFront.{behind_kept, content_bytes, same_content}
 

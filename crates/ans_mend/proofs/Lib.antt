@@ -7,8 +7,6 @@ mod MovedDown
 mod RowEndsOut
 mod ContentFront
 mod FullRowsOut
-pub mod SameLength
-mod RecordFlags
 mod SequencesOut
 mod MendedTexts
 mod FewerEnds

@@ -4,15 +4,15 @@ use Rattle.std.proofs.Common.{inl, inr, refl, sym, ap, ◌∙◌, arith, subst, 
 use Rattle.std.specs.Prelude.{if◌then◌else◌, ◌&&◌}
 use Rattle.std.specs.List.{position_or_len}
 use Rattle.std.specs.Option.{option_map_or}
-use Rattle.std.proofs.lemmas.List.{length-append, length-drop, take-append-drop}
+use Rattle.std.proofs.lemmas.List.{length-append, length-drop}
 use Rattle.std.proofs.lemmas.List.Sums.{sum_by-append, sum_by-cons, sum_by-take-le}
-use Rattle.std.proofs.Math.Seq.{take-append_seam}
 use Rattle.ans_model.specs.Bytes.{end_mark}
 use Rattle.ans_model.specs.File.Layout.{content, is_end_mark}
 use Rattle.ans_model.specs.File.Record.{comment_count}
 use Rattle.ans_model.specs.File.Refusals.{block_size, has_record}
 use Rattle.ans_sauce.specs.Found.{body_in, front_in, record_in}
-use Rattle.ans_mend.specs.Contents.{content_in, with_content}
+use Rattle.ans_sauce.specs.Contents.{content_in, with_content}
+use Rattle.ans_sauce.proofs.RecordLemmas.{front_before, front_shorter}
 use Rattle.ans_mend.specs.LineEnds.{is_line_feed, line_feeds, returned as returned_byte, wants_returns, with_line_ends}
 use Rattle.ans_mend.specs.LineEnds.{with_returns}
 use Rattle.ans_mend.specs.NewRecord.{new_record, takes_record, with_new_record}
@@ -26,14 +26,8 @@ use Rattle.ans_mend.specs.MendingRoom.{most_returns}
 front_feeds : (n : ℕ) (bytes : List ℕ) → line_feeds (take n bytes) ≤ line_feeds bytes
 front_feeds n bytes = sum_by-take-le (λ (b : ℕ). if is_line_feed b then 1 else 0) bytes n
 
-front_short : (n : ℕ) (bytes : List ℕ) → length (take n bytes) ≤ length bytes
-front_short n bytes =
-    let sum : length (take n bytes) + length (drop n bytes) ≡ length bytes =
-    sym (length-append (take n bytes) (drop n bytes)) ∙ ap length (take-append-drop n bytes) in
-    omega (arith, sum)
-
 pub content_short : (bytes : List ℕ) → length (content bytes) ≤ length bytes
-content_short bytes = front_short (position_or_len is_end_mark bytes) bytes
+content_short bytes = front_shorter bytes (position_or_len is_end_mark bytes)
 
 content_feeds : (bytes : List ℕ) → line_feeds (content bytes) ≤ line_feeds bytes
 content_feeds bytes = front_feeds (position_or_len is_end_mark bytes) bytes
@@ -47,8 +41,8 @@ content_in_feeds file =
 content_in_short : (file : List ℕ) → length (content_in file) ≤ length file
 content_in_short file =
     let inner = content_short (body_in file) in
-    let body = front_short (length (front_in file) - block_size (comment_count (record_in file))) (front_in file) in
-    let front = front_short (length file - 128) file in
+    let body = front_shorter (front_in file) (length (front_in file) - block_size (comment_count (record_in file))) in
+    let front = front_shorter file (length file - 128) in
     omega (arith, inner, body, front)
 
 -- ---- returns
@@ -100,15 +94,6 @@ line_ends_length file = go (has_record file && wants_returns (content_in file))
         let few = content_in_feeds file in
         let short = content_in_short file in
         omega (arith, all, behind, grown, few, short)
-
--- ---- a record of 128 bytes
-
-pub front_before : (front record_bytes : List ℕ) → length record_bytes ≡ 128
-    → front_in (front ++ record_bytes) ≡ front
-front_before front record_bytes long =
-    let all = length-append front record_bytes in
-    let count : length (front ++ record_bytes) - 128 ≡ length front = omega (arith, all, long) in
-    ap (λ (n : ℕ). take n (front ++ record_bytes)) count ∙ take-append_seam front record_bytes
 
 new_record_length : (width : ℕ) → length (new_record width) ≡ 128
 new_record_length width = refl

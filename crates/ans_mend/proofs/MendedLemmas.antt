@@ -1,11 +1,11 @@
 -- A file that is mended passes from every start.
 use Rattle.std.proofs.Common.{◌≡◌, inl, inr, ℕ, ◌+◌, ◌-◌, ◌≤◌, ◌==◌, Bool, true, false, List, ◌++◌}
-use Rattle.std.proofs.Common.{length, take, refl, sym, ap, ap₂, ◌∙◌, arith, subst, subst₂}
-use Rattle.std.proofs.Common.{append_assoc, true≢false, Result, Ok, Err}
-use Rattle.std.specs.Prelude.{if◌then◌else◌, ◌&&◌, ◌||◌, IfOk, IfErr, nat_le, bytes_eq, codes, Option, None, Some}
+use Rattle.std.proofs.Common.{length, refl, sym, ap, ap₂, ◌∙◌, arith, subst, subst₂}
+use Rattle.std.proofs.Common.{append_assoc, Result, Ok, Err}
+use Rattle.std.specs.Prelude.{if◌then◌else◌, ◌&&◌, ◌||◌, IfOk, IfErr, Option, None, Some}
 use Rattle.std.specs.Prelude.{is_some, option_and_then}
 use Rattle.std.specs.List.{list_any}
-use Rattle.std.proofs.lemmas.Bool.{eqb-true, leb-true}
+use Rattle.std.proofs.lemmas.Bool.{and_parts, eqb-true}
 use Rattle.std.proofs.lemmas.List.{length-append, length-drop, length-take-le}
 use Rattle.std.proofs.lemmas.List.Folds.{list_any-append}
 use Rattle.ans_model.specs.Bytes.{most_lines}
@@ -17,20 +17,21 @@ use Rattle.ans_model.specs.Screen.StartClass.{all_known, none_known}
 use Rattle.ans_model.specs.Verdict.Good.{Picture, GoodWith, IsGood}
 use Rattle.ans_model.proofs.ClassLemmas.{covers_all_known, covers_good}
 use Rattle.ans_sauce.specs.Found.{front_in, record_in}
+use Rattle.ans_sauce.proofs.Overwriting.{overwritten_length, recorded_length}
+use Rattle.ans_sauce.proofs.RecordLemmas.{front_before, recorded_long}
 use Rattle.ans_sauce.proofs.LaidParts.{laid_body, laid_front, laid_has_record, laid_lengths, laid_record}
 use Rattle.ans_sauce.specs.Fields.{resized_parts, with_file_size}
 use Rattle.ans_walks.proofs.Mended.{makes_good}
 use Rattle.ans_sauce.proofs.ResizedFiles.{resized_accepted, resized_comments, resized_content, resized_size}
 use Rattle.ans_sauce.specs.Fields.{two_bytes, with_lines, with_record}
 use Rattle.ans_mend.specs.declared.outcome.Mended.{Mended}
-use Rattle.ans_mend.specs.Contents.{content_in}
+use Rattle.ans_sauce.specs.Contents.{content_in}
 use Rattle.ans_mend.specs.NewRecord.{takes_record}
 use Rattle.ans_mend.specs.declared.outcome.GivenRecord.{GivenRecord}
 use Rattle.ans_mend.specs.declared.outcome.Unmended.{Unmended}
 use Rattle.ans_mend.specs.declared.outcome.Unmended.TheVariants.{Refused}
 use Rattle.ans_model.specs.declared.fault.Fault.{Fault}
 use Rattle.ans_mend.proofs.EndMarks.{ended}
-use Rattle.ans_mend.proofs.SameLength.{overwritten_length, recorded_length}
 use Rattle.ans_model.specs.declared.mends.Mends.{Mends}
 use Rattle.std.specs.Prelude.{IsTrue, ◌↔◌}
 use Rattle.ans_mend.specs.Mending.{IsEditedAsStated, IsSettled, WantsMending, asked_for, recorded}
@@ -39,7 +40,6 @@ use Rattle.ans_mend.specs.MendingSteps.{IsEditedTooLong, IsFinished, IsJudgement
 use Rattle.ans_mend.specs.Mending.{asks_for_lines, first_lines, front_bytes, gives_record, lacks_lines, lined, opened}
 use Rattle.ans_mend.specs.Mending.{record_put}
 use Rattle.ans_mend.specs.MendingRoom.{LacksScreenFor, LacksScreenInTheEnd}
-use Rattle.ans_mend.proofs.MendRoomLemmas.{front_before}
 use Rattle.ans_mend.specs.declared.judging.Judgement.{Judgement}
 use Rattle.ans_mend.specs.declared.judging.Survey.{Survey}
 use Rattle.ans_mend.specs.declared.mending.Prepared.{Prepared}
@@ -69,21 +69,10 @@ asked_where_given mends cut put is_put asked put_is some asked_is =
 
 -- ---- the opened file
 
-both : (a b : Bool) → (a && b) ≡ true → (a ≡ true) × (b ≡ true)
-both true true is = (refl, refl)
-both true false is = absurd (true≢false (sym is))
-both false b is = absurd (true≢false (sym is))
-
--- a record has 128 bytes
-long_of_record : (file : List ℕ) → has_record file ≡ true → 128 ≤ length file
-long_of_record file is =
-    let starts : Bool = bytes_eq (take 5 (record_in file)) (codes "SAUCE") in
-    leb-true 128 (length file) (both (nat_le 128 (length file)) starts is).0
-
--- so has the one that lacks lines
+-- the one that lacks lines has 128 bytes
 long_of_lacking : (mends : Mends) (file : List ℕ) → lacks_lines mends file ≡ true → 128 ≤ length file
 long_of_lacking mends file is =
-    long_of_record file (both (has_record file) (stated_lines (record_in file) == 0 && asks_for_lines mends) is).0
+    recorded_long file (and_parts (has_record file) (stated_lines (record_in file) == 0 && asks_for_lines mends) is).0
 
 -- a record that states other lines has as many bytes
 lines_record_length : (n : ℕ) (file : List ℕ) → 128 ≤ length file → length (with_lines n (record_in file)) ≡ 128
@@ -125,8 +114,8 @@ lined_length (Some lines) file long = lines_length lines file long
 -- it lacks lines where a number is asked for
 pub lacking_asks : (mends : Mends) (file : List ℕ) → lacks_lines mends file ≡ true → asks_for_lines mends ≡ true
 lacking_asks mends file is =
-    (both (stated_lines (record_in file) == 0) (asks_for_lines mends)
-    (both (has_record file) (stated_lines (record_in file) == 0 && asks_for_lines mends) is).1).1
+    (and_parts (stated_lines (record_in file) == 0) (asks_for_lines mends)
+    (and_parts (has_record file) (stated_lines (record_in file) == 0 && asks_for_lines mends) is).1).1
 
 -- the lines that were stated before
 pub opened_stated : (mends : Mends) (file : List ℕ) (stated : ℕ)
@@ -140,10 +129,10 @@ opened_stated mends file stated = go (lacks_lines mends file) refl
         → stated ≡ stated_lines (record_in file)
     go false is same = same
     go true is same =
-        let inner = (both (has_record file) (stated_lines (record_in file) == 0 && asks_for_lines mends) is).1 in
+        let inner = (and_parts (has_record file) (stated_lines (record_in file) == 0 && asks_for_lines mends) is).1 in
         let none : stated_lines (record_in file) ≡ 0 =
         eqb-true (stated_lines (record_in file)) 0
-        (both (stated_lines (record_in file) == 0) (asks_for_lines mends) inner).0 in
+        (and_parts (stated_lines (record_in file) == 0) (asks_for_lines mends) inner).0 in
         same ∙ sym none
 
 -- ---- the numbers of a survey
@@ -204,7 +193,7 @@ laid_behind front none n file apart accepts =
 parts_length : (file : List ℕ) (apart : FileParts) → Accepts file apart
     → length file ≡ length apart.body + block_size (comment_count apart.record_bytes) + 128
 parts_length file apart accepts =
-    let long : 128 ≤ length file = long_of_record file (laid_has_record file apart accepts.laid) in
+    let long : 128 ≤ length file = recorded_long file (laid_has_record file apart accepts.laid) in
     let front : length (front_in file) ≡ length file - 128 =
     length-take-le (length file - 128) file (omega arith) in
     let parts = laid_lengths file apart accepts.laid in omega (arith, long, front, parts)

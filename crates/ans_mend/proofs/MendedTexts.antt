@@ -1,13 +1,12 @@
 -- What mending says, by the pieces that are put.
-use Rattle.std.proofs.Common.{◌≡◌, ℕ, ◌-◌, ◌<◌, List, ◌++◌, codes, decimal, refl}
+use Rattle.std.proofs.Common.{◌≡◌, ℕ, ◌-◌, ◌<◌, ◌++◌, codes, decimal, refl}
 use Rattle.std.specs.List.{flat_map}
 use Rattle.std.specs.Prelude.{min, take}
 use Rattle.std.proofs.lemmas.Bool.{eq-eqb, lt-leb, lt-ltb, ne_eqb}
 use Rattle.ans_report.specs.Counted.{counted_text, times_text}
 use Rattle.ans_report.specs.Quoted.{quoted_byte}
 use Rattle.ans_walks.specs.declared.times.Times.{Times}
-use Rattle.ans_mend.specs.MendedText.{at_text, others_text, quoted_excerpt, replaced_text, reset_line}
-use Rattle.ans_mend.specs.declared.outcome.Reset.{Reset}
+use Rattle.ans_mend.specs.MendedText.{at_text, others_text, quoted_excerpt, replaced_text}
 use Rattle.ans_mend.specs.declared.taking_out.Excerpt.{Excerpt}
 
 pub at_once : (times : Times) → times.count ≡ 1 → codes " at " ++ decimal times.first ≡ at_text times
@@ -28,7 +27,3 @@ others_more count more = rw (lt-leb count 1 more) refl
 pub replaced_some : (count : ℕ) → (count ≡ 0 → ⊥)
     → codes ", in the place of " ++ counted_text count (codes "byte") ≡ replaced_text count
 replaced_some count e = rw (ne_eqb count 0 e) refl
-
-pub reset_other : (what : List ℕ) (number : Reset) → (number.was ≡ number.is → ⊥)
-    → what ++ (decimal number.is ++ (codes ", was " ++ (decimal number.was ++ codes "\n"))) ≡ reset_line what number
-reset_other what number e = rw (ne_eqb number.was number.is e) refl

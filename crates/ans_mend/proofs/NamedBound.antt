@@ -12,13 +12,13 @@ use Rattle.ans_model.specs.Sequence.TokenKind.{TokenKind, Glyph, Bell, BackSpace
 use Rattle.ans_players.specs.Names.{Names, are_both}
 use Rattle.ans_players.specs.Situations.{Spelled, spelled}
 use Rattle.ans_walks.specs.declared.times.Times.{Times}
-use Rattle.ans_mend.specs.Contents.{content_in, with_content}
+use Rattle.ans_sauce.specs.Contents.{content_in, with_content}
 use Rattle.ans_mend.specs.NamedColours.{AreColoursNamed, HasNamedColours, ends_number, left_by, missing_numbers}
 use Rattle.ans_mend.specs.NamedColours.{named_content, named_sequence, named_text, names_behind_token, numbers_to_zero}
 use Rattle.ans_mend.specs.NamedColours.{put_by, takes_names, through_numbers, to_zero, way_of}
 use Rattle.ans_mend.specs.declared.naming.Way.{Way}
 use Rattle.ans_mend.specs.declared.naming.Way.TheVariants.{Within, After, Between}
-use Rattle.ans_mend.proofs.ContentFront.{content_within}
+use Rattle.ans_sauce.proofs.RecordLemmas.{content_within}
 
 -- ---- one sequence
 few_numbers : (n : Names) → length (missing_numbers n) ≤ 5

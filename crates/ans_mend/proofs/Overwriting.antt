@@ -1,24 +1,10 @@
--- Bytes that are written over as many.
-use Rattle.std.proofs.Common.{◌≡◌, ℕ, ◌+◌, ◌-◌, ◌≤◌, List, ◌++◌, length, take, drop, ap, ap₂, sym, ◌∙◌, arith}
+-- A memory of which bytes are written over as many.
+use Rattle.std.proofs.Common.{◌≡◌, ℕ, ◌+◌, ◌≤◌, List, ◌++◌, length, take, drop, ap, sym, ◌∙◌, arith}
 use Rattle.std.proofs.Common.{append_assoc, length-append}
-use Rattle.std.proofs.Math.Seq.{take-add, take-append_seam}
-use Rattle.std.proofs.lemmas.List.{drop-drop, length-take-le}
+use Rattle.std.proofs.Math.Seq.{take-append_seam}
+use Rattle.std.proofs.lemmas.List.{length-take-le}
 use Rattle.std.proofs.lemmas.Slice.{drop-append-drop}
-use Rattle.ans_sauce.specs.Found.{front_in, record_in}
 use Rattle.ans_sauce.specs.Fields.{overwritten}
-
--- in a record, at the end of a file
-pub of_record : (file bytes : List ℕ) (offset : ℕ) → 128 ≤ length file
-    → overwritten (length file - 128 + offset) bytes file ≡ front_in file ++ overwritten offset bytes (record_in file)
-of_record file bytes offset long =
-    let start : ℕ = length file - 128 in
-    let front : take (start + offset) file ≡ take start file ++ take offset (drop start file) =
-    take-add start offset file in
-    let behind : drop (start + offset + length bytes) file ≡ drop (offset + length bytes) (drop start file) =
-    ap (λ (v : ℕ). drop v file) (omega arith) ∙ sym (drop-drop (offset + length bytes) start file) in
-    ap₂ (λ (v w : List ℕ). v ++ (bytes ++ w)) front behind
-    ∙ append_assoc (take start file) (take offset (drop start file))
-    (bytes ++ drop (offset + length bytes) (drop start file))
 
 module _ (memory bytes : List ℕ) (count : ℕ) (within : count + length bytes ≤ length memory) where
   front_long : length (take count memory ++ bytes) ≡ count + length bytes

@@ -21,8 +21,9 @@ use Rattle.ans_mend.specs.declared.taking_out.TakenOut.{TakenOut}
 use Rattle.ans_mend.specs.declared.taking_out.Told.{Told}
 use Rattle.ans_model.specs.File.Refusals.{has_record}
 use Rattle.ans_sauce.specs.Found.{record_in}
-use Rattle.ans_mend.specs.Contents.{content_in, with_content}
-use Rattle.ans_mend.proofs.ContentFront.{behind_kept, content_bytes, content_within}
+use Rattle.ans_sauce.specs.Contents.{content_in, with_content}
+use Rattle.ans_sauce.proofs.RecordLemmas.{content_within}
+use Rattle.ans_mend.proofs.ContentFront.{behind_kept, content_bytes}
 use Rattle.ans_mend.proofs.RowEndsOut.{window}
 
 -- ---- how many there are of a kind

@@ -7,7 +7,7 @@ use Rattle.ans_walks.specs.Counted.{counted}
 use Rattle.ans_walks.specs.FullRowEnds.{EndsFullRows, full_row_ends, without_ends}
 use Rattle.ans_walks.specs.declared.full_row_ends.FullRowEnd.{FullRowEnd}
 use Rattle.ans_walks.specs.declared.times.Times.{Times}
-use Rattle.ans_mend.specs.Contents.{content_in, with_content}
+use Rattle.ans_sauce.specs.Contents.{content_in, with_content}
 
 -- the offset of the return, or else of the line feed
 abbrev pub first_byte : FullRowEnd → ℕ

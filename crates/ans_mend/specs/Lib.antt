@@ -1,7 +1,6 @@
 pub mod Drafts
 pub mod Tail
 pub mod EndMark
-pub mod Contents
 pub mod LineEnds
 pub mod NewRecord
 pub mod FullRows

@@ -5,12 +5,12 @@ use Rattle.std.specs.List.{flat_map}
 use Rattle.ans_model.specs.Text.FaultText.{fault_line}
 use Rattle.ans_model.specs.declared.fault.Cause.{Cause}
 use Rattle.ans_model.specs.declared.fault.Cause.TheVariants as cause
+use Rattle.ans_report.specs.Changes.{end_mark_line, reset_line}
 use Rattle.ans_report.specs.Counted.{counted_text, times_text}
 use Rattle.ans_report.specs.Quoted.{quoted_byte}
 use Rattle.ans_walks.specs.declared.times.Times.{Times}
 use Rattle.ans_mend.specs.declared.outcome.GivenRecord.{GivenRecord}
 use Rattle.ans_mend.specs.declared.outcome.Mended.{Mended}
-use Rattle.ans_mend.specs.declared.outcome.Reset.{Reset}
 use Rattle.ans_mend.specs.declared.outcome.Unmended.{Unmended}
 use Rattle.ans_mend.specs.declared.outcome.Unmended.TheVariants as unmended
 use Rattle.ans_mend.specs.declared.taking_out.Excerpt.{Excerpt}
@@ -69,15 +69,6 @@ abbrev pub flag_line : Bool → Bool → List ℕ
 flag_line false true = codes "set the non-blink flag\n"
 flag_line true false = codes "cleared the non-blink flag\n"
 flag_line _ _ = []
-
-abbrev pub reset_line : List ℕ → Reset → List ℕ
-reset_line what number =
-    if number.was == number.is then []
-    else what ++ (decimal number.is ++ (codes ", was " ++ (decimal number.was ++ codes "\n")))
-
-abbrev pub end_mark_line : Option ℕ → List ℕ
-end_mark_line None = []
-end_mark_line (Some at) = codes "put an end mark at " ++ (decimal at ++ codes "\n")
 
 abbrev pub front_line : Bool → List ℕ
 front_line true = codes "put 25 bytes in front\n"

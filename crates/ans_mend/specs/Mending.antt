@@ -25,7 +25,7 @@ use Rattle.ans_walks.specs.declared.hints.Hints.{Hints}
 use Rattle.ans_walks.specs.declared.times.Times.{Times}
 use Rattle.ans_why.specs.Explained.{AreHintsOf}
 use Rattle.ans_mend.specs.EndMark.{end_mark_put, with_end_mark}
-use Rattle.ans_mend.specs.Contents.{content_in}
+use Rattle.ans_sauce.specs.Contents.{content_in}
 use Rattle.ans_sauce.specs.Fields.{with_lines, with_record}
 use Rattle.ans_mend.specs.LastEnds.{HasFewerEnds, times_at}
 use Rattle.ans_mend.specs.LineEnds.{ArePut, with_line_ends}

@@ -11,7 +11,7 @@ use Rattle.ans_players.specs.Names.{Names, are_both, names_after, paints, unname
 use Rattle.ans_players.specs.Situations.{Spelled, omits, spelled}
 use Rattle.ans_walks.specs.Counted.{counted}
 use Rattle.ans_walks.specs.declared.times.Times.{Times}
-use Rattle.ans_mend.specs.Contents.{content_in, with_content}
+use Rattle.ans_sauce.specs.Contents.{content_in, with_content}
 use Rattle.ans_mend.specs.declared.naming.Way.{Way}
 use Rattle.ans_mend.specs.declared.naming.Way.TheVariants.{Within, After, Between}
 

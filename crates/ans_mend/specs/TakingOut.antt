@@ -9,7 +9,7 @@ use Rattle.ans_forms.specs.declared.kinds.Before.{Before}
 use Rattle.ans_forms.specs.declared.kinds.TheConstants.Before as before
 use Rattle.ans_forms.specs.declared.kinds.Unwanted.{Unwanted}
 use Rattle.ans_forms.specs.declared.kinds.Unwanted.TheVariants as unwanted
-use Rattle.ans_mend.specs.Contents.{content_in, with_content}
+use Rattle.ans_sauce.specs.Contents.{content_in, with_content}
 use Rattle.ans_sauce.specs.Fields.{with_non_blink, with_record}
 use Rattle.ans_mend.specs.declared.taking_out.Excerpt.{Excerpt}
 use Rattle.ans_mend.specs.declared.taking_out.TakenOut.{TakenOut}

@@ -1,11 +1,8 @@
 //! A file that is changed in place.
 
 ghost use Rattle.std.specs.Prelude.{◌≡◌, ◌+◌, ◌-◌, ◌≤◌, ◌<◌, ◌++◌, length, take};
-ghost use Rattle.ans_sauce.specs.Found.{front_in, record_in};
 ghost use Rattle.ans_mend.specs.Drafts.{draft_of, memory_of, with_byte};
-ghost use Rattle.ans_sauce.specs.Fields.{overwritten};
 
-use ans_sauce::fields::RECORD_SIZE;
 use std::marker::Model;
 
 /// There is no room in the memory for what is to be put into the file.
@@ -85,33 +82,6 @@ impl<'a> Draft<'a> {
         push_in(self.memory, self.used, offset, byte);
         self.used += 1;
     }
-
-    /// Writes bytes over as many of the record, from this offset in it on.
-    #[tactic(auto, using(crate::proofs::Overwriting::of_record))]
-    pub(crate) fn write_in_record(&mut self, offset: usize, bytes: &[u8])
-        requires record { 128 ≤ length self.old.file }
-        requires within { offset + length bytes.now ≤ 128 }
-        ensures { self.new
-            ≡ draft_of (front_in self.old.file ++ overwritten offset bytes.now (record_in self.old.file))
-            self.old.room }
-    {
-        let start = self.file().len() - RECORD_SIZE;
-        self.write(start + offset, bytes);
-    }
-
-    fn write(&mut self, offset: usize, bytes: &[u8])
-        requires { offset + length bytes.now ≤ length self.old.file }
-        ensures { self.new ≡ draft_of (overwritten offset bytes.now self.old.file) self.old.room }
-    {
-        overwrite(&mut self.memory[..self.used], offset, bytes);
-    }
-}
-
-pub(crate) fn overwrite(file: &mut [u8], offset: usize, bytes: &[u8])
-    requires { offset + length bytes.now ≤ length file.old }
-    ensures { file.new ≡ overwritten offset bytes.now file.old }
-{
-    file[offset..offset + bytes.len()].copy_from_slice(bytes);
 }
 
 /// Puts a byte at the offset in the first `count` bytes, and moves those from there on by one.

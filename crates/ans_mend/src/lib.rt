@@ -29,7 +29,7 @@ mod taking_out;
 pub use draft::{Draft, NoRoom};
 pub use last_ends::{count_line_ends, count_passing};
 pub use line_ends::count_line_feeds;
-pub use mended_text::{put_end_mark_line, put_mended, put_reset_line, put_unmended};
+pub use mended_text::{put_mended, put_unmended};
 pub use mending::mend_on;
 pub use name_search::begins_unnamed;
 pub use new_record::refusal_of;

@@ -6,7 +6,7 @@ ghost use Rattle.ans_model.specs.File.Refusals.{has_record};
 ghost use Rattle.std.specs.List.{list_any, position};
 ghost use Rattle.ans_mend.specs.Drafts.{memory_of};
 ghost use Rattle.ans_mend.specs.LineEnds.{AreReturns, ArePut, is_return};
-ghost use Rattle.ans_mend.specs.Contents.{content_in};
+ghost use Rattle.ans_sauce.specs.Contents.{content_in};
 ghost use Rattle.ans_mend.specs.LineEnds.{is_line_feed, line_feeds, returned, wants_returns, with_line_ends};
 ghost use Rattle.ans_mend.specs.LineEnds.{with_returns};
 

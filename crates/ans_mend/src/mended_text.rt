@@ -1,18 +1,20 @@
 //! What mending says: what was changed, or why there is none.
 ghost use Rattle.std.specs.Prelude.{◌≡◌};
 ghost use Rattle.std.specs.List.{flat_map};
-ghost use Rattle.ans_mend.specs.MendedText.{all_given, at_text, end_mark_line, flag_line, front_line, has_least};
+ghost use Rattle.ans_mend.specs.MendedText.{all_given, at_text, flag_line, front_line, has_least};
 ghost use Rattle.ans_mend.specs.MendedText.{help_text, lines_offered, mended_text, no_lines_help, offered};
 ghost use Rattle.ans_mend.specs.MendedText.{others_text, place_help, quoted_excerpt, record_line};
-ghost use Rattle.ans_mend.specs.MendedText.{replaced_text, reset_line, rows_help, sequence_help, tail_line};
+ghost use Rattle.ans_mend.specs.MendedText.{replaced_text, rows_help, sequence_help, tail_line};
 ghost use Rattle.ans_mend.specs.MendedText.{taken_line, times_line, torn_help, unmended_text};
 ghost use Rattle.ans_write.specs.Puts.{Puts};
 
-use crate::outcome::{GivenRecord, Mended, NonBlink, Reset, Unmended};
+use crate::outcome::{GivenRecord, Mended, NonBlink, Unmended};
 use crate::taking_out::{Excerpt, TakenOut};
 use ans_model::fault::Cause;
 use ans_model::mends::Mends;
-use ans_report::{put_counted, put_fault_line, put_quoted_bytes, put_times};
+use ans_report::{
+    put_counted, put_end_mark_line, put_fault_line, put_quoted_bytes, put_reset_line, put_times,
+};
 use ans_walks::Times;
 use ans_write::Outbox;
 use std::io::Write;
@@ -122,31 +124,6 @@ fn put_flag_line<W: Write>(out: &mut Outbox<'_, W>, flag: &NonBlink)
         (false, true) => out.put(b"set the non-blink flag\n"),
         (true, false) => out.put(b"cleared the non-blink flag\n"),
         _ => {}
-    }
-}
-
-/// Puts the line of a number in the record that was set anew: what it is and was. Nothing where it is the same.
-pub fn put_reset_line<W: Write>(out: &mut Outbox<'_, W>, what: &[u8], number: &Reset)
-    ensures { Puts W.contents out.old out.new (reset_line what.now number.now) }
-{
-    if number.was == number.is {
-        return;
-    }
-    out.put(what);
-    out.put_decimal(u64::from(number.is));
-    out.put(b", was ");
-    out.put_decimal(u64::from(number.was));
-    out.put(b"\n");
-}
-
-/// Puts the line of an end mark that was put, with its offset in bytes from the file's start. Nothing where none was.
-pub fn put_end_mark_line<W: Write>(out: &mut Outbox<'_, W>, place: Option<usize>)
-    ensures { Puts W.contents out.old out.new (end_mark_line place) }
-{
-    if let Some(place) = place {
-        out.put(b"put an end mark at ");
-        out.put_decimal(place as u64);
-        out.put(b"\n");
     }
 }
 

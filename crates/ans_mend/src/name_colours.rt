@@ -10,11 +10,12 @@ ghost use Rattle.ans_mend.specs.Drafts.{memory_of};
 ghost use Rattle.ans_mend.specs.NamedColours.{HasNamedColours, IsTooLongNamed, named_content};
 ghost use Rattle.ans_mend.specs.NameSearch.{GoesFirst, Grows, HaveNamedLength, NoneGoes};
 
-use crate::draft::{Draft, NoRoom, overwrite};
+use crate::draft::{Draft, NoRoom};
 use crate::full_rows::once_more;
 use crate::keeping::keep;
 use crate::line_ends::content_of;
 use crate::name_search::{Going, next_going};
+use ans_sauce::overwrite;
 use ans_walks::Times;
 
 /// What naming adds to a content.

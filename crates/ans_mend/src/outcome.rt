@@ -2,6 +2,7 @@
 
 use crate::taking_out::Told;
 use ans_model::fault::Fault;
+pub use ans_sauce::Reset;
 use ans_walks::Times;
 
 /// What was changed of a content. Offsets are in bytes from the file's start, in the file as the changes
@@ -57,13 +58,6 @@ pub struct GivenRecord {
 pub struct NonBlink {
     pub was: bool,
     pub is: bool,
-}
-
-/// A number in a record that was set anew, to the same or to another one.
-#[derive(Debug, Clone, Copy, PartialEq, Eq)]
-pub struct Reset {
-    pub was: u32,
-    pub is: u32,
 }
 
 /// Why a file is not mended.

@@ -33,6 +33,22 @@ covers_all_known a = record {
   wrap = λ k. refl;
 }
 
+-- truths that say the same are the same
+same_truth : (p q : Bool) → (IsTrue p → IsTrue q) → (IsTrue q → IsTrue p) → p ≡ q
+same_truth true q there back = sym (there refl)
+same_truth false true there back = back refl
+same_truth false false there back = refl
+
+-- classes that cover each other are the same
+pub covers_both_ways : (a b : Start) → Covers a b → Covers b a → a ≡ b
+covers_both_ways a b there back = λ i. record {
+  screen = same_truth a.screen b.screen there.screen back.screen i;
+  cursor = same_truth a.cursor b.cursor there.cursor back.cursor i;
+  saved = same_truth a.saved b.saved there.saved back.saved i;
+  colours = same_truth a.colours b.colours there.colours back.colours i;
+  wrap = same_truth a.wrap b.wrap there.wrap back.wrap i;
+}
+
 -- the starts of a class are starts of each class that covers it
 pub covers_starts : (z : Size) (a b : Start) (s : State) → Covers a b → IsStart z b s → IsStart z a s
 covers_starts z a b s covers start = record {

@@ -195,18 +195,32 @@ pub refused_not_read : (text x : List ℕ) (cause : Cause) (ts : List TokenKind)
 refused_not_read text x cause ts h g = refused_texts text x cause ts g.0 h g.1.each g.1.whole
 
 -- What is printed is a byte. A sequence means no print.
-by_test : (b : Bool) (t u : TokenKind) → PrintsByte t → PrintsByte u → PrintsByte (if b then t else u)
-by_test true t u h g = h
-by_test false t u h g = g
+by_test : (P : TokenKind → Type 0) (b : Bool) (t u : TokenKind) → P t → P u → P (if b then t else u)
+by_test P true t u h g = h
+by_test P false t u h g = g
 
 -- what a byte prints is a byte
 byte_token_prints : (b : ℕ) → IsByte b → PrintsByte (kind_of_byte b)
 byte_token_prints b h =
-    by_test (b == 0x07) Bell _ tt
-    (by_test (b == 0x08) BackSpace _ tt
-    (by_test (b == 0x09) Tab _ tt
-    (by_test (b == 0x0A) LineFeed _ tt
-    (by_test (b == 0x0D) CarriageReturn (Glyph b) tt h))))
+    by_test PrintsByte (b == 0x07) Bell _ tt
+    (by_test PrintsByte (b == 0x08) BackSpace _ tt
+    (by_test PrintsByte (b == 0x09) Tab _ tt
+    (by_test PrintsByte (b == 0x0A) LineFeed _ tt
+    (by_test PrintsByte (b == 0x0D) CarriageReturn (Glyph b) tt h))))
+
+-- no byte outside sequences is the token
+abbrev pub IsOfSequence : TokenKind → Type 0
+IsOfSequence (Glyph byte) = ⊥
+IsOfSequence Bell = ⊥
+IsOfSequence BackSpace = ⊥
+IsOfSequence Tab = ⊥
+IsOfSequence LineFeed = ⊥
+IsOfSequence CarriageReturn = ⊥
+IsOfSequence _ = ⊤
+
+prints_none : (t : TokenKind) → IsOfSequence t → PrintsByte t
+prints_none (Glyph byte) h = absurd h
+prints_none _ h = tt
 
 -- the causes for which a sequence has no meaning
 abbrev pub IsOfMeaning : Cause → Type 0
@@ -214,9 +228,9 @@ IsOfMeaning UnknownSequence = ⊤
 IsOfMeaning WrongParameters = ⊤
 IsOfMeaning _ = ⊥
 
--- what a sequence means prints a byte if anything, and what it is refused for is its meaning
+-- what a sequence means is no byte's token, and what it is refused for is its meaning
 abbrev pub MeansWell : Result TokenKind Cause → Type 0
-MeansWell means = MatchResult means PrintsByte IsOfMeaning
+MeansWell means = MatchResult means IsOfSequence IsOfMeaning
 
 -- a test that refuses keeps what is proved
 err_or : (b : Bool) (c : Cause) (r : Result TokenKind Cause) → IsOfMeaning c → MeansWell r
@@ -224,11 +238,11 @@ err_or : (b : Bool) (c : Cause) (r : Result TokenKind Cause) → IsOfMeaning c �
 err_or true c r g h = g
 err_or false c r g h = h
 
-only_if_well : (b : Bool) (t : TokenKind) → PrintsByte t → MeansWell (only_if b t)
+only_if_well : (b : Bool) (t : TokenKind) → IsOfSequence t → MeansWell (only_if b t)
 only_if_well true t h = h
 only_if_well false t h = tt
 
-move_well : (by : ℕ → TokenKind) (ms : List Member) → ((n : ℕ) → PrintsByte (by n)) → MeansWell (move by ms)
+move_well : (by : ℕ → TokenKind) (ms : List Member) → ((n : ℕ) → IsOfSequence (by n)) → MeansWell (move by ms)
 move_well by [] h = h 1
 move_well by (m ∷ []) h = h (distance m)
 move_well by (m ∷ n ∷ ms) h = tt
@@ -239,9 +253,9 @@ place_well (m ∷ []) = tt
 place_well (m ∷ n ∷ []) = tt
 place_well (m ∷ n ∷ o ∷ ms) = tt
 
-colours_print : (ms : List Member) → PrintsByte (colours ms)
-colours_print [] = tt
-colours_print (m ∷ ms) = tt
+colours_well : (ms : List Member) → IsOfSequence (colours ms)
+colours_well [] = tt
+colours_well (m ∷ ms) = tt
 
 look_up_well : (es : List Entry) (letter : ℕ) → AllByRecursion (λ e. MeansWell e.means) es
     → MeansWell (look_up es letter)
@@ -269,9 +283,9 @@ table_well raw =
     (also (only_if_well _ EraseLine tt)
     (also (only_if_well _ Save tt)
     (also (only_if_well _ Restore tt)
-    (also (colours_print raw.members)
-    (also (by_test _ (Wrap true) Mode tt tt)
-    (also (by_test _ (Wrap false) Mode tt tt)
+    (also (colours_well raw.members)
+    (also (by_test IsOfSequence _ (Wrap true) Mode tt tt)
+    (also (by_test IsOfSequence _ (Wrap false) Mode tt tt)
     (also tt (also (only_if_well _ Ask tt) tt)))))))))))))
 
 -- so is the meaning of each sequence
@@ -291,7 +305,7 @@ meaning_certain _ h = absurd h
 -- what a token prints is a byte
 pub token_prints : (t : TokenKind) (text : List ℕ) → SpellsToken t text → PrintsByte t
 token_prints t text (inl h) = rw h.means (byte_token_prints h.byte h.is_byte)
-token_prints t text (inr h) = rw h.means at (means_well h.raw)
+token_prints t text (inr h) = prints_none t (rw h.means at (means_well h.raw))
 
 tokens_print : (ts : List TokenKind) (xs : List (List ℕ)) → AllZip SpellsToken ts xs → All PrintsByte ts
 tokens_print [] xs h = All-nil PrintsByte

@@ -1,47 +1,14 @@
 -- The content, and the end marks behind it.
-use Rattle.std.proofs.Common.{◌≡◌, ℕ, suc, ◌+◌, Bool, true, false, List, [], ◌∷◌, length, take, drop, refl, sym}
-use Rattle.std.proofs.Common.{ap, ◌∙◌, arith}
+use Rattle.std.proofs.Common.{◌≡◌, ℕ, Bool, true, false, List, [], ◌∷◌, length, drop, refl, sym}
+use Rattle.std.proofs.Common.{ap, ◌∙◌}
 use Rattle.std.specs.Prelude.{if◌then◌else◌}
-use Rattle.std.specs.List.{list_all, list_any, position_or_len}
+use Rattle.std.specs.List.{list_all, list_any}
 use Rattle.ans_model.specs.Bytes.{end_mark}
 use Rattle.ans_model.specs.File.Layout.{after_content, content, is_end_mark}
-use Rattle.ans_redraw_file.specs.RedrawnFile.{marked_end}
-use Rattle.ans_redraw_file.proofs.NewFiles.{after_one, after_marked}
+use Rattle.ans_redraw.specs.RedrawnFile.{marked_end}
+use Rattle.ans_sauce.proofs.ContentLemmas.{after_marked, after_one, content_after}
 
-one_and : (n : ℕ) → 1 + n ≡ suc n
-one_and n = omega arith
-
-content_one : (b : ℕ) (body : List ℕ) → is_end_mark b ≡ false → content (b ∷ body) ≡ b ∷ content body
-content_one b body is =
-    let k : ℕ = position_or_len is_end_mark body in
-    rw is (ap (λ (v : ℕ). take v (b ∷ body)) (one_and k))
-
-content_marked : (b : ℕ) (body : List ℕ) → is_end_mark b ≡ true → content (b ∷ body) ≡ []
-content_marked b body is = rw is refl
-
--- no content has an end mark
-pub content_unmarked : (body : List ℕ) → list_any is_end_mark (content body) ≡ false
-content_unmarked [] = refl
-content_unmarked (b ∷ body) = go (is_end_mark b) refl (content_unmarked body)
-  where
-    go : (marked : Bool) → is_end_mark b ≡ marked → list_any is_end_mark (content body) ≡ false
-        → list_any is_end_mark (content (b ∷ body)) ≡ false
-    go true is more = ap (list_any is_end_mark) (content_marked b body is)
-    go false is more =
-        let none : list_any is_end_mark (b ∷ content body) ≡ false = rw is more in
-        ap (list_any is_end_mark) (content_one b body is) ∙ none
-
--- what stands behind a content begins with none
-content_after : (body : List ℕ) → content (after_content body) ≡ []
-content_after [] = refl
-content_after (b ∷ body) = go (is_end_mark b) refl (content_after body)
-  where
-    go : (marked : Bool) → is_end_mark b ≡ marked → content (after_content body) ≡ []
-        → content (after_content (b ∷ body)) ≡ []
-    go true is more = ap content (after_marked b body is) ∙ content_marked b body is
-    go false is more = ap content (after_one b body is) ∙ more
-
--- and has an end mark where the body has one
+-- what stands behind a content has an end mark where the body has one
 after_marks : (body : List ℕ) → list_any is_end_mark (after_content body) ≡ list_any is_end_mark body
 after_marks [] = refl
 after_marks (b ∷ body) = go (is_end_mark b) refl (after_marks body)

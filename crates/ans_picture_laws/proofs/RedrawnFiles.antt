@@ -24,10 +24,11 @@ use Rattle.ans_redraw.specs.Form.{form_bytes}
 use Rattle.ans_picture_laws.proofs.FormLaws.{form_has_no_end_mark, form_is_good}
 use Rattle.ans_picture_laws.proofs.PrintedPictures.{good_pictures_are_drawable}
 use Rattle.ans_picture_laws.specs.RedrawnFileLaws.{CanBeRedrawn, IsRedrawnTo, RedrawnFilesPass}
-use Rattle.ans_redraw_file.specs.RedrawnFile.{block_in, marked_end, redrawn_file}
-use Rattle.ans_picture_laws.proofs.EndMarks.{content_unmarked, ends_are_clean, ends_begin, ends_follow, ends_have_one}
+use Rattle.ans_redraw.specs.RedrawnFile.{block_in, marked_end, redrawn_file}
+use Rattle.ans_sauce.proofs.ContentLemmas.{content_unmarked}
+use Rattle.ans_picture_laws.proofs.EndMarks.{ends_are_clean, ends_begin, ends_follow, ends_have_one}
 use Rattle.ans_picture_laws.proofs.KeptNotes.{notes_stay}
-use Rattle.ans_redraw_file.proofs.NewFiles.{block_is, its_body}
+use Rattle.ans_redraw.proofs.NewFiles.{block_is, its_body}
 
 marked_any : (marked any : Bool) → any ≡ true → (marked || any) ≡ true
 marked_any true any is = refl

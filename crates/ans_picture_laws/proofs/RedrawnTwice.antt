@@ -13,9 +13,9 @@ use Rattle.ans_picture_laws.specs.Drawable.{IsDrawable}
 use Rattle.ans_redraw.specs.Form.{form_bytes}
 use Rattle.ans_picture_laws.proofs.Redrawn.{form_is_kept}
 use Rattle.ans_picture_laws.specs.RedrawnFileLaws.{CanBeRedrawn, IsRedrawnTo, OnceIsEnough}
-use Rattle.ans_redraw_file.specs.RedrawnFile.{block_in, marked_end, redrawn_file}
+use Rattle.ans_redraw.specs.RedrawnFile.{block_in, marked_end, redrawn_file}
 use Rattle.ans_picture_laws.proofs.EndMarks.{marked_ends}
-use Rattle.ans_redraw_file.proofs.NewFiles.{block_is, its_body}
+use Rattle.ans_redraw.proofs.NewFiles.{block_is, its_body}
 use Rattle.ans_picture_laws.proofs.RedrawnFiles.{its_accepts, its_drawable, its_ends, its_mark, its_whole, parts}
 
 -- it can be drawn at the size that the redrawn file states

@@ -1,5 +1,5 @@
 -- Where the ways between the cells lead, and the colours.
-use Rattle.std.proofs.Common.{◌≡◌, inl, inr, ℕ, zero, suc, ◌+◌, ◌-◌, ◌*◌, ◌/◌, ◌%◌, ◌<◌, ◌≤◌, Bool, true, false, refl}
+use Rattle.std.proofs.Common.{◌≡◌, ℕ, zero, suc, ◌+◌, ◌-◌, ◌*◌, ◌/◌, ◌%◌, ◌<◌, ◌≤◌, Bool, true, false, refl}
 use Rattle.std.proofs.Common.{ap, ap₂, sym, ◌∙◌, arith, lit<, fold, List, [], ◌∷◌, ◌++◌, drop, replicate, subst, min}
 use Rattle.std.proofs.Common.{append_assoc, codes}
 use Rattle.std.specs.Prelude.{decimal, nat_le, ◌==◌, if◌then◌else◌, bit_or}
@@ -17,7 +17,6 @@ use Rattle.ans_model.specs.Sequence.Reads.{SpellsToken}
 use Rattle.ans_model.specs.Screen.Attribute.{attribute_after_all}
 use Rattle.ans_model.specs.Screen.State.{Size, State, at}
 use Rattle.ans_model.specs.Screen.Step.{blank_cell}
-use Rattle.ans_model.specs.Verdict.TokenFault.{HasStaticFault}
 use Rattle.ans_model.proofs.BeginningLemmas.{place_is_within}
 use Rattle.ans_model.proofs.StepLemmas.{line_feed_is}
 use Rattle.ans_players.specs.declared.kind.Kind.{Kind}

@@ -16,7 +16,7 @@ use Rattle.ans_players.specs.declared.kind.Kind.{Kind}
 use Rattle.ans_picture_laws.specs.Drawable.{BytesAreAgreed}
 use Rattle.ans_redraw.specs.Form.{form_bytes}
 use Rattle.ans_sauce.specs.Fields.{with_file_size}
-use Rattle.ans_redraw_file.specs.RedrawnFile.{redrawn_file}
+use Rattle.ans_redraw.specs.RedrawnFile.{redrawn_file}
 
 -- The file is accepted so, and passes from the cleared start with this picture. There is room for what is redrawn.
 pub record CanBeRedrawn (file : List ℕ) (apart : FileParts) (picture : Picture) : Type 0 where

@@ -1,12 +1,12 @@
 -- Content in which no kinds but agreed ones arise is the same on every player for one least class of starts.
-use Rattle.std.proofs.Common.{◌≡◌, ◌⊎◌, inl, inr, refl, sym, Bool, true, false, ℕ, List}
-use Rattle.std.specs.Prelude.{◌↔◌, IsTrue}
+use Rattle.std.proofs.Common.{◌≡◌, ◌⊎◌, inl, inr, refl, Bool, true, false, ℕ, List}
+use Rattle.std.specs.Prelude.{◌↔◌}
 use Rattle.ans_model.specs.Screen.State.{Size}
 use Rattle.ans_model.specs.Screen.StartClass.{Covers}
 use Rattle.ans_model.specs.Screen.StartClass.{all_but_cursor, all_but_saved, all_but_colours, all_but_wrap}
 use Rattle.ans_model.specs.declared.start.Start.{Start}
 use Rattle.ans_model.specs.Verdict.Good.{IsGood}
-use Rattle.ans_model.proofs.ClassLemmas.{covers_itself, covers_all_but_cursor, covers_all_but_saved}
+use Rattle.ans_model.proofs.ClassLemmas.{covers_both_ways, covers_itself, covers_all_but_cursor, covers_all_but_saved}
 use Rattle.ans_model.proofs.ClassLemmas.{covers_all_but_colours, covers_all_but_wrap}
 use Rattle.ans_players.specs.declared.kind.Kind.{Kind}
 use Rattle.ans_players.specs.Situations.{spelled}
@@ -14,22 +14,6 @@ use Rattle.ans_players.specs.Classes.{IsSame, IsCalm}
 use Rattle.ans_players.proofs.LeastSame.{agreed_is, least_same_is_found, plays_of, same_is}
 use Rattle.ans_players_laws.specs.Laws.{LeastSameExists, LeastSameIsOne}
 use Rattle.ans_players_laws.proofs.Search.{agreed_or_not}
-
--- truths that say the same are the same
-same_truth : (p q : Bool) → (IsTrue p → IsTrue q) → (IsTrue q → IsTrue p) → p ≡ q
-same_truth true q there back = sym (there refl)
-same_truth false true there back = back refl
-same_truth false false there back = refl
-
--- classes that cover each other are the same
-covers_both_ways : (a b : Start) → Covers a b → Covers b a → a ≡ b
-covers_both_ways a b there back = λ i. record {
-  screen = same_truth a.screen b.screen there.screen back.screen i;
-  cursor = same_truth a.cursor b.cursor there.cursor back.cursor i;
-  saved = same_truth a.saved b.saved there.saved back.saved i;
-  colours = same_truth a.colours b.colours there.colours back.colours i;
-  wrap = same_truth a.wrap b.wrap there.wrap back.wrap i;
-}
 
 -- ---- the only one
 pub least_same_is_one : LeastSameIsOne

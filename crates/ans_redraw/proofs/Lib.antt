@@ -6,3 +6,5 @@ pub mod RowTexts
 pub mod RowEnds
 pub mod RowsGiven
 pub mod CopyLemmas
+pub mod NewFiles
+pub mod RedrawLemmas

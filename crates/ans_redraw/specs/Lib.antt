@@ -4,3 +4,6 @@ pub mod Form
 pub mod Numbers
 pub mod Counts
 pub mod Copies
+pub mod RedrawnFile
+pub mod RedrawnText
+pub mod Redrawing

@@ -15,7 +15,7 @@ use crate::colours::GREY;
 use crate::ends::{give_after, give_before, opens_below};
 use crate::pen::Pen;
 use crate::row::{are_blank, write_row};
-use crate::sink::{Copy, Count, Sink};
+use crate::sink::{Count, Sink};
 use ans_model::beginning::SAFE_BEGINNING;
 use ans_model::limits::MAX_WIDTH;
 use ans_play::Picture;
@@ -110,7 +110,7 @@ fn end_of_rows<G: Screen>(picture: &Picture<G>) -> usize
 }
 
 /// Gives the form of a picture.
-fn give_form<S: Sink, G: Screen>(sink: &mut S, picture: &Picture<G>)
+pub(crate) fn give_form<S: Sink, G: Screen>(sink: &mut S, picture: &Picture<G>)
     ensures { S.takes sink.old sink.new (form_bytes picture.now) }
 {
     let end = end_of_rows(picture);
@@ -140,15 +140,4 @@ pub fn form_length<G: Screen>(picture: &Picture<G>) -> usize
     let mut count = Count { bytes: 0 };
     give_form(&mut count, picture);
     count.bytes
-}
-
-/// Copies the form of a picture to the front of an array.
-#[inline(never)]
-pub fn copy_form<G: Screen>(picture: &Picture<G>, array: &mut [u8])
-    requires { length (form_bytes picture.now) ≤ length array.old }
-    ensures form { take (length (form_bytes picture.now)) array.new ≡ form_bytes picture.now }
-    ensures length { length array.new ≡ length array.old }
-{
-    let mut copy = Copy { array, used: 0 };
-    give_form(&mut copy, picture);
 }

@@ -7,19 +7,30 @@
 //! more, is only tried.
 //!
 //! `specs/Form.antt` has the form, and `specs/Colours.antt` how one attribute becomes another.
-//! [`form_length`] counts its bytes, [`put_form`] puts them, and [`copy_form`] copies them: each goes over the
-//! picture row by row, with no memory beyond a row. What is proved of the form, and the bytes of small
-//! pictures, stand in `ans_picture_laws`.
+//! [`form_length`] counts its bytes, and [`put_form`] puts them: each goes over the picture row by row, with no
+//! memory beyond a row. What is proved of the form, and the bytes of small pictures, stand in `ans_picture_laws`.
+//!
+//! A file is redrawn if the form becomes its content, and behind it stands all that stood behind the content.
+//! [`redrawn_with`] says what that changes of it, or how long it would be where that is too much.
+//! [`put_redrawn_file`] puts the new file, and [`copy_redrawn_file`] copies it to an array. Which file that is stands in
+//! `specs/RedrawnFile.antt`, and what is said of it in `specs/RedrawnText.antt`. That the picture is the one that the
+//! file shows, is for the crate above to see to.
 #![tactic(auto)]
 
 mod colours;
 mod ends;
 mod form;
+mod new_file;
+mod outcome;
 mod pen;
 mod piece;
+mod redrawn_text;
 mod row;
 mod sink;
 mod way;
 
-pub use form::{copy_form, form_length, put_form};
+pub use form::{form_length, put_form};
+pub use new_file::{copy_redrawn_file, put_redrawn_file, redrawn_with};
+pub use outcome::{Redrawn, Unredrawn};
 pub use pen::Pen;
+pub use redrawn_text::{put_redrawn, put_unredrawn};

@@ -9,4 +9,5 @@ pub mod Message
 pub mod Meanings
 pub mod Counted
 pub mod Quoted
+pub mod Changes
 pub mod RecordReports

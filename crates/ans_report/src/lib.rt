@@ -9,9 +9,11 @@
 //! `specs/Meanings.antt` cites.
 //!
 //! The text of `why` (`ans_why`) is put by some of the same lines. How bytes are quoted stands in `specs/Quoted.antt`,
-//! and how many there are of a thing, and how often it comes, in `specs/Counted.antt`.
+//! and how many there are of a thing, and how often it comes, in `specs/Counted.antt`. Two lines of what was changed of
+//! a file, which `mend` and `redraw` share, stand in `specs/Changes.antt`.
 #![tactic(auto)]
 
+mod changes;
 mod counted;
 mod fault_lines;
 mod heading;
@@ -26,6 +28,7 @@ mod report;
 mod tokens_text;
 
 pub use ans_write::{DeviceFault, Tried, WriteFault, glyph_text};
+pub use changes::{put_end_mark_line, put_reset_line};
 pub use counted::{put_counted, put_times};
 pub use fault_lines::{put_fault_line, put_refusal};
 pub use heading::put_notes;

@@ -1,17 +1,19 @@
 -- A file with bytes before its content, and with another FileSize.
-use Rattle.std.proofs.Common.{◌≡◌, ℕ, suc, ◌+◌, ◌*◌, ◌/◌, ◌%◌, ◌<◌, ◌≤◌, ◌==◌, Bool, List, [], ◌∷◌, ◌++◌}
-use Rattle.std.proofs.Common.{length, take, drop, refl, ap, ap₂, sym, ◌∙◌, arith, append_assoc, true, false, true≢false}
+use Rattle.std.proofs.Common.{◌≡◌, ℕ, ◌+◌, ◌*◌, ◌<◌, ◌≤◌, ◌==◌, List, ◌++◌}
+use Rattle.std.proofs.Common.{length, take, drop, refl, ap, ap₂, sym, ◌∙◌, arith, append_assoc, false}
 use Rattle.std.proofs.lemmas.List.{length-append, length-drop, length-take-le, take-append-drop, take-append-le}
 use Rattle.std.proofs.lemmas.List.{drop-append-le}
 use Rattle.std.proofs.lemmas.Slice.{drop-append-drop}
 use Rattle.std.proofs.Math.Seq.{drop-append-add, drop-append_seam, take-append_seam}
 use Rattle.std.specs.Prelude.{if◌then◌else◌}
-use Rattle.std.specs.List.{list_any, list_all, position_or_len}
+use Rattle.std.specs.List.{list_any, list_all}
 use Rattle.ans_model.specs.File.Layout.{FileParts, after_content, content, is_end_mark, laid_file}
 use Rattle.ans_model.specs.File.Record.{comment_count, date_field, field, file_size, flags, number, stated_size, tinfo}
 use Rattle.ans_model.specs.File.Refusals.{Accepts}
 use Rattle.ans_model.specs.Screen.State.{sized}
 use Rattle.ans_sauce.specs.Fields.{four_bytes, resized_parts, with_file_size}
+use Rattle.ans_sauce.proofs.ContentLemmas.{content_append}
+use Rattle.ans_sauce.proofs.Overwriting.{overwritten_length}
 
 -- ---- the record
 module _ (r : List ℕ) (is_record : length r ≡ 128) (n : ℕ) where
@@ -47,10 +49,8 @@ module _ (r : List ℕ) (is_record : length r ≡ 128) (n : ℕ) where
       of_four_bytes : (k : ℕ) → k < 4294967296 → number (four_bytes k) ≡ k
       of_four_bytes k lt = omega arith
 
-  its_length : length (with_file_size n r) ≡ 128
-  its_length =
-      length-append (take 90 r) (four_bytes n ++ drop 94 r)
-      ∙ (rw (front_length, length-drop 94 r, is_record) refl)
+  pub its_length : length (with_file_size n r) ≡ 128
+  its_length = overwritten_length 90 (four_bytes n) r (omega (arith, is_record)) ∙ is_record
 
 -- of two FileSizes the last is there
 pub resized_again : (m n : ℕ) (r : List ℕ) → length r ≡ 128
@@ -67,27 +67,6 @@ resized_again m n r size =
     ap₂ drop (sym longer) (sym (append_assoc front (four_bytes m) (drop 94 r)))
     ∙ drop-append_seam (front ++ four_bytes m) (drop 94 r) in
     ap₂ (λ (v w : List ℕ). v ++ (four_bytes n ++ w)) first last
-
--- ---- the content
-one_and : (n : ℕ) → 1 + n ≡ suc n
-one_and n = omega arith
-
-content_append : (front body : List ℕ) → list_any is_end_mark front ≡ false
-    → content (front ++ body) ≡ front ++ content body
-content_append [] body none = refl
-content_append (b ∷ front) body none = go (is_end_mark b) refl (content_append front body)
-  where
-    go : (marked : Bool) → is_end_mark b ≡ marked
-        → (list_any is_end_mark front ≡ false → content (front ++ body) ≡ front ++ content body)
-        → content (b ∷ (front ++ body)) ≡ b ∷ (front ++ content body)
-    go true is more = absurd (true≢false (rw is at none))
-    go false is more =
-        let behind : list_any is_end_mark front ≡ false = rw is at none in
-        let one_more : (n : ℕ) → take (1 + n) (b ∷ (front ++ body)) ≡ b ∷ take n (front ++ body) =
-        λ n. ap (λ (v : ℕ). take v (b ∷ (front ++ body))) (one_and n) in
-        let tail : b ∷ content (front ++ body) ≡ b ∷ (front ++ content body) =
-        ap (λ (v : List ℕ). b ∷ v) (more behind) in
-        rw is (one_more (position_or_len is_end_mark (front ++ body)) ∙ tail)
 
 -- ---- a file with bytes in front that have no end mark, and with this FileSize
 module _ (front : List ℕ) (unmarked : list_any is_end_mark front ≡ false) (n : ℕ) (file : List ℕ) (apart : FileParts)

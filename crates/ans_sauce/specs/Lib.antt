@@ -5,3 +5,4 @@ pub mod Found
 pub mod Judged
 pub mod WithoutLines
 pub mod Fields
+pub mod Contents

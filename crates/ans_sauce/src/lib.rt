@@ -19,6 +19,7 @@ mod note_conditions;
 mod padding;
 mod parts;
 mod record;
+mod writing;
 
 pub use ans_model::fault::{Cause, Fault};
 pub use ans_model::limits::MAX_FILE;
@@ -29,3 +30,4 @@ pub use layout::{body_before, cut_content, cut_record, split};
 pub use no_lines::{WithoutLines, without_lines};
 pub use parts::Parts;
 pub use record::Record;
+pub use writing::{Reset, overwrite, state_file_size, state_lines, state_non_blink};

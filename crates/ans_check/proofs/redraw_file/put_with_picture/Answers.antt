@@ -1,9 +1,9 @@
 use Rattle.std.proofs.Common.{◌≡◌, [], Err, Ok, refl, rules}
 use Rattle.ans_model.specs.Screen.StartClass.{all_known}
 use Rattle.ans_write.proofs.PutsLemmas.{Puts-nothing}
-use Rattle.ans_redraw_file.specs.RedrawnFile.{redrawn_file}
+use Rattle.ans_redraw.specs.RedrawnFile.{redrawn_file}
 use Rattle.ans_check.proofs.ReportedLemmas.{is_put}
-use Rattle.ans_redraw_file.proofs.RedrawLemmas.{too_long}
+use Rattle.ans_redraw.proofs.RedrawLemmas.{too_long}
 use Rattle.ans_verdict.proofs.VerdictLemmas.{passes}
 use Rattle.ans_check.proofs.redraw_file.put_with_picture.Goals as goal
 

@@ -1,2 +1,0 @@
-pub mod NewFiles
-pub mod RedrawLemmas
