@@ -63,5 +63,5 @@ help_clean : (asked : Mends) (cause : Cause) → IsCleanText (help_text asked ca
 help_clean asked cause = helped_clean asked (fault_help cause)
 
 pub unmended_clean : (asked : Mends) (reason : Unmended) → IsCleanText (unmended_text asked reason)
-unmended_clean asked (unmended.Refused fault) = search (clean_lines, help_clean) depth 20
+unmended_clean asked (unmended.Refused fault) = search (clean_lines, help_clean asked fault.cause) depth 20
 unmended_clean asked reason = search clean_lines depth 20
