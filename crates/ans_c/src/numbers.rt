@@ -36,7 +36,7 @@ const ROW_SIZE: usize = 24;
 
 /// Why a file is refused.
 #[repr(C)]
-#[derive(Clone, Copy)]
+#[derive(Clone, Copy, Default)]
 pub struct ToldFault {
     /// n for the fault Fn.
     pub number: u32,
@@ -49,7 +49,7 @@ pub struct ToldFault {
 
 /// The size of a file's picture, and what is to be lent for a check of it.
 #[repr(C)]
-#[derive(Clone, Copy)]
+#[derive(Clone, Copy, Default)]
 pub struct PictureSize {
     pub columns: u32,
     pub lines: u32,

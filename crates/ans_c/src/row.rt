@@ -23,7 +23,7 @@ fn parts_told(file: &[u8], why: &Why<'_>) -> ToldParts
     ensures { TellsParts file.now (parts_in why.now) result }
 {
     match why {
-        Judged::NoContent(_) => ToldParts::NONE,
+        Judged::NoContent(_) => ToldParts::default(),
         Judged::Refused(parts, _) => parts_of(file, parts),
         Judged::Passes(parts, _) => parts_of(file, parts),
     }

@@ -111,6 +111,6 @@ pub(crate) fn fields_of(file: &[u8]) -> ToldFields
 {
     match cut_record(file) {
         Some((front, sauce)) => fields_behind(front.len(), &sauce),
-        None => ToldFields::NONE,
+        None => ToldFields::default(),
     }
 }

@@ -13,7 +13,7 @@ use ans_why::{Enough, Known, Pass, RecordRefusal, Refusal, Reliance, Shown, Why,
 
 /// Bytes of a file: so many, from this offset on. The length is 0 where there are none.
 #[repr(C)]
-#[derive(Clone, Copy)]
+#[derive(Clone, Copy, Default)]
 pub struct Piece {
     /// In bytes from the file's start.
     pub start: usize,
@@ -23,7 +23,7 @@ pub struct Piece {
 /// A row and a column, counted from 1; the row may be the spare one below the stated lines. Both are 0 where there
 /// is no place.
 #[repr(C)]
-#[derive(Clone, Copy)]
+#[derive(Clone, Copy, Default)]
 pub struct ToldPlace {
     pub row: usize,
     pub column: usize,
@@ -31,7 +31,7 @@ pub struct ToldPlace {
 
 /// What a content that passes from the cleared start relies on; all is 0 for another file.
 #[repr(C)]
-#[derive(Clone, Copy)]
+#[derive(Clone, Copy, Default)]
 pub struct Passing {
     /// The parts of the start that have to be known, by the bits of `ans_check_on`.
     pub needs: u32,
@@ -50,7 +50,7 @@ pub struct Passing {
 /// What is to blame: the fault of a file that is refused from the cleared start, or the one that a content
 /// which passes from there has from every start. All is 0 where there is no such fault.
 #[repr(C)]
-#[derive(Clone, Copy)]
+#[derive(Clone, Copy, Default)]
 pub struct Blame {
     pub fault: ToldFault,
     /// The bytes to blame: none for F1 to F8 and for F25.
@@ -74,7 +74,7 @@ pub struct Blame {
 
 /// The parts of a file whose record and layout are accepted; all is 0 for another.
 #[repr(C)]
-#[derive(Clone, Copy)]
+#[derive(Clone, Copy, Default)]
 pub struct ToldParts {
     /// How many bytes the content has, from the file's start on.
     pub content: usize,
@@ -86,7 +86,7 @@ pub struct ToldParts {
 
 /// What the record in a file's last 128 bytes says, accepted or not; all is 0 where there is none.
 #[repr(C)]
-#[derive(Clone, Copy)]
+#[derive(Clone, Copy, Default)]
 pub struct ToldFields {
     /// 1 where there is a record.
     pub is_there: u32,
@@ -112,74 +112,12 @@ pub struct ToldFields {
 
 /// What there is to tell of a file.
 #[repr(C)]
-#[derive(Clone, Copy)]
+#[derive(Clone, Copy, Default)]
 pub struct ToldRow {
     pub passing: Passing,
     pub blame: Blame,
     pub parts: ToldParts,
     pub fields: ToldFields,
-}
-
-impl Piece {
-    pub(crate) const NONE: Piece = Piece {
-        start: 0,
-        length: 0,
-    };
-}
-
-impl ToldPlace {
-    const NONE: ToldPlace = ToldPlace { row: 0, column: 0 };
-}
-
-impl Passing {
-    pub(crate) const NONE: Passing = Passing {
-        needs: 0,
-        players: 0,
-        on_every_player: 0,
-        taller: 0,
-    };
-}
-
-impl Blame {
-    pub(crate) const NONE: Blame = Blame {
-        fault: ToldFault {
-            number: 0,
-            row: 0,
-            column: 0,
-            offset: 0,
-        },
-        bytes: Piece::NONE,
-        low: ToldPlace::NONE,
-        high: ToldPlace::NONE,
-        known: 0,
-        lines: 0,
-        mends: 0,
-    };
-}
-
-impl ToldParts {
-    pub(crate) const NONE: ToldParts = ToldParts {
-        content: 0,
-        comments: Piece::NONE,
-        notes: 0,
-    };
-}
-
-impl ToldFields {
-    pub(crate) const NONE: ToldFields = ToldFields {
-        is_there: 0,
-        flags: 0,
-        ice: 0,
-        spacing: 0,
-        aspect: 0,
-        width: 0,
-        lines: 0,
-        font: Piece::NONE,
-        date: Piece::NONE,
-        title: Piece::NONE,
-        author: Piece::NONE,
-        group: Piece::NONE,
-    };
 }
 
 /// The numbers of the kinds that arise, added up.
@@ -260,7 +198,7 @@ fn places_told(shown: &Shown) -> (ToldPlace, ToldPlace)
                 column: high.column,
             },
         ),
-        Shown::Cells { .. } => (ToldPlace::NONE, ToldPlace::NONE),
+        Shown::Cells { .. } => (ToldPlace::default(), ToldPlace::default()),
     }
 }
 
@@ -289,7 +227,7 @@ fn blame_of_record(said: &RecordRefusal<'_>) -> Blame
         fault: told(&said.fault),
         known: known_number(known_found(&said.found)),
         lines: enough_or_0(&said.enough),
-        ..Blame::NONE
+        ..Blame::default()
     }
 }
 
@@ -337,7 +275,7 @@ fn blame_of_pass(reliance: &Option<Reliance<'_>>) -> Blame
 {
     match reliance {
         Some(reliance) => blame_of_reliance(reliance),
-        None => Blame::NONE,
+        None => Blame::default(),
     }
 }
 
@@ -358,6 +296,6 @@ pub(crate) fn passing_in(why: &Why<'_>) -> Passing
 {
     match why {
         Judged::Passes(_, said) => passing_of(said),
-        _ => Passing::NONE,
+        _ => Passing::default(),
     }
 }

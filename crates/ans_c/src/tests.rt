@@ -13,24 +13,10 @@ fn drawing() -> [u8; 131] {
     file
 }
 
-fn no_fault() -> ToldFault {
-    ToldFault {
-        number: 0,
-        row: 0,
-        column: 0,
-        offset: 0,
-    }
-}
-
 #[test]
 fn sizes_are_told(rt: HostRuntime) {
-    let mut size = PictureSize {
-        columns: 0,
-        lines: 0,
-        cells: 0,
-        scratch: 0,
-    };
-    let mut fault = no_fault();
+    let mut size = PictureSize::default();
+    let mut fault = ToldFault::default();
     let file = drawing();
     let passed = ans_size(&file, &mut size, &mut fault);
     let told = (size.columns, size.lines, size.cells, size.scratch);
@@ -70,7 +56,7 @@ fn pictures_are_copied(rt: HostRuntime) {
         bytes: [0x55; 16],
         glyphs: [0; 3],
         attributes: [0; 3],
-        fault: no_fault(),
+        fault: ToldFault::default(),
     };
     let passed = lent.check(31, &mut rows);
     let (glyphs, attributes) = (lent.glyphs, lent.attributes);
@@ -88,7 +74,7 @@ fn needs_are_told(rt: HostRuntime) {
     let mut bytes = [0u8; 16];
     let mut few_bytes = [0u8; 15];
     let mut parts = 0;
-    let mut fault = no_fault();
+    let mut fault = ToldFault::default();
     let passed = ans_needs_on(&file, &mut rows, &mut bytes, &mut parts, &mut fault);
     let told = parts;
     let short = ans_needs_on(&file, &mut rows, &mut few_bytes, &mut parts, &mut fault);
@@ -99,21 +85,11 @@ fn needs_are_told(rt: HostRuntime) {
     );
 }
 
-/// A row in which nothing is told yet.
-fn no_row() -> ToldRow {
-    ToldRow {
-        passing: Passing::NONE,
-        blame: Blame::NONE,
-        parts: ToldParts::NONE,
-        fields: ToldFields::NONE,
-    }
-}
-
 /// What `ans_row_on` answers about a file on two rows, and the row.
 fn row_of(file: &[u8]) -> (u32, ToldRow) {
     let mut rows = [LentRow::new(); 2];
     let mut bytes = [0u8; 16];
-    let mut row = no_row();
+    let mut row = ToldRow::default();
     let answer = ans_row_on(file, &mut rows, &mut bytes, &mut row);
     (answer, row)
 }
@@ -188,7 +164,7 @@ fn rows_of_refused_files_are_told(rt: HostRuntime) {
     let fields = row.fields;
     let flags = (fields.flags, fields.ice, fields.spacing, fields.aspect);
     assert_eq!(rt; flags, (19, 1, 8, 2));
-    let mut row = no_row();
+    let mut row = ToldRow::default();
     let short = ans_row_on(&file, &mut [LentRow::new(); 1], &mut [0u8; 16], &mut row);
     assert_eq!(rt; short, NO_ROOM);
 }

@@ -3,10 +3,12 @@ use Rattle.std.proofs.Common.{ℕ, Bool, true, false, List, Option, Some, None, 
 use Rattle.std.specs.Prelude.{flat_map, IfSome}
 use Rattle.ans_model.specs.Bytes.{IsByte}
 use Rattle.ans_model.specs.declared.fault.Cause.{Cause}
-use Rattle.ans_model.specs.declared.fault.Cause.TheVariants as cause
+use Rattle.ans_report.specs.Meanings.{fault_help}
+use Rattle.ans_report.specs.declared.meanings.Help.{Help}
+use Rattle.ans_report.specs.declared.meanings.Help.TheVariants as help
 use Rattle.ans_walks.specs.declared.times.Times.{Times}
 use Rattle.ans_report.specs.Changes.{end_mark_line}
-use Rattle.ans_mend.specs.MendedText.{flag_line, front_line, help_text, mended_text, record_line}
+use Rattle.ans_mend.specs.MendedText.{flag_line, front_line, help_text, helped, mended_text, record_line}
 use Rattle.ans_mend.specs.MendedText.{tail_line, taken_line, times_line, unmended_text}
 use Rattle.ans_mend.specs.declared.outcome.Mended.{Mended}
 use Rattle.ans_mend.specs.declared.outcome.Unmended.{Unmended}
@@ -54,10 +56,13 @@ mended_clean m bytes =
 
 -- ---- why there is none
 
+helped_clean : (asked : Mends) (way : Help) → IsCleanText (helped asked way)
+helped_clean asked help.Look = search clean_lines depth 20
+helped_clean asked way = search clean_lines depth 20
+
 help_clean : (asked : Mends) (cause : Cause) → IsCleanText (help_text asked cause)
-help_clean asked cause.NoRecord = search clean_lines depth 20
-help_clean asked why = search clean_lines depth 20
+help_clean asked cause = helped_clean asked (fault_help cause)
 
 pub unmended_clean : (asked : Mends) (reason : Unmended) → IsCleanText (unmended_text asked reason)
-unmended_clean asked (unmended.Refused fault) = search (clean_lines, help_clean) depth 20
+unmended_clean asked (unmended.Refused fault) = search (clean_lines, help_clean asked fault.cause) depth 20
 unmended_clean asked reason = search clean_lines depth 20

@@ -4,10 +4,12 @@ use Rattle.std.specs.Prelude.{codes, decimal, Option, None, Some, is_some, if◌
 use Rattle.std.specs.List.{flat_map}
 use Rattle.ans_model.specs.Text.FaultText.{fault_line}
 use Rattle.ans_model.specs.declared.fault.Cause.{Cause}
-use Rattle.ans_model.specs.declared.fault.Cause.TheVariants as cause
 use Rattle.ans_report.specs.Changes.{end_mark_line, reset_line}
 use Rattle.ans_report.specs.Counted.{counted_text, times_text}
+use Rattle.ans_report.specs.Meanings.{fault_help}
 use Rattle.ans_report.specs.Quoted.{quoted_byte}
+use Rattle.ans_report.specs.declared.meanings.Help.{Help}
+use Rattle.ans_report.specs.declared.meanings.Help.TheVariants as help
 use Rattle.ans_walks.specs.declared.times.Times.{Times}
 use Rattle.ans_mend.specs.declared.outcome.GivenRecord.{GivenRecord}
 use Rattle.ans_mend.specs.declared.outcome.Mended.{Mended}
@@ -140,24 +142,18 @@ rows_help asked =
 abbrev pub place_help : Mends → List ℕ
 place_help asked = if has_least asked then look_text else added_text ++ (lines_offered asked ++ codes "\n")
 
--- what may help against a fault, of what is not asked for yet
+-- what may help, of what is not asked for yet
+abbrev pub helped : Mends → Help → List ℕ
+helped asked help.Look = look_text
+helped asked help.Record = record_help
+helped asked help.LeastLines = codes "help: --least-lines states the least number of lines that is enough\n"
+helped asked help.TakeOut = sequence_help asked
+helped asked help.Place = place_help asked
+helped asked help.Rows = rows_help asked
+
+-- what may help against a fault
 abbrev pub help_text : Mends → Cause → List ℕ
-help_text asked cause.NoRecord = record_help
-help_text asked cause.LinesUnstated =
-    codes "help: --least-lines states the least number of lines that is enough\n"
-help_text asked cause.BrokenSequence = sequence_help asked
-help_text asked cause.NumberTooLarge = sequence_help asked
-help_text asked cause.TooManyParameters = sequence_help asked
-help_text asked cause.EndInSequence = sequence_help asked
-help_text asked cause.UnknownSequence = sequence_help asked
-help_text asked cause.WrongParameters = sequence_help asked
-help_text asked cause.KeyReassigned = sequence_help asked
-help_text asked cause.ScreenMode = sequence_help asked
-help_text asked cause.ReportAsked = sequence_help asked
-help_text asked cause.OutsideScreen = place_help asked
-help_text asked cause.PrintBelow = rows_help asked
-help_text asked cause.Scrolls = rows_help asked
-help_text asked _ = look_text
+help_text asked cause = helped asked (fault_help cause)
 
 -- what may help where the rows are torn: whole rows, or a number that is given all the same
 abbrev pub torn_help : Mends → List ℕ

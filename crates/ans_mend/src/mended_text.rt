@@ -13,7 +13,8 @@ use crate::taking_out::{Excerpt, TakenOut};
 use ans_model::fault::Cause;
 use ans_model::mends::Mends;
 use ans_report::{
-    put_counted, put_end_mark_line, put_fault_line, put_quoted_bytes, put_reset_line, put_times,
+    Help, fault_help, put_counted, put_end_mark_line, put_fault_line, put_quoted_bytes,
+    put_reset_line, put_times,
 };
 use ans_walks::Times;
 use ans_write::Outbox;
@@ -276,30 +277,13 @@ fn put_no_lines_help<W: Write>(out: &mut Outbox<'_, W>, asked: &Mends)
 fn put_help<W: Write>(out: &mut Outbox<'_, W>, asked: &Mends, cause: &Cause)
     ensures { Puts W.contents out.old out.new (help_text asked.now cause.now) }
 {
-    match cause {
-        Cause::NoRecord => out.put(WIDTH),
-        Cause::LinesUnstated => out.put(LEAST_LINES),
-        Cause::BrokenSequence
-        | Cause::NumberTooLarge
-        | Cause::TooManyParameters
-        | Cause::EndInSequence
-        | Cause::UnknownSequence
-        | Cause::WrongParameters
-        | Cause::KeyReassigned
-        | Cause::ScreenMode
-        | Cause::ReportAsked => out.put(sequence_help(asked)),
-        Cause::OutsideScreen => put_place_help(out, asked),
-        Cause::PrintBelow | Cause::Scrolls => put_rows_help(out, asked),
-        Cause::WrongVersion
-        | Cause::WrongKind
-        | Cause::CommentsMissing
-        | Cause::WidthTooLarge
-        | Cause::LinesTooLarge
-        | Cause::BytesAfterEndMark
-        | Cause::PrintUnknownPlace
-        | Cause::EraseUnknownPlace
-        | Cause::MayScroll
-        | Cause::UnknownCell { .. } => out.put(LOOK),
+    match fault_help(cause) {
+        Help::Look => out.put(LOOK),
+        Help::Record => out.put(WIDTH),
+        Help::LeastLines => out.put(LEAST_LINES),
+        Help::TakeOut => out.put(sequence_help(asked)),
+        Help::Place => put_place_help(out, asked),
+        Help::Rows => put_rows_help(out, asked),
     }
 }
 
