@@ -1,34 +1,20 @@
--- What is known of the room in a draft where what is to be put does not fit in.
-use Rattle.std.proofs.Common.{◌≡◌, ℕ, ◌+◌, ◌-◌, ◌<◌, ◌≤◌, Bool, true, false, List, ◌∷◌, length, take, drop, refl}
-use Rattle.std.proofs.Common.{sym, ap}
-use Rattle.std.proofs.Common.{◌*◌, min, ap₂, ◌∙◌, arith, Option, None, Some, Ok, Err}
-use Rattle.std.specs.Prelude.{OnErr, OnOk, Result, if◌then◌else◌}
+-- What is put into a draft fits in.
+use Rattle.std.proofs.Common.{◌≡◌, ℕ, ◌+◌, ◌-◌, ◌*◌, ◌≤◌, Bool, true, false, List, ◌∷◌, length, take, drop, min}
+use Rattle.std.proofs.Common.{◌∙◌, ap, ap₂, arith, Option, subst₂, sym}
+use Rattle.std.specs.Prelude.{if◌then◌else◌}
 use Rattle.std.proofs.lemmas.List.{length-append, length-take-le, take-append-drop}
 use Rattle.ans_model.specs.Bytes.{end_mark, longest_file}
+use Rattle.ans_model.specs.declared.mends.Mends.{Mends}
 use Rattle.ans_sauce.specs.Found.{body_in, front_in, record_in}
-use Rattle.ans_sauce.specs.Fields.{four_bytes, with_file_size}
+use Rattle.ans_sauce.specs.Fields.{four_bytes, with_file_size, with_record}
 use Rattle.ans_mend.specs.Drafts.{DraftView, draft_of, memory_of, with_byte}
 use Rattle.ans_mend.specs.EndMark.{lacks_end_mark, with_end_mark}
-use Rattle.ans_sauce.specs.Fields.{two_bytes, with_record}
 use Rattle.ans_sauce.proofs.Overwriting.{recorded_length as same_length}
-use Rattle.ans_mend.specs.Tail.{IsTailCut}
-use Rattle.ans_model.specs.declared.mends.Mends.{Mends}
 use Rattle.ans_mend.specs.Mending.{asked_for, lined, opened, recorded}
-use Rattle.ans_mend.specs.MendingRoom.{LacksRoom, most_added, most_names, most_put, most_returns}
+use Rattle.ans_mend.specs.MendingRoom.{most_added, most_names, most_put, most_returns}
+use Rattle.ans_mend.specs.Tail.{IsTailCut}
 use Rattle.ans_mend.proofs.MendRoomLemmas.{few_returns, recorded_length}
-use Rattle.ans_mend.proofs.MendedLemmas.{opened_front, opened_length}
-
--- what is true is so of any error
-pub of_error : {T E : Type 0} {P : Type 0} (r : Result T E) → P → OnErr r P
-of_error (Ok v) p = tt
-of_error (Err e) p = p
-
--- what follows from what is so of any answer is so of any
-pub of_answer : {T E : Type 0} {P Q : Type 0} (r : Result T E) → (P → Q) → OnOk r P → OnOk r Q
-of_answer (Ok v) f p = f p
-of_answer (Err e) f p = tt
-
--- ---- how long a file is
+use Rattle.ans_mend.proofs.MendedLemmas.{lined_length, opened_front, opened_length}
 
 mark_length : (file : List ℕ) → length (with_end_mark file) ≤ length file + 1
 mark_length file = go (lacks_end_mark file)
@@ -44,10 +30,6 @@ mark_length file = go (lacks_end_mark file)
         let whole = ap length (take-append-drop place file) in
         omega (arith, sum, all, whole)
 
-lined_length : (lines : Option ℕ) (file : List ℕ) → 128 ≤ length file → length (lined lines file) ≡ length file
-lined_length None file long = refl
-lined_length (Some lines) file long = same_length 98 (two_bytes lines) file long (omega arith)
-
 pub sized_length : (size : ℕ) (file : List ℕ) → 128 ≤ length file
     → length (with_record (with_file_size size (record_in file)) file) ≡ length file
 sized_length size file long = same_length 90 (four_bytes size) file long (omega arith)
@@ -55,59 +37,42 @@ sized_length size file long = same_length 90 (four_bytes size) file long (omega 
 -- ---- of a file with its record, on the lines that are stated first
 
 module _ (asked : Mends) (file : List ℕ) (room : ℕ) (first : DraftView)
-    (is : first ≡ draft_of (opened asked file) room) where
-  same_returns : most_returns asked (front_in first.file) ≡ most_returns asked (front_in file)
-  same_returns =
-      ap (λ (d : DraftView). most_returns asked (front_in d.file)) is
-      ∙ ap (most_returns asked) (opened_front asked file)
+    (is : first ≡ draft_of (opened asked file) room) (fits : most_added asked file + 1 ≤ room) where
+  same_added : most_added asked first.file ≡ most_added asked file
+  same_added =
+      ap (λ (d : DraftView). most_added asked d.file) is
+      ∙ ap₂ (λ (front : List ℕ) (long : ℕ). most_returns asked front + most_names asked long (length front))
+      (opened_front asked file) (opened_length asked file)
 
-  same_names : most_names asked (length first.file) (length (front_in first.file))
-      ≡ most_names asked (length file) (length (front_in file))
-  same_names =
-      ap (λ (d : DraftView). most_names asked (length d.file) (length (front_in d.file))) is
-      ∙ ap₂ (most_names asked) (opened_length asked file) (ap length (opened_front asked file))
-
-  -- the returns or the names do not fit in
-  pub lacks_returns : first.room < most_added asked first.file
-      → room ≤ most_added asked file
-  lacks_returns few =
-      let same = same_returns in
-      let names = same_names in
+  pub added_fits : most_added asked first.file ≤ first.room
+  added_fits =
+      let same = same_added in
       let as_many = ap (λ (d : DraftView). d.room) is in
-      omega (arith, few, same, names, as_many)
+      omega (arith, fits, same, as_many)
 
-  -- with the content changed, and the lines settled, the end mark does not
-  pub lacks_mark : (edited last : DraftView) (lines : Option ℕ) → memory_of edited ≡ memory_of first
-      → length edited.file ≤ length first.file
-      + most_added asked first.file
-      → last ≡ draft_of (lined lines edited.file) edited.room → last.room ≡ 0
-      → room ≤ most_added asked file
-  lacks_mark edited last lines memory longer settled none =
-      let same = same_returns in
-      let names = same_names in
-      let as_many = ap memory_of is in
-      let long = opened_length asked file in
-      let nothing : edited.room ≡ 0 = sym (ap (λ (d : DraftView). d.room) settled) ∙ none in
-      let first_long = ap (λ (d : DraftView). length d.file) is in
-      omega (arith, same, names, as_many, long, nothing, first_long, memory, longer)
+  -- with the content changed, and the lines settled
+  module _ (edited last : DraftView) (lines : Option ℕ) (memory : memory_of edited ≡ memory_of first)
+      (longer : length edited.file ≤ length first.file + most_added asked first.file)
+      (settled : last ≡ draft_of (lined lines edited.file) edited.room) where
+    pub mark_fits : 1 ≤ last.room
+    mark_fits =
+        let added = added_fits in
+        let same = same_added in
+        let as_many = ap (λ (d : DraftView). d.room) is in
+        let left = ap (λ (d : DraftView). d.room) settled in
+        omega (arith, fits, same, as_many, left, memory, longer)
 
-  -- all that is put makes it longer by the returns, the names and the end mark
-  pub not_longer : (edited last : DraftView) (lines : Option ℕ) (settled : List ℕ)
-      → length edited.file ≤ length first.file
-      + most_added asked first.file
-      → last ≡ draft_of (lined lines edited.file) edited.room → 128 ≤ length edited.file
-      → settled ≡ with_end_mark last.file
-      → length settled ≤ length file + (most_added asked file + 1)
-  not_longer edited last lines settled longer settled_lines long marked =
-      let same = same_returns in
-      let names = same_names in
-      let as_long = opened_length asked file in
-      let first_long = ap (λ (d : DraftView). length d.file) is in
-      let lined_long = lined_length lines edited.file long in
-      let last_long = ap (λ (d : DraftView). length d.file) settled_lines in
-      let mark_long = mark_length last.file in
-      let settled_long = ap length marked in
-      omega (arith, same, names, as_long, first_long, lined_long, last_long, mark_long, settled_long, longer)
+    pub not_longer : (marked : List ℕ) → 128 ≤ length edited.file → marked ≡ with_end_mark last.file
+        → length marked ≤ length file + (most_added asked file + 1)
+    not_longer marked long marked_is =
+        let same = same_added in
+        let as_long = opened_length asked file in
+        let first_long = ap (λ (d : DraftView). length d.file) is in
+        let lined_long = lined_length lines edited.file long in
+        let last_long = ap (λ (d : DraftView). length d.file) settled in
+        let mark_long = mark_length last.file in
+        let marked_long = ap length marked_is in
+        omega (arith, same, as_long, first_long, lined_long, last_long, mark_long, marked_long, longer)
 
 -- ---- of the whole file
 
@@ -121,53 +86,26 @@ names_within mends whole based front few short = go mends.name_colours
     go false = omega (arith, few)
     go true = omega (arith, few, short)
 
-front_long : (file : List ℕ) → length (front_in file) ≡ length file - 128
-front_long file = length-take-le (length file - 128) file (omega arith)
+module _ (mends asked : Mends) (whole cut based : List ℕ) (is_cut : IsTailCut whole cut)
+    (shorter : length cut ≤ length whole) (asked_is : asked ≡ asked_for mends cut) (based_is : based ≡ recorded mends cut)
+  where
+    all_fits : length based + (most_added asked based + 1) ≤ length whole + most_put mends whole
+    all_fits =
+        let given : List ℕ = recorded mends cut in
+        let returns = few_returns mends whole cut is_cut in
+        let long = recorded_length mends cut in
+        let front : length (front_in given) ≡ length given - 128 = length-take-le (length given - 128) given (omega arith) in
+        let names = names_within mends (length whole) (length given) (length (front_in given))
+        (omega (arith, shorter, long)) (omega (arith, shorter, long, front)) in
+        subst₂ (λ (m : Mends) (v : List ℕ). length v + (most_added m v + 1) ≤ length whole + most_put mends whole)
+        (sym asked_is) (sym based_is) (omega (arith, shorter, returns, long, names))
 
-module _ (mends : Mends) (whole cut : DraftView) (shorter : length cut.file ≤ length whole.file)
-    (same_memory : memory_of cut ≡ memory_of whole) where
-  -- the record does not fit in
-  pub lacks_record : memory_of cut < length cut.file + 129 → LacksRoom mends whole
-  lacks_record few = omega (arith, few, shorter, same_memory)
+    -- behind the record there is room for all that is put
+    pub rest_fits : (whole_room based_room : ℕ) → length based + based_room ≡ length whole + whole_room
+        → most_put mends whole ≤ whole_room → most_added asked based + 1 ≤ based_room
+    rest_fits whole_room based_room memory fits = let all = all_fits in omega (arith, all, memory, fits)
 
-  -- or what is put behind it
-  pub lacks_rest : (based : DraftView) (asked : Mends) → IsTailCut whole.file cut.file
-      → memory_of based ≡ memory_of cut → based.file ≡ recorded mends cut.file
-      → asked ≡ asked_for mends cut.file
-      → based.room ≤ most_added asked based.file
-      → LacksRoom mends whole
-  lacks_rest based asked is_cut memory file_is asked_is few =
-      let returns = few_returns mends whole.file cut.file is_cut in
-      let same : most_returns asked (front_in based.file)
-      ≡ most_returns (asked_for mends cut.file) (front_in (recorded mends cut.file)) =
-      ap₂ (λ (a : Mends) (v : List ℕ). most_returns a (front_in v)) asked_is file_is in
-      let long = recorded_length mends cut.file in
-      let as_long = ap length file_is in
-      let names : most_names asked (length based.file) (length (front_in based.file))
-      ≡ most_names mends (length based.file) (length (front_in based.file)) =
-      ap (λ (a : Mends). most_names a (length based.file) (length (front_in based.file))) asked_is in
-      let front = front_long based.file in
-      let less = names_within mends (length whole.file) (length based.file) (length (front_in based.file))
-      (omega (arith, shorter, long, as_long)) (omega (arith, shorter, long, as_long, front)) in
-      omega (arith, shorter, same_memory, memory, few, returns, same, long, as_long, names, less)
-
-  -- and all that is put makes it longer by no more than it may
-  pub grows_so : (based : DraftView) (asked : Mends) (new : List ℕ) → IsTailCut whole.file cut.file
-      → based.file ≡ recorded mends cut.file → asked ≡ asked_for mends cut.file
-      → length new ≤ length based.file
-      + (most_added asked based.file + 1)
-      → length new ≤ length whole.file + most_put mends whole.file
-  grows_so based asked new is_cut file_is asked_is longer =
-      let returns = few_returns mends whole.file cut.file is_cut in
-      let same : most_returns asked (front_in based.file)
-      ≡ most_returns (asked_for mends cut.file) (front_in (recorded mends cut.file)) =
-      ap₂ (λ (a : Mends) (v : List ℕ). most_returns a (front_in v)) asked_is file_is in
-      let long = recorded_length mends cut.file in
-      let as_long = ap length file_is in
-      let names : most_names asked (length based.file) (length (front_in based.file))
-      ≡ most_names mends (length based.file) (length (front_in based.file)) =
-      ap (λ (a : Mends). most_names a (length based.file) (length (front_in based.file))) asked_is in
-      let front = front_long based.file in
-      let less = names_within mends (length whole.file) (length based.file) (length (front_in based.file))
-      (omega (arith, shorter, long, as_long)) (omega (arith, shorter, long, as_long, front)) in
-      omega (arith, shorter, returns, same, long, as_long, longer, names, less)
+    -- and it makes the file longer by no more than it may
+    pub grows_so : (new : List ℕ) → length new ≤ length based + (most_added asked based + 1)
+        → length new ≤ length whole + most_put mends whole
+    grows_so new longer = let all = all_fits in omega (arith, all, longer)

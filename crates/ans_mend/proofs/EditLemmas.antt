@@ -1,16 +1,16 @@
 -- What is changed of a content where it is asked for.
-use Rattle.std.proofs.Common.{◌≡◌, inr, ℕ, ◌+◌, ◌-◌, ◌<◌, ◌≤◌, Bool, true, false, List, length, Ok, Err, sym, ap, subst}
+use Rattle.std.proofs.Common.{◌≡◌, inr, ℕ, ◌+◌, ◌-◌, ◌≤◌, Bool, true, false, List, length, Ok, Err, sym, ap, subst}
 use Rattle.std.proofs.Common.{◌*◌, arith, min}
 use Rattle.std.proofs.lemmas.List.{length-take-le}
-use Rattle.std.specs.Prelude.{MatchBool, Option, None, OnErr, OnOk, IfOk, IsTrue, Result, if◌then◌else◌}
+use Rattle.std.specs.Prelude.{MatchBool, Option, None, IfErr, IfOk, IsTrue, Result, if◌then◌else◌}
 use Rattle.ans_model.specs.Bytes.{longest_file, most_lines}
 use Rattle.ans_model.specs.Screen.State.{Size, sized}
 use Rattle.ans_walks.specs.declared.times.Times.{Times}
 use Rattle.ans_sauce.specs.Found.{front_in}
 use Rattle.ans_mend.specs.FullRows.{HasFullRows}
 use Rattle.ans_mend.specs.LineEnds.{line_feeds, with_line_ends}
-use Rattle.ans_mend.specs.NamedColours.{HasNamedColours, IsTooLongNamed}
-use Rattle.ans_mend.specs.declared.draft.NoRoom.{NoRoom}
+use Rattle.ans_mend.specs.NamedColours.{HasNamedColours, IsTooLongNamed, names_room}
+use Rattle.ans_sauce.specs.Contents.{content_in}
 use Rattle.ans_mend.specs.declared.outcome.Unmended.{Unmended}
 use Rattle.ans_mend.specs.declared.outcome.Unmended.TheVariants.{TooLong}
 use Rattle.ans_mend.specs.declared.taking_out.Told.{Told}
@@ -20,15 +20,22 @@ use Rattle.ans_mend.specs.Mending.{TellsReturns, returned}
 use Rattle.ans_mend.specs.MendingRoom.{most_added, most_returns}
 use Rattle.ans_mend.specs.MendingSteps.{IsEditedTooLong, IsNamedTooLong}
 use Rattle.ans_mend.proofs.NamedBound.{longer_by_names as named_bound}
-use Rattle.ans_mend.proofs.MendRoomLemmas.{line_ends_length, returns_few}
+use Rattle.ans_mend.proofs.MendRoomLemmas.{content_in_feeds, line_ends_length, returns_few}
 
--- where returns are put, the file is longer by no more than its line feeds
-pub longer_by_returns : (mends : Mends) (file new : List ℕ) (r : Result (Option Times) NoRoom) → mends.line_ends ≡ true
-    → OnOk r (new ≡ with_line_ends file) → OnOk r (length new ≤ length file + most_returns mends (front_in file))
-longer_by_returns mends file new (Ok times) asked is =
+-- where returns are put, there is room for them
+pub returns_fit : (mends : Mends) (file : List ℕ) (room : ℕ) → mends.line_ends ≡ true
+    → most_returns mends (front_in file) ≤ room → line_feeds (content_in file) ≤ room
+returns_fit mends file room asked fits =
+    let most : line_feeds (front_in file) ≤ room = rw asked at fits in
+    let few = content_in_feeds file in
+    omega (arith, most, few)
+
+-- and the file is longer by no more than its line feeds
+pub longer_by_returns : (mends : Mends) (file new : List ℕ) → mends.line_ends ≡ true → new ≡ with_line_ends file
+    → length new ≤ length file + most_returns mends (front_in file)
+longer_by_returns mends file new asked is =
     rw asked (subst (λ (v : List ℕ). length v ≤ length file + line_feeds (front_in file)) (sym is)
     (line_ends_length file))
-longer_by_returns mends file new (Err none) asked is = tt
 
 pub rows_joined : (mends : Mends) (z : Size) (file joined : List ℕ) (times : Option Times) → mends.full_rows ≡ true
     → HasFullRows (sized z.width most_lines) file joined times → AreRowsJoined mends z file joined times
@@ -41,26 +48,18 @@ pub colours_named : (mends : Mends) (file new : List ℕ) (times : Option Times)
 colours_named mends file new times asked named =
     subst (λ (b : Bool). MatchBool b (HasNamedColours file new times) ((new ≡ file) × (times ≡ None))) (sym asked) named
 
-pub named_if : (mends : Mends) (file new : List ℕ) (r : Result (Option Times) NoRoom) → mends.name_colours ≡ true
+pub named_if : (mends : Mends) (file new : List ℕ) (r : Result (Option Times) Unmended) → mends.name_colours ≡ true
     → IfOk r (HasNamedColours file new) → IfOk r (AreNamed mends file new)
 named_if mends file new (Ok times) asked named = colours_named mends file new times asked named
-named_if mends file new (Err none) asked named = tt
+named_if mends file new (Err reason) asked named = tt
 
--- no room was asked for
-pub lacks_if : (mends : Mends) (P : Type 0) (file : List ℕ) (memory : ℕ) (r : Result (Option Times) NoRoom)
-    → mends.name_colours ≡ true → OnErr r (P × IsTooLongNamed file memory)
-    → OnErr r (IsTrue mends.name_colours × IsTooLongNamed file memory
-    × (memory < length file + 4 * (length file - 128)))
-lacks_if mends P file memory (Ok times) asked lacks = tt
-lacks_if mends P file memory (Err none) asked (same, (new, times, named, more)) =
-    let few = named_bound file new times named in
-    (asked, (new, times, named, more), omega (arith, more, few))
-
--- where the memory is as long as the longest file, the names are too many
-pub too_many_names : (mends : Mends) (file : List ℕ) (memory : ℕ) (P : Type 0) → longest_file ≤ memory
-    → IsTrue mends.name_colours × IsTooLongNamed file memory × P → IsNamedTooLong mends file
-too_many_names mends file memory P long (asked, (new, times, named, more), few) =
-    (new, times, colours_named mends file new times asked named, omega (arith, long, more))
+-- with the names that are asked for it would be too long
+pub too_many_names : (mends : Mends) (file : List ℕ) (P : Type 0) (r : Result (Option Times) Unmended)
+    → mends.name_colours ≡ true → IfErr r (λ reason. P × (reason ≡ TooLong) × IsTooLongNamed file longest_file)
+    → IfErr r (λ reason. (reason ≡ TooLong) × IsNamedTooLong mends file)
+too_many_names mends file P (Ok times) asked long = tt
+too_many_names mends file P (Err reason) asked (same, is, (new, times, named, more)) =
+    (is, (new, times, colours_named mends file new times asked named, more))
 
 -- with the content changed
 module _ (mends : Mends) (z : Size) (file returned_file out joined ended : List ℕ) (returns row_ends last_ends : Option
@@ -113,11 +112,12 @@ module _ (mends : Mends) (old ended : List ℕ)
           omega (arith, long, more, front, few, shorter)
       go false (same, none) = let as_long = ap length same in omega (arith, as_long, shorter)
 
-  -- there is no room for them
-  pub lacks_names : (memory room : ℕ) → memory ≡ length old + room → IsTrue mends.name_colours
-      → memory < longest_file → memory < length ended + 4 * (length ended - 128)
-      → room < most_added mends old
-  lacks_names memory room sum asked short few =
+  -- and there is room for them
+  pub names_fit : (was now : ℕ) → length ended + now ≡ length old + was → most_added mends old ≤ was
+      → IsTrue mends.name_colours → names_room ended ≤ now
+  names_fit was now sum fits asked =
       let front = front_long in
       let returns = returns_few mends (front_in old) in
-      rw asked (omega (arith, sum, short, few, front, returns, shorter))
+      let most : most_returns mends (front_in old)
+      + min (longest_file - length old) (8 * length (front_in old)) ≤ was = rw asked at fits in
+      omega (arith, sum, most, front, returns, shorter)

@@ -1,7 +1,7 @@
 -- What a file's parts say of mending.
-use Rattle.std.proofs.Common.{◌≡◌, inl, inr, ℕ, Bool, true, false, List, length, refl, sym, ap, ◌∙◌}
+use Rattle.std.proofs.Common.{◌≡◌, inl, inr, ℕ, Bool, true, false, List, refl, sym, ap, ◌∙◌}
 use Rattle.std.proofs.Common.{Option, Some, None, true≢false}
-use Rattle.std.proofs.Common.{subst₂, ap₂, Result, Ok, Err, ◌+◌, ◌==◌}
+use Rattle.std.proofs.Common.{subst₂, ap₂, Result, Ok, Err}
 use Rattle.std.specs.Prelude.{is_some, not, ◌||◌, IsTrue, ◌↔◌, IfOk, IfErr, IfSome, IfNone, OnOk, if◌then◌else◌}
 use mir.Val.{bool_byte}
 use Rattle.ans_model.specs.Screen.State.{Size}
@@ -19,17 +19,16 @@ use Rattle.ans_walks.specs.Lines.{IsNeverGood}
 use Rattle.ans_model.specs.Verdict.Good.{IsGood}
 use Rattle.ans_mend.specs.Mending.{asks_for_lines}
 use Rattle.ans_mend.specs.Mending.{AreLinesFor, AsksForLeast, HasLeast, IsWithoutNumber, KeepsLines}
-use Rattle.ans_mend.specs.MendingSteps.{IsJudgement, IsSurvey}
+use Rattle.ans_mend.specs.MendingSteps.{IsJudgement, reading_by, reading_in}
 use Rattle.ans_mend.specs.Mending.{TakesLines, WantsLines}
-use Rattle.ans_mend.specs.declared.judging.Survey.{Survey}
 use Rattle.ans_mend.specs.declared.judging.Judgement.{Judgement}
 use Rattle.ans_verdict.proofs.VerdictLemmas.{not_good}
 use Rattle.ans_model.specs.File.Layout.{content}
-use Rattle.ans_model.specs.File.Record.{file_size, is_non_blink, stated_lines, stated_size, stated_width}
+use Rattle.ans_model.specs.File.Record.{stated_size, stated_width}
 use Rattle.ans_model.specs.Screen.StartClass.{all_known, none_known}
 use Rattle.ans_model.specs.declared.fault.Fault.{Fault}
 use Rattle.ans_sauce.specs.Found.{record_in}
-use Rattle.ans_sauce.specs.Parts.{content_of, lines_of, record_of, size_of}
+use Rattle.ans_sauce.specs.Parts.{content_of, record_of, size_of}
 use Rattle.ans_sauce.specs.Split.{IsSplit}
 use Rattle.ans_sauce.specs.declared.parts.Parts.{Parts}
 use Rattle.ans_sauce.proofs.LaidParts.{laid_body, laid_record}
@@ -46,6 +45,12 @@ split_record file parts h = h.shows.sauce ∙ sym (laid_record file h.apart h.ac
 pub split_content : (file : List ℕ) (parts : Parts) → IsSplit file parts → content_of parts ≡ content_in file
 split_content file parts h = h.shows.content ∙ ap content (sym (laid_body file h.apart h.accepts.laid))
 
+-- and what is read of them is read of it
+pub split_reading : (lacks : Bool) (file : List ℕ) (parts : Parts) → IsSplit file parts
+    → reading_by lacks (record_of parts) (content_of parts) ≡ reading_in lacks file
+split_reading lacks file parts h =
+    ap₂ (reading_by lacks) (split_record file parts h) (split_content file parts h)
+
 -- the fault of its play from the cleared start is one of the file
 pub split_fault : (file : List ℕ) (parts : Parts) (fault : Fault) → IsSplit file parts
     → Deserves (size_of parts) all_known (content_of parts) fault → IsFaulty file fault
@@ -58,9 +63,8 @@ pub judged : (mends : Mends) (file : List ℕ) (parts : Parts) (judgement : Judg
     → IsGood (size_of parts) all_known (content_of parts)
     → (judgement.front ≡ false → IsGood (size_of parts) none_known (content_of parts))
     → IsTrue judgement.front ↔ WantsMending mends (size_of parts) (content_of parts)
-    → judgement.content ≡ length (content_of parts) → judgement.lines ≡ lines_of parts
-    → judgement.non_blink ≡ is_non_blink (record_of parts) → IsJudgement mends file judgement
-judged mends file parts judgement h cleared every wants count lines non_blink = record {
+    → judgement.reading ≡ reading_by false (record_of parts) (content_of parts) → IsJudgement mends file judgement
+judged mends file parts judgement h cleared every wants reading = record {
   apart = h.apart;
   accepts = h.accepts;
   cleared = subst₂ (λ (sauce bytes : List ℕ). IsGood (stated_size sauce) all_known bytes) h.shows.sauce h.shows.content
@@ -69,9 +73,7 @@ judged mends file parts judgement h cleared every wants count lines non_blink = 
       h.shows.content (every off);
   wants = subst₂ (λ (sauce bytes : List ℕ). IsTrue judgement.front ↔ WantsMending mends (stated_size sauce) bytes)
       h.shows.sauce h.shows.content wants;
-  count = count ∙ ap length h.shows.content;
-  lines = lines ∙ ap stated_lines h.shows.sauce;
-  non_blink = non_blink ∙ ap is_non_blink h.shows.sauce;
+  reading = reading ∙ split_reading false file parts h;
 }
 
 -- each kind is agreed
@@ -163,26 +165,6 @@ module _ (mends : Mends) (lacks : Bool) (sauce bytes : List ℕ) (wanted : Wants
       → IfErr r (IsReasonOfLines mends lacks sauce bytes)
   least_reason (Ok n) h = h
   least_reason (Err reason) h = (wanted, asks, h)
-
--- what the record of these parts says
-pub surveyed : (lacks : Bool) (file : List ℕ) (parts : Parts) (survey : Survey) → IsSplit file parts
-    → survey.size ≡ size_of parts → survey.non_blink ≡ is_non_blink (record_of parts)
-    → survey.stated ≡ (if lacks then 0 else stated_lines (record_of parts))
-    → survey.file_size ≡ file_size (record_of parts)
-    → survey.end_mark_counted ≡ (if file_size (record_of parts) == length (content_of parts) + 1 then 1 else 0)
-    → IsSurvey lacks file survey
-surveyed lacks file parts survey h screen non_blink stated size counted =
-    let sauce = split_record file parts h in
-    let bytes = split_content file parts h in
-    record {
-      apart = h.apart;
-      accepts = h.accepts;
-      screen = screen ∙ ap stated_size sauce;
-      non_blink = non_blink ∙ ap is_non_blink sauce;
-      stated = stated ∙ ap (λ (v : List ℕ). if lacks then 0 else stated_lines v) sauce;
-      size = size ∙ ap file_size sauce;
-      counted = counted ∙ ap₂ (λ (v w : List ℕ). if file_size v == length w + 1 then 1 else 0) sauce bytes;
-    }
 
 -- the lines that are taken, and those for which they are
 module _ (mends : Mends) (lacks : Bool) (file : List ℕ) (parts : Parts) (h : IsSplit file parts) where

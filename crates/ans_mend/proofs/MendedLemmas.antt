@@ -1,16 +1,16 @@
 -- A file that is mended passes from every start.
 use Rattle.std.proofs.Common.{◌≡◌, inl, inr, ℕ, ◌+◌, ◌-◌, ◌≤◌, ◌==◌, Bool, true, false, List, ◌++◌}
-use Rattle.std.proofs.Common.{length, refl, sym, ap, ap₂, ◌∙◌, arith, subst, subst₂}
-use Rattle.std.proofs.Common.{append_assoc, Result, Ok, Err}
-use Rattle.std.specs.Prelude.{if◌then◌else◌, ◌&&◌, ◌||◌, IfOk, IfErr, Option, None, Some}
+use Rattle.std.proofs.Common.{length, take, refl, sym, ap, ap₂, ◌∙◌, arith, subst, subst₂}
+use Rattle.std.proofs.Common.{append_assoc, true≢false, Result, Err}
+use Rattle.std.specs.Prelude.{if◌then◌else◌, ◌&&◌, ◌||◌, IfErr, nat_le, bytes_eq, codes, Option, None, Some}
 use Rattle.std.specs.Prelude.{is_some, option_and_then}
 use Rattle.std.specs.List.{list_any}
 use Rattle.std.proofs.lemmas.Bool.{and_parts, eqb-true}
 use Rattle.std.proofs.lemmas.List.{length-append, length-drop, length-take-le}
 use Rattle.std.proofs.lemmas.List.Folds.{list_any-append}
-use Rattle.ans_model.specs.Bytes.{most_lines}
+use Rattle.ans_model.specs.Bytes.{longest_file}
 use Rattle.ans_model.specs.File.Layout.{FileParts, Laid, after_content, comment_block, content, is_end_mark, laid_file}
-use Rattle.ans_model.specs.File.Record.{comment_count, file_size, is_non_blink, stated_lines, stated_size}
+use Rattle.ans_model.specs.File.Record.{comment_count, stated_lines, stated_size}
 use Rattle.ans_model.specs.File.Refusals.{Accepts, block_size, has_record}
 use Rattle.ans_model.specs.Screen.State.{Size}
 use Rattle.ans_model.specs.Screen.StartClass.{all_known, none_known}
@@ -29,20 +29,23 @@ use Rattle.ans_sauce.specs.Contents.{content_in}
 use Rattle.ans_mend.specs.NewRecord.{takes_record}
 use Rattle.ans_mend.specs.declared.outcome.GivenRecord.{GivenRecord}
 use Rattle.ans_mend.specs.declared.outcome.Unmended.{Unmended}
-use Rattle.ans_mend.specs.declared.outcome.Unmended.TheVariants.{Refused}
-use Rattle.ans_model.specs.declared.fault.Fault.{Fault}
+use Rattle.ans_mend.specs.declared.outcome.Unmended.TheVariants.{Refused, TooLong}
 use Rattle.ans_mend.proofs.EndMarks.{ended}
 use Rattle.ans_model.specs.declared.mends.Mends.{Mends}
 use Rattle.std.specs.Prelude.{IsTrue, ◌↔◌}
-use Rattle.ans_mend.specs.Mending.{IsEditedAsStated, IsSettled, WantsMending, asked_for, recorded}
-use Rattle.ans_mend.specs.Mending.{IsFaulty, IsMended, IsRead, IsReason, IsReasonFor}
-use Rattle.ans_mend.specs.MendingSteps.{IsEditedTooLong, IsFinished, IsJudgement, IsPrepared, IsSurvey, IsTooLong}
-use Rattle.ans_mend.specs.Mending.{asks_for_lines, first_lines, front_bytes, gives_record, lacks_lines, lined, opened}
-use Rattle.ans_mend.specs.Mending.{record_put}
+use Rattle.ans_mend.specs.Mending.{HasSettled, IfNotMended, IsMended, IsRead, IsReason, IsReasonFor, IsReasonOfContent}
+use Rattle.ans_mend.specs.Mending.{IsSettled, WantsMending, asked_for, asks_for_lines, end_mark_counted, first_lines}
+use Rattle.ans_mend.specs.Mending.{front_bytes, gives_record, lacks_lines, lined, opened, record_put, recorded}
 use Rattle.ans_mend.specs.MendingRoom.{LacksScreenFor, LacksScreenInTheEnd}
+use Rattle.ans_mend.specs.MendingSteps.{IsEditedTooLong, IsJudgement, IsRefused, IsSized, IsTooLong, reading_in}
+use Rattle.ans_mend.specs.LastEnds.{times_at}
+use Rattle.ans_mend.specs.Tail.{IsTailCut}
 use Rattle.ans_mend.specs.declared.judging.Judgement.{Judgement}
-use Rattle.ans_mend.specs.declared.judging.Survey.{Survey}
-use Rattle.ans_mend.specs.declared.mending.Prepared.{Prepared}
+use Rattle.ans_mend.specs.declared.judging.Reading.{Reading}
+use Rattle.ans_mend.specs.declared.outcome.Edits.{Edits}
+use Rattle.ans_mend.specs.declared.outcome.MendError.{MendError}
+use Rattle.ans_mend.specs.declared.outcome.MendError.TheVariants.{Memory, NotMended}
+use Rattle.ans_walks.specs.declared.times.Times.{Times}
 
 -- ---- the record that is put
 
@@ -135,29 +138,6 @@ opened_stated mends file stated = go (lacks_lines mends file) refl
         (and_parts (stated_lines (record_in file) == 0) (asks_for_lines mends) inner).0 in
         same ∙ sym none
 
--- ---- the numbers of a survey
-
-pub surveyed_stated : (lacks : Bool) (file : List ℕ) (survey : Survey) → IsSurvey lacks file survey
-    → survey.stated ≤ most_lines
-surveyed_stated lacks file survey h =
-    let limit : stated_lines (record_in file) ≤ most_lines =
-    rw (laid_record file h.apart h.accepts.laid) h.accepts.lines_in_limit in
-    go lacks h.stated limit
-  where
-    go : (lacks : Bool) → survey.stated ≡ (if lacks then 0 else stated_lines (record_in file))
-        → stated_lines (record_in file) ≤ most_lines → survey.stated ≤ most_lines
-    go true is limit = omega (arith, is)
-    go false is limit = omega (arith, is, limit)
-
-pub surveyed_counted : (lacks : Bool) (file : List ℕ) (survey : Survey) → IsSurvey lacks file survey
-    → survey.end_mark_counted ≤ 1
-surveyed_counted lacks file survey h =
-    go (file_size (record_in file) == length (content_in file) + 1) h.counted
-  where
-    go : (more : Bool) → survey.end_mark_counted ≡ (if more then 1 else 0) → survey.end_mark_counted ≤ 1
-    go true is = omega (arith, is)
-    go false is = omega (arith, is)
-
 -- ---- the file that is written
 
 unmarked : (front : Bool) → list_any is_end_mark (front_bytes front) ≡ false
@@ -219,150 +199,137 @@ passing z false bytes good every =
       every = from_every.1;
     }
 
-pub mended : (mends : Mends) (file : List ℕ) (prepared : Prepared) (settled : List ℕ) (judgement : Judgement)
-    (m : Mended) (draft : List ℕ) → IsPrepared mends file prepared settled → IsJudgement mends settled judgement
-    → IsFinished prepared judgement settled m draft → IsMended mends file m draft
-mended mends file prepared settled judgement m draft prep judged done =
-    let front : List ℕ = front_bytes m.front in
-    let none : list_any is_end_mark front ≡ false = unmarked m.front in
-    let n : ℕ = m.file_size.is in
-    let apart : FileParts = judged.apart in
-    let accepts : Accepts settled apart = judged.accepts in
-    let whole : front ++ draft ≡ laid_file (resized_parts front n apart) =
-    ap (λ (v : List ℕ). front ++ v) done.draft_is ∙ laid_behind front none n settled apart accepts in
-    let body_is : content_in settled ≡ content apart.body = ap content (laid_body settled apart accepts.laid) in
-    let content_is : content (front ++ apart.body) ≡ front ++ content apart.body =
-    resized_content front none n settled apart accepts in
-    let size_is : stated_size (with_file_size n apart.record_bytes) ≡ stated_size apart.record_bytes =
-    resized_size front none n settled apart accepts in
-    let accepted : Accepts (front ++ draft) (resized_parts front n apart) =
-    subst (λ (v : List ℕ). Accepts v (resized_parts front n apart)) (sym whole)
-    (resized_accepted front none n settled apart accepts) in
-    let passes : Passing (stated_size apart.record_bytes) m.front (content apart.body) =
-    passing (stated_size apart.record_bytes) m.front (content apart.body) judged.cleared
-    (λ off. judged.every (sym done.front ∙ off)) in
-    record {
-      cut = prep.cut;
-      is_cut = prep.is_cut;
-      asked = asked_for mends prep.cut;
-      asked_is = refl;
-      based = recorded mends prep.cut;
-      based_is = refl;
-      based_fits = prep.fits;
-      opened_read = (prep.done.survey.apart, prep.done.survey.accepts);
-      settled = settled;
-      edited = prep.done.edited;
-      is_edited = subst (IsEditedAsStated (asked_for mends prep.cut) (opened (asked_for mends prep.cut) (recorded mends
-          prep.cut)) prep.done.edited) (sym done.edits) prep.done.is_edited;
-      edited_sound = prep.done.edited_sound;
-      lines = prepared.done.lines;
-      are_lines = prep.done.lines;
-      settled_is = prep.done.settled_is;
-      settled_sound = ((apart, accepts), prep.done.settled_fits);
-      draft_is = done.draft_is;
-      apart = resized_parts front n apart;
-      accepts = accepted;
-      content_is = content_is ∙ ap (λ (v : List ℕ). front ++ v) (sym body_is);
-      room =
-          let now = parts_length (front ++ draft) (resized_parts front n apart) accepted in
-          let was = parts_length settled apart accepts in
-          let body = length-append front apart.body in
-          let block = ap block_size (resized_comments front none n settled apart accepts) in
-          let same : length front ≡ length (front_bytes judgement.front) =
-          ap (λ (b : Bool). length (front_bytes b)) done.front in
-          let room = done.room in omega (arith, now, was, body, block, same, room);
-      fits =
-          let all : length (content (front ++ apart.body)) ≡ length front + length (content apart.body) =
-          ap length content_is ∙ length-append front (content apart.body) in
-          let same : length front ≡ length (front_bytes judgement.front) =
-          ap (λ (b : Bool). length (front_bytes b)) done.front in
-          let size = done.size in
-          let count = judged.count in
-          let counted = prep.done.survey.counted in omega (arith, all, same, size, count, counted);
-      ended = any_behind front apart.body
-          (ended (lined prepared.done.lines prep.done.edited) apart
-          (subst (λ (v : List ℕ). Laid v apart) prep.done.settled_is accepts.laid));
-      picture = passes.picture;
-      from_cleared = subst₂ (λ (z : Size) (bytes : List ℕ). GoodWith z all_known bytes passes.picture) (sym size_is)
-          (sym body_is) passes.cleared;
-      from_every = subst₂ (λ (z : Size) (bytes : List ℕ). GoodWith z none_known bytes passes.picture) (sym size_is)
-          (sym content_is) passes.every;
-      front = subst (λ (b : Bool). IsTrue b ↔ WantsMending mends
-          (stated_size (resized_parts front n apart).record_bytes) (content_in settled)) (sym done.front)
-          (subst₂ (λ (z : Size) (bytes : List ℕ). IsTrue judgement.front ↔ WantsMending mends z bytes) (sym size_is)
-          (sym body_is) judged.wants);
-      tail = done.tail ∙ prep.tail;
-      given_record = done.given_record ∙ prep.given_record;
-      flag_was = done.flag_was ∙ prep.done.survey.non_blink;
-      flag_is = done.flag_is ∙ judged.non_blink
-          ∙ ap is_non_blink (sym (laid_record settled apart accepts.laid));
-      end_mark = done.end_mark ∙ prep.done.end_mark;
-      lines_were = done.lines_were ∙ prep.done.stated;
-      lines_are = done.lines_are ∙ judged.lines ∙ ap stated_lines (sym (laid_record settled apart accepts.laid));
-      size_was = done.size_was ∙ prep.done.survey.size;
-    }
-
--- ---- and where it is not
-
-was_settled : (mends : Mends) (file : List ℕ) (prepared : Prepared) (settled : List ℕ)
-    → (prep : IsPrepared mends file prepared settled)
-    → IsSettled (asked_for mends prep.cut) (recorded mends prep.cut) settled
-was_settled mends file prepared settled prep = record {
-  opened_read = (prep.done.survey.apart, prep.done.survey.accepts);
-  edited = prep.done.edited;
-  edits = prepared.done.edits;
-  is_edited = prep.done.is_edited;
-  edited_read = prep.done.edited_sound.0;
-  lines = prepared.done.lines;
-  are_lines = prep.done.lines;
-  settled_is = prep.done.settled_is;
+-- what is told of it
+abbrev pub told : Option Times → Option GivenRecord → Edits → Option ℕ → Reading → Judgement → ℕ → Mended
+told tail given edits mark was judgement size = record {
+  tail = tail;
+  given_record = given;
+  edits = edits;
+  non_blink = record { was = was.non_blink; is = judgement.reading.non_blink };
+  lines = record { was = was.lines; is = judgement.reading.lines };
+  end_mark = mark;
+  front = judgement.front;
+  file_size = record { was = was.file_size; is = size };
 }
 
--- a fault of the settled file is a reason
-pub faulty : (mends : Mends) (file : List ℕ) (prepared : Prepared) (settled : List ℕ) (fault : Fault)
-    → IsPrepared mends file prepared settled → IsFaulty settled fault → IsReason mends file (Refused fault)
-faulty mends file prepared settled fault prep is =
-    (prep.cut, prep.is_cut, inr (inr (inr (settled, was_settled mends file prepared settled prep, is))))
+-- of a file whose tail is cut, which has a record if it gets one, and which is settled
+module _ (mends : Mends) (file cut : List ℕ) (is_cut : IsTailCut file cut) (asked : Mends)
+    (asked_is : asked ≡ asked_for mends cut) (based : List ℕ) (based_is : based ≡ recorded mends cut) where
+  -- a reason then is one of the file
+  pub reason_so : (reason : Unmended) → IsReasonFor asked based reason → IsReason mends file reason
+  reason_so reason why =
+      (cut, is_cut, subst₂ (λ (m : Mends) (v : List ℕ). IsReasonFor m v reason) asked_is based_is why)
 
--- and so is want of room for the mending
-pub too_long : (mends : Mends) (file : List ℕ) (prepared : Prepared) (settled : List ℕ) (judgement : Judgement)
-    (reason : Unmended) → IsPrepared mends file prepared settled → IsJudgement mends settled judgement
-    → IsTooLong judgement settled reason → IsReason mends file reason
-too_long mends file prepared settled judgement reason prep judged is =
-    let apart : FileParts = judged.apart in
-    let wants : WantsMending mends (stated_size (record_in settled)) (content_in settled) =
-    subst₂ (λ (r b : List ℕ). WantsMending mends (stated_size r) (content b))
-    (sym (laid_record settled apart judged.accepts.laid)) (sym (laid_body settled apart judged.accepts.laid))
-    (judged.wants.0 is.1) in
-    let passes : IsGood (stated_size (record_in settled)) all_known (content_in settled) =
-    subst₂ (λ (r b : List ℕ). IsGood (stated_size r) all_known (content b))
-    (sym (laid_record settled apart judged.accepts.laid)) (sym (laid_body settled apart judged.accepts.laid))
-    judged.cleared in
-    subst (λ (r : Unmended). IsReason mends file r) (sym is.0) (
-      prep.cut,
-      prep.is_cut,
-      inr (inr (inr (settled, was_settled mends file prepared settled prep, inr (is.2, wants, passes)))),
+  module _ (settled : List ℕ) (edits : Edits) (mark : Option ℕ) (steps : IsSettled asked based edits mark settled) where
+    content_reason : (reason : Unmended) → IsReasonOfContent asked settled reason → IsReason mends file reason
+    content_reason reason why = reason_so reason (inr (inr (inr (settled, edits, mark, steps, why))))
+
+    -- a fault of the settled file is one
+    pub refused : (reason : Unmended) → IsRefused settled reason → IsReason mends file reason
+    refused reason (fault, is, faulty) =
+        subst (λ (r : Unmended). IsReason mends file r) (sym is) (content_reason (Refused fault) faulty)
+
+    -- and there is no screen for it in the end, where there is none for the settled file
+    pub lacks_screen : (lacks : Size → Type 0) → LacksScreenFor lacks settled → LacksScreenInTheEnd lacks mends file
+    lacks_screen lacks none = (
+      cut,
+      is_cut,
+      subst₂ (λ (m : Mends) (v : List ℕ). HasSettled m v (LacksScreenFor lacks)) asked_is based_is
+          (settled, edits, mark, steps, none),
     )
 
--- nor is there a screen for it in the end, where there is none for the settled file
-pub lacks_screen : (lacks : Size → Type 0) (mends : Mends) (file : List ℕ) (prepared : Prepared) (settled : List ℕ)
-    → IsPrepared mends file prepared settled → LacksScreenFor lacks settled → LacksScreenInTheEnd lacks mends file
-lacks_screen lacks mends file prepared settled prep none =
-    (prep.cut, prep.is_cut, (settled, was_settled mends file prepared settled prep, none))
+    module _ (judgement : Judgement) (judged : IsJudgement asked settled judgement) where
+      abbrev apart : FileParts
+      apart = judged.apart
 
--- what finishing comes to
-module _ (mends : Mends) (file : List ℕ) (prepared : Prepared) (settled : List ℕ) (judgement : Judgement)
-    (prep : IsPrepared mends file prepared settled) (judged : IsJudgement mends settled judgement)
-    (draft : List ℕ) where
-  pub finished : (r : Result Mended Unmended) → IfOk r (λ m. IsFinished prepared judgement settled m draft)
-      → IfOk r (λ m. IsMended mends file m draft)
-  finished (Ok m) done = mended mends file prepared settled judgement m draft prep judged done
-  finished (Err reason) done = done
+      record_is : record_in settled ≡ apart.record_bytes
+      record_is = laid_record settled apart judged.accepts.laid
 
-  pub unfinished : (r : Result Mended Unmended) → IfErr r (IsTooLong judgement settled)
-      → IfErr r (IsReason mends file)
-  unfinished (Ok m) is = is
-  unfinished (Err reason) is = too_long mends file prepared settled judgement reason prep judged is
+      body_is : content_in settled ≡ content apart.body
+      body_is = ap content (laid_body settled apart judged.accepts.laid)
+
+      -- so is want of room for the mending
+      pub too_long : (reason : Unmended) → IsTooLong judgement.front settled reason → IsReason mends file reason
+      too_long reason is =
+          let wants : WantsMending asked (stated_size (record_in settled)) (content_in settled) =
+          subst₂ (λ (r b : List ℕ). WantsMending asked (stated_size r) b) (sym record_is) (sym body_is)
+          (judged.wants.0 is.1) in
+          let passes : IsGood (stated_size (record_in settled)) all_known (content_in settled) =
+          subst₂ (λ (r b : List ℕ). IsGood (stated_size r) all_known b) (sym record_is) (sym body_is)
+          judged.cleared in
+          subst (λ (r : Unmended). IsReason mends file r) (sym is.0)
+          (content_reason TooLong (inr (is.2, wants, passes)))
+
+      pub mended : (was : Reading) (n : ℕ) (draft : List ℕ)
+          → was ≡ reading_in (lacks_lines asked based) (opened asked based)
+          → IsSized judgement.front judgement.reading.content was.counts_end_mark settled n draft
+          → length based ≤ longest_file → length settled ≤ longest_file → (given : Option GivenRecord)
+          → given ≡ record_put mends cut → (tail : Option Times)
+          → tail ≡ times_at (length file - length cut) (length cut)
+          → IsMended mends file (told tail given edits mark was judgement n) draft
+      mended was n draft was_is sized based_fits settled_fits given given_is tail tail_is =
+          let front : List ℕ = front_bytes judgement.front in
+          let none : list_any is_end_mark front ≡ false = unmarked judgement.front in
+          let accepts : Accepts settled apart = judged.accepts in
+          let whole : front ++ draft ≡ laid_file (resized_parts front n apart) =
+          ap (λ (v : List ℕ). front ++ v) sized.draft_is ∙ laid_behind front none n settled apart accepts in
+          let content_is : content (front ++ apart.body) ≡ front ++ content apart.body =
+          resized_content front none n settled apart accepts in
+          let size_is : stated_size (with_file_size n apart.record_bytes) ≡ stated_size apart.record_bytes =
+          resized_size front none n settled apart accepts in
+          let accepted : Accepts (front ++ draft) (resized_parts front n apart) =
+          subst (λ (v : List ℕ). Accepts v (resized_parts front n apart)) (sym whole)
+          (resized_accepted front none n settled apart accepts) in
+          let passes : Passing (stated_size apart.record_bytes) judgement.front (content apart.body) =
+          passing (stated_size apart.record_bytes) judgement.front (content apart.body) judged.cleared judged.every in
+          record {
+            cut = cut;
+            is_cut = is_cut;
+            asked = asked;
+            asked_is = asked_is;
+            based = based;
+            based_is = based_is;
+            based_fits = based_fits;
+            settled = settled;
+            steps = steps;
+            settled_sound = ((apart, accepts), settled_fits);
+            draft_is = sized.draft_is;
+            apart = resized_parts front n apart;
+            accepts = accepted;
+            content_is = content_is ∙ ap (λ (v : List ℕ). front ++ v) (sym body_is);
+            room =
+                let now = parts_length (front ++ draft) (resized_parts front n apart) accepted in
+                let was = parts_length settled apart accepts in
+                let body = length-append front apart.body in
+                let block = ap block_size (resized_comments front none n settled apart accepts) in
+                let room = sized.room in omega (arith, now, was, body, block, room);
+            fits =
+                let all : length (content (front ++ apart.body)) ≡ length front + length (content apart.body) =
+                ap length content_is ∙ length-append front (content apart.body) in
+                let size = sized.size_is in
+                let count : judgement.reading.content ≡ length (content apart.body) =
+                ap (λ (r : Reading). r.content) judged.reading ∙ ap length body_is in
+                let counted : (if was.counts_end_mark then 1 else 0) ≡ end_mark_counted (opened asked based) =
+                ap (λ (r : Reading). if r.counts_end_mark then 1 else 0) was_is in
+                omega (arith, all, size, count, counted);
+            ended = any_behind front apart.body
+                (ended (lined steps.lines steps.edited) apart
+                (subst (λ (v : List ℕ). Laid v apart) steps.settled_is accepts.laid));
+            picture = passes.picture;
+            from_cleared = subst₂ (λ (z : Size) (bytes : List ℕ). GoodWith z all_known bytes passes.picture)
+                (sym size_is) (sym body_is) passes.cleared;
+            from_every = subst₂ (λ (z : Size) (bytes : List ℕ). GoodWith z none_known bytes passes.picture)
+                (sym size_is) (sym content_is) passes.every;
+            front = subst₂ (λ (z : Size) (bytes : List ℕ). IsTrue judgement.front ↔ WantsMending asked z bytes)
+                (sym size_is) (sym body_is) judged.wants;
+            tail = tail_is;
+            given_record = given_is;
+            flag_was = ap (λ (r : Reading). r.non_blink) was_is;
+            flag_is = ap (λ (r : Reading). r.non_blink) judged.reading;
+            lines_were = opened_stated asked based was.lines (ap (λ (r : Reading). r.lines) was_is);
+            lines_are = ap (λ (r : Reading). r.lines) judged.reading;
+            size_was = ap (λ (r : Reading). r.file_size) was_is;
+          }
 
 -- a file that is too long with its returns, or with its content changed, is not mended for that
 pub too_long_edited : (asked : Mends) (based : List ℕ) (reason : Unmended) → IsRead (opened asked based)
@@ -372,3 +339,19 @@ too_long_edited asked based reason read (is, why) = elim why [
   | inl long ↦ inl (is, inr long)
   | inr (edited, edits, is_edited, long) ↦ inr (inr (inl (read, edited, edits, is_edited, inl (is, long))))
 ]
+
+-- what follows from what is so of a reason
+pub weaker : (e : MendError) {P Q : Unmended → Type 0} → ((reason : Unmended) → P reason → Q reason)
+    → IfNotMended e P → IfNotMended e Q
+weaker Memory f p = tt
+weaker (NotMended reason) f p = f reason p
+
+-- an error that is no want of room has its reason
+pub not_mended : {T : Type 0} (r : Result T MendError) (e : MendError) (reason : Unmended) (holds : Unmended → Type 0)
+    → r ≡ Err e → e ≡ NotMended reason → holds reason → IfErr r (λ error. IfNotMended error holds)
+not_mended r e reason holds at is true_of = rw (at, is) true_of
+
+-- nor is there more than one
+pub same_error : {T U E : Type 0} {a b : E} (r : Result T E) → r ≡ Err a → r ≡ Err b
+    → ◌≡◌ {A = Result U E} (Err a) (Err b)
+same_error {a = a} {b = b} r at told = let same : a ≡ b = (cc) in ap Err same

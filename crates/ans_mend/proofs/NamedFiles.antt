@@ -11,6 +11,9 @@ use Rattle.ans_players.specs.Situations.{Spelled, spelled}
 use Rattle.ans_walks.specs.declared.times.Times.{Times}
 use Rattle.ans_sauce.specs.Contents.{content_in, with_content}
 use Rattle.ans_mend.specs.NamedColours.{AreColoursNamed, HasNamedColours, IsTooLongNamed, named_content}
+use Rattle.ans_mend.specs.NamedColours.{names_room}
+use Rattle.ans_model.specs.Bytes.{longest_file}
+use Rattle.ans_mend.proofs.NamedBound.{longer_by_names as named_bound}
 use Rattle.ans_mend.specs.NameSearch.{Grows, HaveNamedLength}
 use Rattle.ans_mend.specs.declared.name_colours.Growth.{Growth}
 use Rattle.ans_mend.proofs.ContentFront.{content_bytes, content_few, same_content}
@@ -61,10 +64,10 @@ module _ (memory file content : List ℕ) (used : ℕ) (is : content ≡ content
       ∙ ap (λ (v : List ℕ). left ++ drop (length content) v) (sym are)
       ∙ ap (λ (v : List ℕ). left ++ drop (length v) file) is)
 
-  -- with its names the file has no room
-  pub named_too_long : has_record file ≡ true → (most : ℕ) → most < length file + growth.bytes
-      → IsTooLongNamed file most
-  named_too_long has most more =
+  -- with its names the file is longer by as much
+  named_long : has_record file ≡ true
+      → (new : List ℕ) × HasNamedColours file new growth.times × (length new ≡ length file + growth.bytes)
+  named_long has =
       let left : List ℕ = named_content (spelled g.tokens g.texts) in
       let new : List ℕ = left ++ drop (length content) (take used memory) in
       let same : (tokens : List TokenKind) (texts : List (List ℕ)) → ReadsAs (take (length content) memory) tokens texts
@@ -79,4 +82,18 @@ module _ (memory file content : List ℕ) (used : ℕ) (is : content ≡ content
       length-drop (length content) (take used memory)
       ∙ ap (λ (v : ℕ). v - length content) (length-take-le used memory within) in
       let sum = length-append left (drop (length content) (take used memory)) in
-      (new, growth.times, file_named has new same, omega (arith, few, long, file_long, rest, sum, more, ap length is))
+      (new, file_named has new same, omega (arith, few, long, file_long, rest, sum, ap length is))
+
+  pub named_too_long : has_record file ≡ true → (most : ℕ) → most < length file + growth.bytes
+      → IsTooLongNamed file most
+  named_too_long has most more =
+      let (new, named, long) = named_long has in (new, growth.times, named, omega (arith, long, more))
+
+  -- where the file is not too long then, there is room for them
+  pub names_within : has_record file ≡ true → names_room file ≤ length memory - used
+      → growth.bytes ≤ longest_file - used → used + growth.bytes ≤ length memory
+  names_within has room few =
+      let (new, named, long) = named_long has in
+      let bound = named_bound file new growth.times named in
+      let file_long : length file ≡ used = ap length are ∙ length-take-le used memory within in
+      omega (arith, room, few, long, bound, file_long, within)

@@ -1,7 +1,7 @@
 -- How a file is mended, and why it is not.
 use Rattle.std.specs.Prelude.{◌≡◌, ◌⊎◌, ℕ, ◌+◌, ◌-◌, ◌<◌, ◌≤◌, Bool, true, false, ◌&&◌, ◌||◌, ◌==◌, IsTrue, List, []}
 use Rattle.std.specs.Prelude.{◌++◌, length, Option, None, Some, is_some, unwrap_or, option_and_then, ◌↔◌}
-use Rattle.std.specs.Prelude.{IfErr, IfOk, MatchBool, MatchOption, Result, Ok, Err, if◌then◌else◌}
+use Rattle.std.specs.Prelude.{⊤, IfErr, IfOk, MatchBool, MatchOption, Result, Ok, Err, if◌then◌else◌}
 use Rattle.std.specs.List.{list_any}
 use Rattle.ans_model.specs.Bytes.{longest_file, most_lines}
 use Rattle.ans_model.specs.File.Layout.{FileParts, content, is_end_mark}
@@ -37,6 +37,8 @@ use Rattle.ans_mend.specs.Tail.{IsTailCut}
 use Rattle.ans_mend.specs.TakingOut.{AreTakenOut, nothing_told}
 use Rattle.ans_mend.specs.declared.outcome.Edits.{Edits}
 use Rattle.ans_mend.specs.declared.outcome.GivenRecord.{GivenRecord}
+use Rattle.ans_mend.specs.declared.outcome.MendError.{MendError}
+use Rattle.ans_mend.specs.declared.outcome.MendError.TheVariants.{Memory, NotMended}
 use Rattle.ans_mend.specs.declared.outcome.Mended.{Mended}
 use Rattle.ans_mend.specs.declared.taking_out.Told.{Told}
 use Rattle.ans_mend.specs.declared.outcome.Unmended.{Unmended}
@@ -188,17 +190,18 @@ abbrev pub AreLinesFor : Mends → Bool → List ℕ → Option ℕ → Type 0
 AreLinesFor mends lacks file lines = MatchOption lines (KeepsLines mends lacks (record_in file) (content_in file))
     (TakesLines mends lacks (record_in file) (content_in file))
 
--- The file with its content changed, its lines settled, and with an end mark after its content. On the way each was
--- read.
-pub record IsSettled (asked : Mends) (based settled : List ℕ) : Type 0 where
+-- The file with its content changed, its lines settled, and with an end mark after its content, and what is told of
+-- that. On the way it was not too long, and each was read.
+pub record IsSettled (asked : Mends) (based : List ℕ) (edits : Edits) (mark : Option ℕ) (settled : List ℕ)
+    : Type 0 where
   pub opened_read : IsRead (opened asked based)
   pub edited : List ℕ
-  pub edits : Edits
   pub is_edited : IsEditedAsStated asked (opened asked based) edited edits
-  pub edited_read : IsRead edited
+  pub edited_sound : IsSound edited
   pub lines : Option ℕ
   pub are_lines : AreLinesFor asked (lacks_lines asked based) edited lines
   pub settled_is : settled ≡ with_end_mark (lined lines edited)
+  pub mark_is : mark ≡ end_mark_put (lined lines edited)
 
 -- ---- the file that is written
 
@@ -226,19 +229,13 @@ end_mark_counted file = if file_size (record_in file) == length (content_in file
 pub record IsMended (mends : Mends) (file : List ℕ) (mended : Mended) (draft : List ℕ) : Type 0 where
   pub cut : List ℕ
   pub is_cut : IsTailCut file cut
-  pub settled : List ℕ
   pub asked : Mends
   pub asked_is : asked ≡ asked_for mends cut
   pub based : List ℕ
   pub based_is : based ≡ recorded mends cut
   pub based_fits : length based ≤ longest_file
-  pub opened_read : IsRead (opened asked based)
-  pub edited : List ℕ
-  pub is_edited : IsEditedAsStated asked (opened asked based) edited mended.edits
-  pub edited_sound : IsSound edited
-  pub lines : Option ℕ
-  pub are_lines : AreLinesFor asked (lacks_lines asked based) edited lines
-  pub settled_is : settled ≡ with_end_mark (lined lines edited)
+  pub settled : List ℕ
+  pub steps : IsSettled asked based mended.edits mended.end_mark settled
   pub settled_sound : IsSound settled
   pub draft_is : draft ≡ with_record (with_file_size mended.file_size.is (record_in settled)) settled
   pub apart : FileParts
@@ -255,7 +252,6 @@ pub record IsMended (mends : Mends) (file : List ℕ) (mended : Mended) (draft :
   pub given_record : mended.given_record ≡ record_put mends cut
   pub flag_was : mended.non_blink.was ≡ is_non_blink (record_in (opened asked based))
   pub flag_is : mended.non_blink.is ≡ is_non_blink (record_in settled)
-  pub end_mark : mended.end_mark ≡ end_mark_put (lined lines edited)
   pub lines_were : mended.lines.was ≡ stated_lines (record_in based)
   pub lines_are : mended.lines.is ≡ stated_lines (record_in settled)
   pub size_was : mended.file_size.was ≡ file_size (record_in (opened asked based))
@@ -306,7 +302,8 @@ HasEdited asked based holds = IsRead (opened asked based) × (edited : List ℕ)
 
 -- and so it is with a settled file
 abbrev pub HasSettled : Mends → List ℕ → (List ℕ → Type 0) → Type 0
-HasSettled asked based holds = (settled : List ℕ) × IsSettled asked based settled × holds settled
+HasSettled asked based holds = (settled : List ℕ) × (edits : Edits) × (mark : Option ℕ)
+    × IsSettled asked based edits mark settled × holds settled
 
 -- The file, with a record if one was given, is too long, or it is with its returns.
 abbrev pub IsTooLongFor : Mends → List ℕ → Unmended → Type 0
@@ -323,6 +320,11 @@ IsReasonFor asked based reason = IsTooLongFor asked based reason ⊎ HasRecordFa
 abbrev pub IsReason : Mends → List ℕ → Unmended → Type 0
 IsReason mends file reason = (cut : List ℕ) × IsTailCut file cut
     × IsReasonFor (asked_for mends cut) (recorded mends cut) reason
+
+-- what holds of the reason, where the error has one
+abbrev pub IfNotMended : MendError → (Unmended → Type 0) → Type 0
+IfNotMended Memory holds = ⊤
+IfNotMended (NotMended reason) holds = holds reason
 
 -- ---- what is reported
 

@@ -1,9 +1,9 @@
 -- Colour sequences that take both names away and name the colours again, where something is printed in them.
-use Rattle.std.specs.Prelude.{◌≡◌, ◌⊎◌, ℕ, ◌+◌, ◌-◌, ◌<◌, Bool, true, false, not, ◌&&◌, ◌||◌, ◌==◌, nat_le}
+use Rattle.std.specs.Prelude.{◌≡◌, ◌⊎◌, ℕ, ◌+◌, ◌-◌, ◌*◌, ◌<◌, min, Bool, true, false, not, ◌&&◌, ◌||◌, ◌==◌, nat_le}
 use Rattle.std.specs.Prelude.{List, []}
 use Rattle.std.specs.Prelude.{◌∷◌, ◌++◌, length, drop, codes, if◌then◌else◌, Option, None, MatchBool}
 use Rattle.std.specs.List.{list_any}
-use Rattle.ans_model.specs.Bytes.{escape, bracket, semicolon}
+use Rattle.ans_model.specs.Bytes.{escape, bracket, longest_file, semicolon}
 use Rattle.ans_model.specs.File.Refusals.{has_record}
 use Rattle.ans_model.specs.Sequence.TokenKind.{TokenKind, Colours}
 use Rattle.ans_model.specs.Sequence.Reads.{Reads}
@@ -153,6 +153,10 @@ abbrev pub HasNamedColours : List ℕ → List ℕ → Option Times → Type 0
 HasNamedColours file new times = MatchBool (has_record file)
     ((left : List ℕ) × AreColoursNamed (content_in file) left times × (new ≡ with_content left file))
     ((new ≡ file) × (times ≡ None))
+
+-- how many bytes names add at most, if the file is then no longer than the longest
+abbrev pub names_room : List ℕ → ℕ
+names_room file = min (longest_file - length file) (4 * (length file - 128))
 
 -- with its colours named the file is longer than so many bytes
 abbrev pub IsTooLongNamed : List ℕ → ℕ → Type 0

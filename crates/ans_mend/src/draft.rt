@@ -1,13 +1,9 @@
 //! A file that is changed in place.
 
 ghost use Rattle.std.specs.Prelude.{◌≡◌, ◌+◌, ◌-◌, ◌≤◌, ◌<◌, ◌++◌, length, take};
-ghost use Rattle.ans_mend.specs.Drafts.{draft_of, memory_of, with_byte};
+ghost use Rattle.ans_mend.specs.Drafts.{draft_of, with_byte};
 
 use std::marker::Model;
-
-/// There is no room in the memory for what is to be put into the file.
-#[derive(Debug, Clone, Copy, PartialEq, Eq)]
-pub struct NoRoom;
 
 /// A file in memory that is lent, with room for more bytes behind it. It is changed in place.
 #[derive(Drop)]
@@ -46,11 +42,11 @@ impl<'a> Draft<'a> {
         &self.memory[..self.used]
     }
 
-    /// How many bytes the memory has in all.
-    pub fn capacity(&self) -> usize
-        ensures { result ≡ memory_of self.now }
+    /// For how many bytes more there is room.
+    pub fn room(&self) -> usize
+        ensures { result ≡ self.now.room }
     {
-        self.memory.len()
+        self.memory.len() - self.used
     }
 
     /// Cuts off what stands behind the first `count` bytes. It is room then.

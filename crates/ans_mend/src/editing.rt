@@ -1,17 +1,16 @@
 //! What is changed of the content of a file that is mended.
-ghost use Rattle.std.specs.Prelude.{◌≡◌, ◌+◌, ◌-◌, ◌*◌, ◌≤◌, ◌<◌, length, IfOk, IfErr, IsTrue, OnErr, OnOk};
+ghost use Rattle.std.specs.Prelude.{◌≡◌, ◌+◌, ◌≤◌, length, IfOk, IfErr, IsTrue, OnOk};
 ghost use Rattle.ans_model.specs.Bytes.{longest_file};
 ghost use Rattle.ans_mend.specs.declared.outcome.Unmended.TheVariants.{TooLong};
 ghost use Rattle.ans_mend.specs.Mending.{AreLastEndsGone, AreNamed, AreRowsJoined, AreSequencesOut, IsEdited};
-ghost use Rattle.ans_mend.specs.Mending.{TellsReturns};
-ghost use Rattle.ans_mend.specs.Mending.{returned};
+ghost use Rattle.ans_mend.specs.Mending.{TellsReturns, returned};
 ghost use Rattle.ans_mend.specs.MendingRoom.{most_added, most_returns};
-ghost use Rattle.ans_mend.specs.MendingSteps.{IsEditedTooLong, IsNamedTooLong, LacksNameRoom};
-ghost use Rattle.ans_mend.specs.NamedColours.{IsTooLongNamed};
+ghost use Rattle.ans_mend.specs.MendingSteps.{IsEditedTooLong, IsNamedTooLong};
+ghost use Rattle.ans_mend.specs.NamedColours.{names_room};
 ghost use Rattle.ans_mend.specs.Drafts.{memory_of};
 ghost use Rattle.ans_sauce.specs.Found.{front_in};
 
-use crate::draft::{Draft, NoRoom};
+use crate::draft::Draft;
 use crate::outcome::{Edits, Unmended};
 use crate::taking_out::Told;
 use ans_model::limits::{MAX_FILE, MAX_LINES};
@@ -20,18 +19,17 @@ use ans_model::size::Size;
 use ans_walks::Times;
 
 /// Puts returns before line feeds, where that is asked for.
-fn put_returns(draft: &mut Draft<'_>, mends: &Mends) -> Result<Option<Times>, NoRoom>
-    ensures file { OnOk result (draft.new.file ≡ returned mends.now draft.old.file) }
-    ensures returns { IfOk result (TellsReturns mends.now draft.old.file) }
-    ensures longer { OnOk result
-        (length draft.new.file ≤ length draft.old.file + most_returns mends.now (front_in draft.old.file)) }
+fn put_returns(draft: &mut Draft<'_>, mends: &Mends) -> Option<Times>
+    requires { most_returns mends.now (front_in draft.old.file) ≤ draft.old.room }
+    ensures file { draft.new.file ≡ returned mends.now draft.old.file }
+    ensures returns { TellsReturns mends.now draft.old.file result }
+    ensures longer { length draft.new.file ≤ length draft.old.file + most_returns mends.now (front_in draft.old.file) }
     ensures memory { memory_of draft.new ≡ memory_of draft.old }
-    ensures no_room { OnErr result (draft.old.room < most_returns mends.now (front_in draft.old.file)) }
 {
     if mends.line_ends {
         return draft.put_returns();
     }
-    Ok(None)
+    None
 }
 
 /// Takes sequences out, where that is asked for.
@@ -74,13 +72,13 @@ fn take_out_last_ends(draft: &mut Draft<'_>, mends: &Mends, size: Size) -> Optio
 }
 
 /// Names the colours, where that is asked for.
-fn name_colours(draft: &mut Draft<'_>, mends: &Mends) -> Result<Option<Times>, NoRoom>
-    requires { length draft.old.file ≤ longest_file }
-    ensures file { IfOk result (AreNamed mends.now draft.old.file draft.new.file) }
+fn name_colours(draft: &mut Draft<'_>, mends: &Mends) -> Result<Option<Times>, Unmended>
+    requires length { length draft.old.file ≤ longest_file }
+    requires room { IsTrue mends.now.name_colours → names_room draft.old.file ≤ draft.old.room }
+    ensures named { IfOk result (AreNamed mends.now draft.old.file draft.new.file) }
+    ensures length { OnOk result (length draft.new.file ≤ longest_file) }
+    ensures reason { IfErr result (λ reason. (reason ≡ TooLong) × IsNamedTooLong mends.now draft.old.file) }
     ensures memory { memory_of draft.new ≡ memory_of draft.old }
-    ensures no_room { OnErr result (IsTrue mends.now.name_colours
-        × IsTooLongNamed draft.old.file (memory_of draft.old)
-        × (memory_of draft.old < length draft.old.file + 4 * (length draft.old.file - 128))) }
 {
     if mends.name_colours {
         return draft.name_colours();
@@ -88,63 +86,29 @@ fn name_colours(draft: &mut Draft<'_>, mends: &Mends) -> Result<Option<Times>, N
     Ok(None)
 }
 
-/// The same. An error in the answer says that the file is too long with the names. `Err` says that it is not, or may
-/// not be, and that there is no room for them in the draft.
-fn name_within(
-    draft: &mut Draft<'_>,
-    mends: &Mends,
-) -> Result<Result<Option<Times>, Unmended>, NoRoom>
-    requires { length draft.old.file ≤ longest_file }
-    ensures named { IfOk result (λ answer. IfOk answer (AreNamed mends.now draft.old.file draft.new.file)) }
-    ensures length { IfOk result (λ answer. OnOk answer (length draft.new.file ≤ longest_file)) }
-    ensures reason { IfOk result (λ answer. IfErr answer (λ reason.
-        (reason ≡ TooLong) × IsNamedTooLong mends.now draft.old.file)) }
+/// Changes of the content what is asked for, on a screen of this size. An error says that the file is too long
+/// with its returns, or with names of colours.
+pub(crate) fn edit(draft: &mut Draft<'_>, mends: &Mends, size: Size) -> Result<Edits, Unmended>
+    requires { most_added mends.now draft.old.file ≤ draft.old.room }
+    ensures edits { IfOk result (IsEdited mends.now size draft.old.file draft.new.file) }
+    ensures length { OnOk result (length draft.new.file ≤ longest_file) }
+    ensures reason { IfErr result (IsEditedTooLong mends.now size draft.old.file) }
+    ensures longer { OnOk result (length draft.new.file ≤ length draft.old.file + most_added mends.now draft.old.file) }
     ensures memory { memory_of draft.new ≡ memory_of draft.old }
-    ensures no_room { OnErr result (LacksNameRoom mends.now draft.old) }
 {
-    let Ok(named) = name_colours(draft, mends) else {
-        if draft.capacity() < MAX_FILE {
-            return Err(NoRoom);
-        }
-        return Ok(Err(Unmended::TooLong));
-    };
+    let returns = put_returns(draft, mends);
     if draft.file().len() > MAX_FILE {
-        return Ok(Err(Unmended::TooLong));
-    }
-    Ok(Ok(named))
-}
-
-/// Changes of the content what is asked for, on a screen of this size. An error in the answer says that the
-/// file is too long with its returns, or with names of colours. `Err` says that there is no room for these in
-/// the draft.
-pub(crate) fn edit(
-    draft: &mut Draft<'_>,
-    mends: &Mends,
-    size: Size,
-) -> Result<Result<Edits, Unmended>, NoRoom>
-    ensures edits { IfOk result (λ answer. IfOk answer (IsEdited mends.now size draft.old.file draft.new.file)) }
-    ensures length { IfOk result (λ answer. OnOk answer (length draft.new.file ≤ longest_file)) }
-    ensures reason { IfOk result (λ answer. IfErr answer (IsEditedTooLong mends.now size draft.old.file)) }
-    ensures longer { IfOk result (λ answer. OnOk answer
-        (length draft.new.file ≤ length draft.old.file + most_added mends.now draft.old.file)) }
-    ensures memory { memory_of draft.new ≡ memory_of draft.old }
-    ensures no_room { OnErr result (draft.old.room < most_added mends.now draft.old.file) }
-{
-    let returns = put_returns(draft, mends)?;
-    if draft.file().len() > MAX_FILE {
-        return Ok(Err(Unmended::TooLong));
+        return Err(Unmended::TooLong);
     }
     let told = take_out_sequences(draft, mends);
     let row_ends = join_rows(draft, mends, size);
     let last_ends = take_out_last_ends(draft, mends, size);
-    match name_within(draft, mends)? {
-        Ok(named_colours) => Ok(Ok(Edits {
-            returns,
-            told,
-            row_ends,
-            last_ends,
-            named_colours,
-        })),
-        Err(reason) => Ok(Err(reason)),
-    }
+    let named_colours = name_colours(draft, mends)?;
+    Ok(Edits {
+        returns,
+        told,
+        row_ends,
+        last_ends,
+        named_colours,
+    })
 }

@@ -1,6 +1,6 @@
 //! The end mark behind the content.
 
-ghost use Rattle.std.specs.Prelude.{◌≡◌, IfOk, OnErr, OnOk};
+ghost use Rattle.std.specs.Prelude.{◌≡◌, ◌≤◌};
 ghost use Rattle.std.specs.List.{list_any};
 ghost use Rattle.ans_model.specs.File.Layout.{is_end_mark};
 ghost use Rattle.ans_model.specs.File.Refusals.{has_record};
@@ -8,7 +8,7 @@ ghost use Rattle.ans_sauce.specs.Found.{body_in};
 ghost use Rattle.ans_mend.specs.Drafts.{memory_of};
 ghost use Rattle.ans_mend.specs.EndMark.{end_mark_put, with_end_mark};
 
-use crate::draft::{Draft, NoRoom};
+use crate::draft::Draft;
 use ans_sauce::fields::END_MARK;
 use ans_sauce::{body_before, cut_record};
 
@@ -33,20 +33,17 @@ fn place_of_end_mark(file: &[u8]) -> Option<usize>
 impl<'a> Draft<'a> {
     /// Puts an end mark behind the content of a file that has a record, before the comments that the
     /// record counts, where there is none (SAUCE 00.5, file layout). Returns its offset, in bytes from the
-    /// file's start. `Err` says that there is no room for it; the draft is then as it was.
-    pub fn put_end_mark(&mut self) -> Result<Option<usize>, NoRoom>
-        ensures file { OnOk result (self.new.file ≡ with_end_mark self.old.file) }
-        ensures offset { IfOk result (λ offset. offset ≡ end_mark_put self.old.file) }
+    /// file's start.
+    pub fn put_end_mark(&mut self) -> Option<usize>
+        requires { 1 ≤ self.old.room }
+        ensures file { self.new.file ≡ with_end_mark self.old.file }
+        ensures offset { result ≡ end_mark_put self.old.file }
         ensures memory { memory_of self.new ≡ memory_of self.old }
-        ensures no_room { OnErr result ((self.new ≡ self.old) × (self.old.room ≡ 0)) }
     {
         let Some(place) = place_of_end_mark(self.file()) else {
-            return Ok(None);
+            return None;
         };
-        if self.memory.len() == self.used {
-            return Err(NoRoom);
-        }
         self.insert(place, END_MARK);
-        Ok(Some(place))
+        Some(place)
     }
 }

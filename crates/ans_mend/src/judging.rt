@@ -1,18 +1,21 @@
-//! What a file says that is to be mended, and how one comes out that was.
-ghost use Rattle.std.specs.Prelude.{◌≡◌, ◌≤◌, ◌↔◌, IsTrue, List, false, length, IfOk, IfErr};
+//! What is read of a file that is to be mended, and how one comes out that was.
+ghost use Rattle.std.specs.Prelude.{◌≡◌, ◌≤◌, ◌↔◌, IsTrue, List, false, length, IfOk, IfErr, IsErrOf, OnOk};
 ghost use Rattle.ans_model.specs.Bytes.{longest_file};
 ghost use Rattle.ans_model.specs.Screen.StartClass.{all_known, none_known};
 ghost use Rattle.ans_model.specs.Verdict.Good.{IsGood};
-ghost use Rattle.ans_sauce.specs.Judged.{IsRecordFault};
-ghost use Rattle.ans_sauce.specs.Parts.{content_of, size_of};
+ghost use Rattle.ans_sauce.specs.Parts.{content_of, record_of, size_of};
 ghost use Rattle.ans_verdict.specs.StartParts.{EndsFrom};
-ghost use Rattle.ans_mend.specs.Mending.{BeginsUnnamed, IsFaulty, WantsMending};
+ghost use Rattle.ans_mend.specs.Mending.{BeginsUnnamed, HasRecordFault, IfNotMended, IsRead, WantsMending};
+ghost use Rattle.ans_mend.specs.MendingRoom.{LacksScreenFor};
 ghost use Rattle.ans_model.specs.Sequence.TokenKind.{TokenKind};
 ghost use Rattle.ans_model.specs.Sequence.Reads.{Reads};
-ghost use Rattle.ans_mend.specs.MendingSteps.{IsJudgement, IsSurvey};
-ghost use Rattle.ans_verdict.specs.ScreenRoom.{AnswersWithin, TakesRoom};
+ghost use Rattle.ans_mend.specs.MendingSteps.{IsJudgement, IsRefused, reading_by, reading_in};
+ghost use Rattle.ans_mend.specs.declared.outcome.MendError.TheVariants.{Memory};
+ghost use Rattle.ans_verdict.specs.ScreenRoom.{TakesRoom};
 
 use crate::name_search::begins_unnamed;
+use crate::new_record::refusal_of;
+use crate::outcome::{MendError, Unmended};
 use ans_model::fault::Fault;
 use ans_model::mends::Mends;
 use ans_model::size::Size;
@@ -22,46 +25,53 @@ use ans_verdict::Screens;
 use ans_walks::is_same_where_cleared;
 use std::alloc::AllocError;
 
-/// What the record of a file says that is to be set anew, or told.
+/// What is read of a file: what its record states that is told or set anew, and of its content.
 #[derive(Clone, Copy)]
-pub(crate) struct Survey {
+pub(crate) struct Reading {
     pub(crate) size: Size,
     pub(crate) non_blink: bool,
-    // how many lines were stated
-    pub(crate) stated: usize,
+    pub(crate) lines: u32,
     pub(crate) file_size: u32,
-    // 1 where the FileSize is one more than the content's length
-    pub(crate) end_mark_counted: u32,
+    // how many bytes the content has
+    pub(crate) content: usize,
+    // whether the FileSize is one more
+    pub(crate) counts_end_mark: bool,
 }
 
-/// Looks what the record of a file says, of which lines are stated by now.
-pub(crate) fn survey_of(file: &[u8], lacks: bool) -> Result<Survey, Fault>
-    requires { length file.now ≤ longest_file }
-    ensures survey { IfOk result (IsSurvey lacks file.now) }
-    ensures fault { IfErr result (IsRecordFault file.now) }
+/// What is read of these parts; none of the lines, if their number is still to be settled.
+fn reading_of(parts: &Parts<'_>, lacks: bool) -> Reading
+    ensures { result ≡ reading_by lacks (record_of parts.now) (content_of parts.now) }
 {
-    let parts = split(file)?;
     let sauce = parts.sauce();
-    let counted = sauce.file_size() as usize == parts.content().len() + 1;
-    Ok(Survey {
+    let content = parts.content();
+    Reading {
         size: parts.size(),
         non_blink: sauce.is_non_blink(),
-        stated: if lacks { 0 } else { parts.lines() },
+        lines: if lacks { 0 } else { parts.lines() as u32 },
         file_size: sauce.file_size(),
-        end_mark_counted: counted as u32,
-    })
+        content: content.len(),
+        counts_end_mark: sauce.file_size() as usize == content.len() + 1,
+    }
+}
+
+/// What is read of a file, of which lines are stated by now.
+pub(crate) fn read(file: &[u8], lacks: bool) -> Result<Reading, Unmended>
+    ensures read { OnOk result (IsRead file.now) }
+    ensures reading { IfOk result (λ reading. reading ≡ reading_in lacks file.now) }
+    ensures fault { IfErr result (HasRecordFault file.now) }
+{
+    match split(file) {
+        Ok(parts) => Ok(reading_of(&parts, lacks)),
+        Err(fault) => Err(refusal_of(file, fault)),
+    }
 }
 
 /// How a drawing comes out that passes from the cleared start.
 #[derive(Clone, Copy)]
 pub(crate) struct Judgement {
-    pub(crate) non_blink: bool,
     // whether it needs the mending in front
     pub(crate) front: bool,
-    // how many bytes its content has
-    pub(crate) content: usize,
-    // how many lines are stated
-    pub(crate) lines: usize,
+    pub(crate) reading: Reading,
 }
 
 /// Whether names of colours are asked for, and are wanted before a sequence that could have them.
@@ -111,31 +121,27 @@ fn cleared_fault<S: Screens>(
     }
 }
 
-/// Plays the content of a file from all starts, and where that fails from the cleared one. An error in the
-/// answer is the fault of the record, or of the play from the cleared start. `Err` says that there is no
-/// room for the screen.
+/// Plays the content of a file from all starts, and where that fails from the cleared one.
 pub(crate) fn judge<S: Screens>(
     screens: &mut S,
     file: &[u8],
     mends: &Mends,
-) -> Result<Result<Judgement, Fault>, AllocError>
+) -> Result<Judgement, MendError>
     requires { length file.now ≤ longest_file }
-    ensures passes { IfOk result (λ answer. IfOk answer (IsJudgement mends.now file.now)) }
-    ensures fault { IfOk result (λ answer. IfErr answer (IsFaulty file.now)) }
-    ensures room { AnswersWithin S.has_room S.may_lack file.now screens.old result }
+    ensures passes { IfOk result (IsJudgement mends.now file.now) }
+    ensures fault { IfErr result (λ error. IfNotMended error (IsRefused file.now)) }
+    ensures room { IsErrOf result Memory → LacksScreenFor (S.may_lack screens.old) file.now }
 {
     let parts = match split(file) {
         Ok(parts) => parts,
-        Err(fault) => return Ok(Err(fault)),
+        Err(fault) => return Err(MendError::NotMended(Unmended::Refused(fault))),
     };
     let fault = screens.fault_from(&parts, Start::ANY)?;
     if let Some(cleared) = cleared_fault(screens, &parts, fault)? {
-        return Ok(Err(cleared));
+        return Err(MendError::NotMended(Unmended::Refused(cleared)));
     }
-    Ok(Ok(Judgement {
-        non_blink: parts.sauce().is_non_blink(),
+    Ok(Judgement {
         front: wants_mending(&parts, fault, mends),
-        content: parts.content().len(),
-        lines: parts.lines(),
-    }))
+        reading: reading_of(&parts, false),
+    })
 }

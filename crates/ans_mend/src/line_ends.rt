@@ -1,7 +1,6 @@
 //! Returns before line feeds that have none.
 
-ghost use Rattle.std.specs.Prelude.{◌≡◌, ◌+◌, ◌≤◌, ◌++◌, ℕ, length, take, drop, IfSome, IfNone, IfOk, OnOk, OnErr};
-ghost use Rattle.std.specs.Prelude.{◌<◌, true, false};
+ghost use Rattle.std.specs.Prelude.{◌≡◌, ◌+◌, ◌≤◌, ◌++◌, ℕ, length, take, drop, IfSome, IfNone, true, false};
 ghost use Rattle.ans_model.specs.File.Refusals.{has_record};
 ghost use Rattle.std.specs.List.{list_any, position};
 ghost use Rattle.ans_mend.specs.Drafts.{memory_of};
@@ -10,7 +9,7 @@ ghost use Rattle.ans_sauce.specs.Contents.{content_in};
 ghost use Rattle.ans_mend.specs.LineEnds.{is_line_feed, line_feeds, returned, wants_returns, with_line_ends};
 ghost use Rattle.ans_mend.specs.LineEnds.{with_returns};
 
-use crate::draft::{Draft, NoRoom};
+use crate::draft::Draft;
 use ans_sauce::{body_before, cut_content, cut_record};
 use ans_walks::Times;
 
@@ -122,26 +121,22 @@ pub(crate) fn content_of(file: &[u8]) -> Option<&[u8]>
 impl<'a> Draft<'a> {
     /// Puts a return before each line feed of the content of a file that has a record, where it has line
     /// feeds and no return. Returns how many, and the place of the first line feed, in bytes from the
-    /// file's start. `Err` says that there is no room for them; the draft is then as it was.
-    pub fn put_returns(&mut self) -> Result<Option<Times>, NoRoom>
-        ensures file { OnOk result (self.new.file ≡ with_line_ends self.old.file) }
-        ensures times { IfOk result (ArePut self.old.file) }
+    /// file's start.
+    pub fn put_returns(&mut self) -> Option<Times>
+        requires { line_feeds (content_in self.old.file) ≤ self.old.room }
+        ensures file { self.new.file ≡ with_line_ends self.old.file }
+        ensures times { ArePut self.old.file result }
         ensures memory { memory_of self.new ≡ memory_of self.old }
-        ensures no_room { OnErr result
-            ((self.new ≡ self.old) × (self.old.room < line_feeds (content_in self.old.file))) }
     {
         let Some(content) = content_of(self.file()) else {
-            return Ok(None);
+            return None;
         };
         let count = content.len();
         let Some(times) = wanted_returns(content) else {
-            return Ok(None);
+            return None;
         };
-        if times.count > self.memory.len() - self.used {
-            return Err(NoRoom);
-        }
         put_returns_in(self.memory, self.used, count, times.count);
         self.used += times.count;
-        Ok(Some(times))
+        Some(times)
     }
 }

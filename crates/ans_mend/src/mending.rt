@@ -1,91 +1,35 @@
 //! A file that is mended.
-ghost use Rattle.std.specs.Prelude.{◌≡◌, ◌⊎◌, ◌+◌, ◌<◌, ◌≤◌, ◌||◌, length, IfOk, IfErr, IsErr};
-ghost use Rattle.std.specs.Prelude.{OnErr, OnOk};
-ghost use Rattle.ans_model.specs.Bytes.{longest_file, most_lines};
+ghost use Rattle.std.specs.Prelude.{◌≡◌, ◌⊎◌, ◌+◌, ◌≤◌, ◌||◌, length, IfOk, IfErr, IsErrOf, OnOk};
+ghost use Rattle.ans_model.specs.Bytes.{longest_file};
 ghost use Rattle.ans_mend.specs.Drafts.{memory_of};
-ghost use Rattle.ans_mend.specs.Mending.{IsMended, IsReason, IsReasonFor, record_put, recorded};
+ghost use Rattle.ans_mend.specs.Mending.{IfNotMended, IsMended, IsReason, IsReasonFor, IsSettled, lacks_lines, opened};
+ghost use Rattle.ans_mend.specs.Mending.{record_put, recorded};
 ghost use Rattle.ans_mend.specs.MendingRoom.{LacksRoom, LacksScreenInTheEnd, most_added, most_put};
-ghost use Rattle.ans_mend.specs.MendingSteps.{IsDone, IsFinished, IsPrepared, IsTooLong};
+ghost use Rattle.ans_mend.specs.MendingSteps.{IsSized, IsTooLong, reading_in};
+ghost use Rattle.ans_mend.specs.declared.outcome.MendError.TheVariants.{Memory};
 
-use crate::draft::{Draft, NoRoom};
+use crate::draft::Draft;
 use crate::editing::edit;
-use crate::judging::{Judgement, Survey, judge, survey_of};
+use crate::judging::{Reading, judge, read};
 use crate::lines::{lines_for, open_lines, take_lines};
-use crate::new_record::refusal_of;
-use crate::outcome::{Edits, GivenRecord, Mended, NonBlink, Reset, Unmended};
+use crate::outcome::{Edits, GivenRecord, MendError, Mended, NonBlink, Reset, Unmended};
+use crate::room::room_for;
 use ans_model::limits::MAX_FILE;
 use ans_model::mends::Mends;
 use ans_verdict::Screens;
-use ans_walks::{SAFE_BEGINNING, Times};
-use std::alloc::AllocError;
-
-/// What was done with the content, the lines and the end mark of a file.
-#[derive(Clone, Copy)]
-struct Done {
-    survey: Survey,
-    edits: Edits,
-    // the lines that were taken, if others than were stated
-    lines: Option<u16>,
-    end_mark: Option<usize>,
-}
-
-/// What was done with a file whose content is still to be judged.
-#[derive(Clone, Copy)]
-struct Prepared {
-    // what was cut off behind the record
-    tail: Option<Times>,
-    given_record: Option<GivenRecord>,
-    done: Done,
-}
+use ans_walks::SAFE_BEGINNING;
 
 /// Gives the file a record of the width that is asked for, where it takes one. Returns what was put.
-fn give_record(draft: &mut Draft<'_>, mends: &Mends) -> Result<Option<GivenRecord>, NoRoom>
-    ensures file { OnOk result (draft.new.file ≡ recorded mends.now draft.old.file) }
-    ensures given { IfOk result (λ given. given ≡ record_put mends.now draft.old.file) }
+fn give_record(draft: &mut Draft<'_>, mends: &Mends) -> Option<GivenRecord>
+    requires { 129 ≤ draft.old.room }
+    ensures file { draft.new.file ≡ recorded mends.now draft.old.file }
+    ensures given { result ≡ record_put mends.now draft.old.file }
     ensures memory { memory_of draft.new ≡ memory_of draft.old }
-    ensures no_room { OnErr result (memory_of draft.old < length draft.old.file + 129) }
 {
     match mends.width {
         Some(width) => draft.give_record(width),
-        None => Ok(None),
+        None => None,
     }
-}
-
-/// Changes the content, settles the lines and puts the end mark. `Err` says that the draft has no room.
-fn settle(draft: &mut Draft<'_>, asked: &Mends) -> Result<Result<Done, Unmended>, NoRoom>
-    requires { length draft.old.file ≤ longest_file }
-    ensures done { IfOk result (λ answer. IfOk answer
-        (λ d. IsDone asked.now draft.old.file d draft.new.file)) }
-    ensures length { IfOk result (λ answer. OnOk answer (length draft.new.file ≤ longest_file)) }
-    ensures reason { IfOk result (λ answer. IfErr answer (IsReasonFor asked.now draft.old.file)) }
-    ensures longer { IfOk result (λ answer. OnOk answer
-        (length draft.new.file ≤ length draft.old.file + (most_added asked.now draft.old.file + 1))) }
-    ensures no_room { OnErr result (draft.old.room ≤ most_added asked.now draft.old.file) }
-{
-    let lacks = open_lines(draft, asked);
-    let survey = match survey_of(draft.file(), lacks) {
-        Ok(survey) => survey,
-        Err(fault) => return Ok(Err(refusal_of(draft.file(), fault))),
-    };
-    let edits = match edit(draft, asked, survey.size)? {
-        Ok(edits) => edits,
-        Err(reason) => return Ok(Err(reason)),
-    };
-    let lines = match lines_for(draft.file(), asked, lacks) {
-        Ok(lines) => lines,
-        Err(reason) => return Ok(Err(reason)),
-    };
-    take_lines(draft, lines);
-    let end_mark = draft.put_end_mark()?;
-    if draft.file().len() > MAX_FILE {
-        return Ok(Err(Unmended::TooLong));
-    }
-    Ok(Ok(Done {
-        survey,
-        edits,
-        lines,
-        end_mark,
-    }))
 }
 
 /// What is asked for of a file, of which it is known whether a record was given to it.
@@ -98,78 +42,65 @@ fn asked_where(mends: &Mends, given_record: bool) -> Mends
     }
 }
 
-/// Does all that is done before the content is judged: the tail, the record, the content, the lines and
-/// the end mark. `Err` says that the draft has no room for it.
-fn prepare(draft: &mut Draft<'_>, mends: &Mends) -> Result<Result<Prepared, Unmended>, NoRoom>
-    requires { length draft.old.file ≤ longest_file }
-    ensures prepared { IfOk result (λ answer. IfOk answer
-        (λ p. IsPrepared mends.now draft.old.file p draft.new.file)) }
-    ensures length { IfOk result (λ answer. OnOk answer (length draft.new.file ≤ longest_file)) }
-    ensures reason { IfOk result (λ answer. IfErr answer (IsReason mends.now draft.old.file)) }
-    ensures longer { IfOk result (λ answer. OnOk answer
-        (length draft.new.file ≤ length draft.old.file + most_put mends.now draft.old.file)) }
-    ensures no_room { OnErr result (LacksRoom mends.now draft.old) }
-{
-    let tail = draft.cut_tail();
-    let given_record = give_record(draft, mends)?;
-    if draft.file().len() > MAX_FILE {
-        return Ok(Err(Unmended::TooLong));
-    }
-    match settle(draft, &asked_where(mends, given_record.is_some()))? {
-        Ok(done) => Ok(Ok(Prepared {
-            tail,
-            given_record,
-            done,
-        })),
-        Err(reason) => Ok(Err(reason)),
-    }
+/// What was read of a file before its content was changed, and what was done with it.
+#[derive(Clone, Copy)]
+struct Settled {
+    was: Reading,
+    edits: Edits,
+    end_mark: Option<usize>,
 }
 
-/// Sets the file size for a content that passes, and says what was changed in all.
-fn finish(
-    draft: &mut Draft<'_>,
-    prepared: Prepared,
-    judgement: Judgement,
-) -> Result<Mended, Unmended>
-    requires record { 128 ≤ length draft.old.file }
+/// Changes the content, settles the lines and puts the end mark.
+fn settle(draft: &mut Draft<'_>, asked: &Mends) -> Result<Settled, Unmended>
     requires length { length draft.old.file ≤ longest_file }
-    requires within { judgement.content ≤ length draft.old.file }
-    requires lines { judgement.lines ≤ most_lines }
-    requires stated { prepared.done.survey.stated ≤ most_lines }
-    requires counted { prepared.done.survey.end_mark_counted ≤ 1 }
-    ensures mended { IfOk result (λ m. IsFinished prepared judgement draft.old.file m draft.new.file) }
-    ensures same_length { OnOk result (length draft.new.file ≡ length draft.old.file) }
-    ensures long { IfErr result (IsTooLong judgement draft.old.file) }
+    requires room { most_added asked.now draft.old.file + 1 ≤ draft.old.room }
+    ensures settled { IfOk result (λ s.
+        IsSettled asked.now draft.old.file s.edits s.end_mark draft.new.file) }
+    ensures was { IfOk result (λ s.
+        s.was ≡ reading_in (lacks_lines asked.now draft.old.file) (opened asked.now draft.old.file)) }
+    ensures length { OnOk result (length draft.new.file ≤ longest_file) }
+    ensures reason { IfErr result (IsReasonFor asked.now draft.old.file) }
+    ensures longer { OnOk result
+        (length draft.new.file ≤ length draft.old.file + (most_added asked.now draft.old.file + 1)) }
 {
-    let front = if judgement.front {
-        SAFE_BEGINNING.len()
-    } else {
-        0
-    };
-    if draft.file().len() + front > MAX_FILE {
+    let lacks = open_lines(draft, asked);
+    let was = read(draft.file(), lacks)?;
+    let edits = edit(draft, asked, was.size)?;
+    let lines = lines_for(draft.file(), asked, lacks)?;
+    take_lines(draft, lines);
+    let end_mark = draft.put_end_mark();
+    if draft.file().len() > MAX_FILE {
         return Err(Unmended::TooLong);
     }
-    let size = (judgement.content + front) as u32 + prepared.done.survey.end_mark_counted;
-    draft.state_file_size(size);
-    Ok(Mended {
-        tail: prepared.tail,
-        given_record: prepared.given_record,
-        edits: prepared.done.edits,
-        non_blink: NonBlink {
-            was: prepared.done.survey.non_blink,
-            is: judgement.non_blink,
-        },
-        lines: Reset {
-            was: prepared.done.survey.stated as u32,
-            is: judgement.lines as u32,
-        },
-        end_mark: prepared.done.end_mark,
-        front: judgement.front,
-        file_size: Reset {
-            was: prepared.done.survey.file_size,
-            is: size,
-        },
+    Ok(Settled {
+        was,
+        edits,
+        end_mark,
     })
+}
+
+/// Sets the file size for a content of so many bytes that passes, the mending counted if it needs that, and the
+/// end mark if it was counted before. Returns the size.
+fn set_file_size(
+    draft: &mut Draft<'_>,
+    front: bool,
+    content: usize,
+    counts_end_mark: bool,
+) -> Result<u32, Unmended>
+    requires record { 128 ≤ length draft.old.file }
+    requires length { length draft.old.file ≤ longest_file }
+    requires within { content ≤ length draft.old.file }
+    ensures sized { IfOk result (λ n. IsSized front content counts_end_mark draft.old.file n draft.new.file) }
+    ensures same_length { OnOk result (length draft.new.file ≡ length draft.old.file) }
+    ensures long { IfErr result (IsTooLong front draft.old.file) }
+{
+    let beginning = if front { SAFE_BEGINNING.len() } else { 0 };
+    if draft.file().len() + beginning > MAX_FILE {
+        return Err(Unmended::TooLong);
+    }
+    let size = (content + beginning) as u32 + counts_end_mark as u32;
+    draft.state_file_size(size);
+    Ok(size)
 }
 
 /// Mends a file in its draft: cuts off what stands behind the record and is none of the drawing, changes
@@ -178,32 +109,58 @@ fn finish(
 /// left passes from every start, with the picture that its content has from the cleared one, behind the
 /// mending where `front` says so: that is for the caller to write first.
 ///
-/// The answer is an error where the file cannot be mended so. The draft then holds a file that is half
-/// changed. `Err` says that there is no room for the screen; it comes, too, where the draft has room for
+/// `NotMended` says why the file cannot be mended so. The draft then holds a file that is half changed.
+/// `Memory` says that there is no room for the screen; it comes, too, where the draft has room for
 /// fewer than 130 bytes, with line ends for fewer than one more for each line feed, and with names of colours
 /// for fewer than eight more for each byte and eight, up to the longest file.
 pub fn mend_on<S: Screens>(
     screens: &mut S,
     draft: &mut Draft<'_>,
     mends: &Mends,
-) -> Result<Result<Mended, Unmended>, AllocError>
+) -> Result<Mended, MendError>
     requires { length draft.old.file ≤ longest_file }
-    ensures mended { IfOk result (λ answer. IfOk answer
-        (λ m. IsMended mends.now draft.old.file m draft.new.file)) }
-    ensures reason { IfOk result (λ answer. IfErr answer (IsReason mends.now draft.old.file)) }
-    ensures longer { IfOk result (λ answer. OnOk answer
-        (length draft.new.file ≤ length draft.old.file + most_put mends.now draft.old.file)) }
-    ensures room { IsErr result → LacksRoom mends.now draft.old
+    ensures mended { IfOk result (λ m. IsMended mends.now draft.old.file m draft.new.file) }
+    ensures reason { IfErr result (λ error. IfNotMended error (IsReason mends.now draft.old.file)) }
+    ensures longer { OnOk result
+        (length draft.new.file ≤ length draft.old.file + most_put mends.now draft.old.file) }
+    ensures room { IsErrOf result Memory → LacksRoom mends.now draft.old
         ⊎ LacksScreenInTheEnd (S.may_lack screens.old) mends.now draft.old.file }
 {
-    let prepared = match prepare(draft, mends) {
-        Ok(Ok(prepared)) => prepared,
-        Ok(Err(reason)) => return Ok(Err(reason)),
-        Err(NoRoom) => return Err(AllocError),
-    };
-    let judgement = match judge(screens, draft.file(), mends)? {
-        Ok(judgement) => judgement,
-        Err(fault) => return Ok(Err(Unmended::Refused(fault))),
-    };
-    Ok(finish(draft, prepared, judgement))
+    if draft.room() < room_for(draft.file(), mends) {
+        return Err(MendError::Memory);
+    }
+    let tail = draft.cut_tail();
+    let given_record = give_record(draft, mends);
+    if draft.file().len() > MAX_FILE {
+        return Err(MendError::NotMended(Unmended::TooLong));
+    }
+    let asked = asked_where(mends, given_record.is_some());
+    let settled = settle(draft, &asked)?;
+    let judgement = judge(screens, draft.file(), &asked)?;
+    let is = judgement.reading;
+    let file_size = set_file_size(
+        draft,
+        judgement.front,
+        is.content,
+        settled.was.counts_end_mark,
+    )?;
+    Ok(Mended {
+        tail,
+        given_record,
+        edits: settled.edits,
+        non_blink: NonBlink {
+            was: settled.was.non_blink,
+            is: is.non_blink,
+        },
+        lines: Reset {
+            was: settled.was.lines,
+            is: is.lines,
+        },
+        end_mark: settled.end_mark,
+        front: judgement.front,
+        file_size: Reset {
+            was: settled.was.file_size,
+            is: file_size,
+        },
+    })
 }

@@ -1,20 +1,23 @@
 //! The colours of a content that are named.
 
-ghost use Rattle.std.specs.Prelude.{◌≡◌, ◌+◌, ◌-◌, ◌≤◌, ◌<◌, ◌++◌, ℕ, List, length, take, drop, IfOk, OnErr};
+ghost use Rattle.std.specs.Prelude.{◌≡◌, ◌+◌, ◌-◌, ◌≤◌, ◌++◌, ℕ, List, length, take, drop, IfErr, IfOk, OnOk};
 ghost use Rattle.std.specs.Prelude.{IfSome, IfNone, MatchOption};
+ghost use Rattle.ans_mend.specs.declared.outcome.Unmended.TheVariants.{TooLong};
 ghost use Rattle.ans_model.specs.Bytes.{longest_file};
 ghost use Rattle.ans_model.specs.Sequence.TokenKind.{TokenKind};
 ghost use Rattle.ans_model.specs.Sequence.Reads.{Reads, ReadsAs};
 ghost use Rattle.ans_players.specs.Situations.{spelled};
 ghost use Rattle.ans_mend.specs.Drafts.{memory_of};
-ghost use Rattle.ans_mend.specs.NamedColours.{HasNamedColours, IsTooLongNamed, named_content};
+ghost use Rattle.ans_mend.specs.NamedColours.{HasNamedColours, IsTooLongNamed, named_content, names_room};
 ghost use Rattle.ans_mend.specs.NameSearch.{GoesFirst, Grows, HaveNamedLength, NoneGoes};
 
-use crate::draft::{Draft, NoRoom};
+use crate::draft::Draft;
 use crate::full_rows::once_more;
 use crate::keeping::keep;
 use crate::line_ends::content_of;
 use crate::name_search::{Going, next_going};
+use crate::outcome::Unmended;
+use ans_model::limits::MAX_FILE;
 use ans_sauce::overwrite;
 use ans_walks::Times;
 
@@ -114,14 +117,16 @@ impl<'a> Draft<'a> {
     /// number gets 37, 40 or both after the last of them, if something is printed or cleared in a player's own
     /// white or black after it. Where it would be too long for ansilove, or has an omitted number, the names stand
     /// in a sequence of their own. A content that cannot be read stays. Returns how many sequences, and the
-    /// offset of the first, in bytes from the file's start, as it was before. `Err` says that there is no room;
-    /// the draft is then as it was.
-    pub fn name_colours(&mut self) -> Result<Option<Times>, NoRoom>
-        requires { length self.old.file ≤ longest_file }
+    /// offset of the first, in bytes from the file's start, as it was before. `Err` says that the file would be too
+    /// long; the draft is then as it was.
+    pub fn name_colours(&mut self) -> Result<Option<Times>, Unmended>
+        requires length { length self.old.file ≤ longest_file }
+        requires room { names_room self.old.file ≤ self.old.room }
         ensures file { IfOk result (HasNamedColours self.old.file self.new.file) }
+        ensures fits { OnOk result (length self.new.file ≤ longest_file) }
         ensures memory { memory_of self.new ≡ memory_of self.old }
-        ensures no_room { OnErr result
-            ((self.new ≡ self.old) × IsTooLongNamed self.old.file (memory_of self.old)) }
+        ensures too_long { IfErr result (λ reason. (self.new ≡ self.old)
+            × (reason ≡ TooLong) × IsTooLongNamed self.old.file longest_file) }
     {
         let Some(content) = content_of(self.file()) else {
             return Ok(None);
@@ -130,8 +135,8 @@ impl<'a> Draft<'a> {
         let Some(growth) = growth_of(content) else {
             return Ok(None);
         };
-        if growth.bytes > self.memory.len() - self.used {
-            return Err(NoRoom);
+        if growth.bytes > MAX_FILE - self.used {
+            return Err(Unmended::TooLong);
         }
         name_in(self.memory, self.used, count, growth.bytes);
         self.used += growth.bytes;

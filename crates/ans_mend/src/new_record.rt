@@ -1,16 +1,16 @@
 //! A record for a file that has none.
 
-ghost use Rattle.std.specs.Prelude.{◌≡◌, ◌+◌, ◌<◌, IfOk, IfNone, IfSome, OnErr, OnOk, length, true, false};
+ghost use Rattle.std.specs.Prelude.{◌≡◌, ◌≤◌, IfNone, IfSome, true, false};
 ghost use Rattle.ans_model.specs.File.Layout.{after_content, content};
 ghost use Rattle.ans_mend.specs.Drafts.{memory_of};
 ghost use Rattle.ans_mend.specs.NewRecord.{begins_sauce, holds_sauce, new_record, record_given};
 ghost use Rattle.ans_mend.specs.NewRecord.{refusal_of, takes_record, with_new_record};
 
-use crate::draft::{Draft, NoRoom};
+use crate::draft::Draft;
 use crate::outcome::{GivenRecord, Unmended};
 use crate::tail::is_tail;
 use ans_model::fault::{Cause, Fault};
-use ans_sauce::fields::{END_MARK, RECORD_SIZE};
+use ans_sauce::fields::END_MARK;
 use ans_sauce::{cut_content, cut_record};
 
 /// The record but for its width: version 00, blank texts, a date of eight zeros, Character/ANSi (SAUCE
@@ -79,30 +79,25 @@ pub fn refusal_of(file: &[u8], fault: Fault) -> Unmended
 impl<'a> Draft<'a> {
     /// Puts an end mark and a record of this width, in columns, behind the content of a file that has no
     /// record, in the place of what stands there, where that is only end marks, zero bytes, line feeds and
-    /// returns, and `SAUCE00` stands nowhere in the file. Returns what was put. `Err` says that there is no
-    /// room for it; the draft is then as it was.
-    pub fn give_record(&mut self, width: u16) -> Result<Option<GivenRecord>, NoRoom>
-        ensures file { OnOk result (self.new.file ≡ with_new_record width self.old.file) }
-        ensures given { IfOk result (λ given. given ≡ record_given width self.old.file) }
+    /// returns, and `SAUCE00` stands nowhere in the file. Returns what was put.
+    pub fn give_record(&mut self, width: u16) -> Option<GivenRecord>
+        requires { 129 ≤ self.old.room }
+        ensures file { self.new.file ≡ with_new_record width self.old.file }
+        ensures given { result ≡ record_given width self.old.file }
         ensures memory { memory_of self.new ≡ memory_of self.old }
-        ensures no_room { OnErr result ((self.new ≡ self.old)
-            × (memory_of self.old < length (content self.old.file) + 129)) }
     {
         let Some((content, rest)) = cut_for_record(self.file()) else {
-            return Ok(None);
+            return None;
         };
         let count = content.len();
         let cut = rest.len();
-        if self.memory.len() - count < RECORD_SIZE + 1 {
-            return Err(NoRoom);
-        }
         self.cut(count);
         self.append(&[END_MARK]);
         self.append(&new_record(width));
-        Ok(Some(GivenRecord {
+        Some(GivenRecord {
             width,
             place: count,
             cut,
-        }))
+        })
     }
 }

@@ -1,9 +1,13 @@
 //! What comes of mending.
 
+ghost use Rattle.std.specs.Prelude.{◌≡◌};
+ghost use Rattle.ans_mend.specs.declared.outcome.MendError.TheVariants.{Memory, NotMended};
+
 use crate::taking_out::Told;
 use ans_model::fault::Fault;
 pub use ans_sauce::Reset;
 use ans_walks::Times;
+use std::alloc::AllocError;
 
 /// What was changed of a content. Offsets are in bytes from the file's start, in the file as the changes
 /// before this one left it.
@@ -76,4 +80,29 @@ pub enum Unmended {
     /// With what is put into it, a record, returns, names of colours, an end mark or the safe beginning, it would have
     /// more than 16,777,216 bytes.
     TooLong,
+}
+
+/// Why there is no mended file.
+#[derive(Debug, Clone, Copy, PartialEq, Eq)]
+pub enum MendError {
+    /// There is no room for what may be put into the file, or for its screen.
+    Memory,
+    /// The file is not mended, for this reason.
+    NotMended(Unmended),
+}
+
+impl From<AllocError> for MendError {
+    ghost from_gives = { λ _ e. e ≡ Memory };
+
+    fn from(_error: AllocError) -> MendError {
+        MendError::Memory
+    }
+}
+
+impl From<Unmended> for MendError {
+    ghost from_gives = { λ reason e. e ≡ NotMended reason };
+
+    fn from(reason: Unmended) -> MendError {
+        MendError::NotMended(reason)
+    }
 }

@@ -1,14 +1,16 @@
-use Rattle.std.proofs.Common.{ap, length, refl, rules, ◌∙◌}
-use Rattle.ans_model.specs.File.Record.{is_non_blink}
+use Rattle.std.proofs.Common.{refl}
 use Rattle.ans_mend.proofs.MendLemmas.{judged, split_fault}
-use Rattle.ans_verdict.proofs.RoomLemmas.{takes_err, takes_then, within_file}
+use Rattle.ans_verdict.proofs.RoomLemmas.{takes_then, within_file}
 use Rattle.ans_verdict.proofs.VerdictLemmas.{content_within}
 use Rattle.ans_mend.proofs.judging.judge.Goals as goal
 
 pub returns-in-Some-clause-fault : goal.returns-in-Some-clause-fault
-returns-in-Some-clause-fault g c =
-    split_fault c.args.file.now c.in-Ok.parts c.in-Some.cleared c.in-Ok.ensures.ok
-    (rw c.in-Some.is at c.in_ok-cleared.ensures.fault)
+returns-in-Some-clause-fault g c = (
+  c.in-Some.cleared,
+  refl,
+  split_fault c.args.file.now c.in-Ok.parts c.in-Some.cleared c.in-Ok.ensures.ok
+      (rw c.in-Some.is at c.in_ok-cleared.ensures.fault),
+)
 
 pub cleared_fault-requires-clause-length : goal.cleared_fault-requires-clause-length
 cleared_fault-requires-clause-length g c =
@@ -24,15 +26,13 @@ returns-clause-passes g c =
     _
     c.in-Ok.ensures.ok
     (rw c.in_default.is at c.in_ok-cleared.ensures.fault) c.wants_mending.ensures.every c.wants_mending.ensures.wants
-    (ap length c.content.ensures) c.lines.ensures.lines
-    (c.is_non_blink.ensures ∙ ap is_non_blink c.sauce.ensures)
+    c.reading_of.ensures
 
 pub returns-in_err-fault-clause-room : goal.returns-in_err-fault-clause-room
-returns-in_err-fault-clause-room g c =
-    within_file c.args.file.now c.in-Ok.parts c.in-Ok.ensures.ok
-    (takes_err c.in_err-fault.ensures.room refl (search rules))
+returns-in_err-fault-clause-room g c told =
+    (within_file c.args.file.now c.in-Ok.parts c.in-Ok.ensures.ok c.in_err-fault.ensures.room).want refl
 
 pub returns-in_err-cleared-clause-room : goal.returns-in_err-cleared-clause-room
-returns-in_err-cleared-clause-room g c =
-    within_file c.args.file.now c.in-Ok.parts c.in-Ok.ensures.ok
-    (takes_err (takes_then c.fault_from.ensures.room.keeps c.in_err-cleared.ensures.room) refl (search rules))
+returns-in_err-cleared-clause-room g c told =
+    (within_file c.args.file.now c.in-Ok.parts c.in-Ok.ensures.ok
+    (takes_then c.fault_from.ensures.room.keeps c.in_err-cleared.ensures.room)).want refl

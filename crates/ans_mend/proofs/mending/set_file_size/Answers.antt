@@ -1,6 +1,6 @@
 use Rattle.std.proofs.Common.{ap, length, ◌∙◌}
 use Rattle.ans_mend.proofs.DraftRoomLemmas.{sized_length}
-use Rattle.ans_mend.proofs.mending.finish.Goals as goal
+use Rattle.ans_mend.proofs.mending.set_file_size.Goals as goal
 
 pub returns-clause-same_length : goal.returns-clause-same_length
 returns-clause-same_length c =
