@@ -1,14 +1,11 @@
 -- The columns of a row before the file's name, each with a tab behind it. A value that is absent is empty.
 use Rattle.std.specs.Prelude.{ℕ, ◌==◌, List, [], ◌∷◌, ◌++◌, length, codes, decimal}
 use Rattle.std.specs.Prelude.{Option, Some, None, Ok, Err, if◌then◌else◌}
-use Rattle.std.specs.List.{before_first, flat_map}
-use Rattle.ans_model.specs.Bytes.{blank}
-use Rattle.ans_model.specs.declared.fault.Cause.{Cause}
+use Rattle.std.specs.List.{flat_map}
 use Rattle.ans_model.specs.declared.fault.Fault.{Fault}
 use Rattle.ans_model.specs.File.Record.{aspect_ratio, author_field, date_field, font_field, group_field, is_non_blink}
 use Rattle.ans_model.specs.File.Record.{letter_spacing, stated_lines, stated_width, title_field, trimmed}
 use Rattle.ans_model.specs.Text.Characters.{shown_bytes}
-use Rattle.ans_model.specs.Text.FaultText.{fault_text}
 use Rattle.ans_model.specs.Text.NeedsText.{needed_parts}
 use Rattle.ans_model.specs.Text.Words.{answer_text, words_text}
 use Rattle.ans_sauce.specs.declared.judged.Judged.TheVariants.{NoContent, Refused, Passes}
@@ -21,7 +18,7 @@ use Rattle.ans_players.specs.Kinds.{kind_word}
 use Rattle.ans_players.specs.declared.kind.Kind.TheVariants.{OwnColours}
 use Rattle.ans_table.specs.declared.finding.PassFinding.{PassFinding}
 use Rattle.ans_table.specs.Findings.{Finding, RowFinding, unread_text}
-use Rattle.ans_table.specs.Labels.{labels_text}
+use Rattle.ans_table.specs.Labels.{fault_label, labels_text}
 
 abbrev pub tab : ℕ
 tab = 0x09
@@ -29,10 +26,6 @@ tab = 0x09
 -- a text, and the tab behind it
 abbrev pub column : List ℕ → List ℕ
 column text = text ++ tab ∷ []
-
--- the label of a fault, as `F20`: its text up to the first blank
-abbrev pub fault_label : Cause → List ℕ
-fault_label cause = before_first (λ b. b == blank) (fault_text cause)
 
 -- the columns from the verdict to the fault's offset; what only a pass has is empty
 abbrev pub fault_columns : Fault → List ℕ

@@ -21,10 +21,10 @@ use Rattle.ans_walks.specs.declared.players.Players.TheVariants.{Any, InNamedCol
 use Rattle.ans_players.specs.Kinds.{kind_word}
 use Rattle.ans_players.specs.declared.kind.Kind.TheVariants.{OwnColours}
 use Rattle.ans_table.specs.declared.finding.PassFinding.{PassFinding}
-use Rattle.ans_table.specs.Columns.{by_pair, fault_label}
+use Rattle.ans_table.specs.Columns.{by_pair}
 use Rattle.ans_table.specs.Findings.{Finding, RowFinding, parts_of, sauce_of, unread_text}
 use Rattle.ans_table.specs.NameText.{name_text}
-use Rattle.ans_table.specs.Labels.{note_label}
+use Rattle.ans_table.specs.Labels.{fault_label, note_label}
 use Rattle.ans_model.specs.Text.Words.{part_names}
 
 -- a value and its name

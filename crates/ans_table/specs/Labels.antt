@@ -1,9 +1,14 @@
--- The labels of notes.
+-- The labels of faults and notes.
 use Rattle.std.specs.Prelude.{ℕ, List, ◌++◌, map, codes, decimal}
+use Rattle.ans_model.specs.declared.fault.Cause.{Cause}
 use Rattle.ans_model.specs.declared.note.Note.{Note}
-use Rattle.ans_model.specs.Text.FaultText.{note_number}
+use Rattle.ans_model.specs.Text.FaultText.{cause_number, note_number}
 use Rattle.ans_model.specs.Text.Words.{words_text}
 use Rattle.ans_report.specs.Words.{later_word}
+
+-- the label of a fault, as `F20`
+abbrev pub fault_label : Cause → List ℕ
+fault_label cause = codes "F" ++ decimal (cause_number cause)
 
 -- the label of each note, as `N1`
 abbrev pub note_label : Note → List ℕ

@@ -4,7 +4,7 @@ ghost use Rattle.std.specs.Prelude.{◌≡◌, Some, option_map, decimal};
 ghost use Rattle.std.specs.Option.{option_copied};
 ghost use Rattle.ans_sauce.specs.RecordBytes.{bytes_of};
 ghost use Rattle.ans_write.specs.Puts.{Puts};
-ghost use Rattle.ans_table.specs.Columns.{by_pair, column, content_columns, escaped_byte, escaped_text, fault_label};
+ghost use Rattle.ans_table.specs.Columns.{by_pair, column, content_columns, escaped_byte, escaped_text};
 ghost use Rattle.ans_table.specs.Columns.{fault_columns, field_columns, flag_columns, found_columns, pass_columns};
 ghost use Rattle.ans_table.specs.Columns.{parts_columns, players_columns, record_columns, stated_columns};
 ghost use Rattle.ans_table.specs.Columns.{verdict_columns};
@@ -13,7 +13,7 @@ use crate::finding::{Finding, PassFinding, RowFinding};
 use crate::labels::put_labels;
 use ans_model::fault::Fault;
 use ans_players::kind::Kind;
-use ans_report::{answer_text, fault_text, put_needed_parts, put_words};
+use ans_report::{answer_text, put_needed_parts, put_words};
 use ans_sauce::{Judged, Parts, Record};
 use ans_walks::Players;
 use ans_write::{Outbox, put_characters};
@@ -33,22 +33,11 @@ fn put_number<W: Write>(out: &mut Outbox<'_, W>, number: usize)
     out.put(b"\t");
 }
 
-/// The label of a fault, as `F20`: its text up to the first blank.
-pub(crate) fn fault_label(fault: &Fault) -> &'static str
-    ensures { result.now ≡ fault_label fault.now.cause }
-{
-    let text = fault_text(fault);
-    match text.split_once(' ') {
-        Some((number, _)) => number,
-        None => text,
-    }
-}
-
 fn put_fault<W: Write>(out: &mut Outbox<'_, W>, fault: &Fault)
     ensures { Puts W.contents out.old out.new (fault_columns fault.now) }
 {
-    out.put(b"refused\t\t\t\t\t");
-    put_column(out, fault_label(fault).as_bytes());
+    out.put(b"refused\t\t\t\t\tF");
+    put_number(out, fault.cause.number() as usize);
     put_number(out, fault.offset);
 }
 

@@ -12,13 +12,12 @@ ghost use Rattle.ans_table.specs.JsonRow.{fault_values, field_values, flag_value
 ghost use Rattle.ans_table.specs.JsonRow.{parts_values, pass_values, players_values};
 ghost use Rattle.ans_table.specs.JsonRow.{record_values, row_data, size_values, spacing_values, texts, verdict_values};
 ghost use Rattle.ans_table.specs.NameText.{name_text};
-ghost use Rattle.ans_table.specs.Labels.{note_label};
+ghost use Rattle.ans_table.specs.Labels.{fault_label, note_label};
 ghost use Rattle.ans_model.specs.Text.Words.{texts_of, part_names};
 
-use crate::columns::fault_label;
 use crate::finding::{Finding, PassFinding, RowFinding, parts_of, sauce_of};
 use crate::name_text::put_name;
-use ans_model::fault::Fault;
+use ans_model::fault::{Cause, Fault};
 use ans_model::note::Note;
 use ans_model::start::Start;
 use ans_players::kind::Kind;
@@ -78,6 +77,12 @@ fn known_value(alloc: Global, class: Start) -> Result<Value, AllocError>
     words_value(alloc, class.part_names().as_slice())
 }
 
+fn fault_value(alloc: Global, cause: Cause) -> Result<Value, AllocError>
+    ensures { IfOk result (λ v. view v ≡ string (fault_label cause)) }
+{
+    Ok(Value::String(format!(in alloc; "F{}", cause.number())?))
+}
+
 fn note_value(alloc: Global, note: Note) -> Result<Value, AllocError>
     ensures { IfOk result (λ v. view v ≡ string (note_label note)) }
 {
@@ -123,7 +128,7 @@ fn put_fault(members: &mut Members, alloc: Global, fault: &Fault) -> Added
     ensures { Adds members.old.entries members.new.entries result (fault_values fault.now) }
 {
     put_text(members, alloc, "verdict", "refused")?;
-    put_text(members, alloc, "fault", fault_label(fault))?;
+    put(members, alloc, "fault", fault_value(alloc, fault.cause)?)?;
     put_number(members, alloc, "at", fault.offset)
 }
 
