@@ -61,27 +61,3 @@ covered z a b size has =
 
 pub covers_starts_exactly : (z : Size) (a b : Start) → IsSize z → Covers a b ↔ HasStartsOf z a b
 covers_starts_exactly z a b size = (λ covers s start. covers_starts z a b s covers start, covered z a b size)
-
--- ---- classes that cover each other
--- truths that imply each other are one
-pub same_truth : (p q : Bool) → (IsTrue p → IsTrue q) → (IsTrue q → IsTrue p) → p ≡ q
-same_truth true q h g = sym (h refl)
-same_truth false true h g = g refl
-same_truth false false h g = refl
-
-class_of : Bool → Bool → Bool → Bool → Bool → Start
-class_of screen cursor saved colours wrap =
-    record { screen = screen; cursor = cursor; saved = saved; colours = colours; wrap = wrap }
-
--- classes of the same parts are one
-same_class : (a b c d e v w x y z : Bool) → a ≡ v → b ≡ w → c ≡ x → d ≡ y → e ≡ z
-    → class_of a b c d e ≡ class_of v w x y z
-same_class a b c d e v w x y z p q r s t = cc
-
-pub covers_both_ways : (a b : Start) → Covers a b → Covers b a → a ≡ b
-unfolding class_of
-covers_both_ways a b h g =
-    same_class a.screen a.cursor a.saved a.colours a.wrap b.screen b.cursor b.saved b.colours b.wrap
-    (same_truth a.screen b.screen h.screen g.screen) (same_truth a.cursor b.cursor h.cursor g.cursor)
-    (same_truth a.saved b.saved h.saved g.saved) (same_truth a.colours b.colours h.colours g.colours)
-    (same_truth a.wrap b.wrap h.wrap g.wrap)

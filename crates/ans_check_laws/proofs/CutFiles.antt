@@ -1,13 +1,13 @@
 -- A file of which the last 128 bytes are taken for a record, whatever they are, and what its changes leave of it.
 use Rattle.std.proofs.Common.{◌≡◌, inl, inr, ℕ, suc, ◌+◌, ◌-◌, ◌≤◌, ◌<◌, Bool, true, false, List, [], ◌∷◌, ◌++◌}
 use Rattle.std.proofs.Common.{length, take, drop, refl, sym, ap, ap₂, ◌∙◌, arith, append_assoc, append-nil, true≢false}
-use Rattle.std.specs.Prelude.{codes, if◌then◌else◌, not, ◌&&◌, nat_le, bytes_eq}
+use Rattle.std.specs.Prelude.{codes, if◌then◌else◌, not, ◌&&◌, bytes_eq}
 use Rattle.std.specs.List.{list_any, position_or_len}
-use Rattle.std.proofs.lemmas.Bool.{and_parts, cases_lt, leb-true, le-leb}
+use Rattle.std.proofs.lemmas.Bool.{and_parts, cases_lt}
 use Rattle.std.proofs.lemmas.List.{length-append, length-drop, length-take-le, take-append-drop, take-append-le}
 use Rattle.std.proofs.lemmas.List.{drop-append-le, drop-take, take-take}
 use Rattle.std.proofs.lemmas.Slice.{drop-append-drop}
-use Rattle.std.proofs.Math.Seq.{take-append-add, take-append_seam, drop-append_seam}
+use Rattle.std.proofs.Math.Seq.{take-append-add}
 use Rattle.ans_model.specs.Bytes.{end_mark}
 use Rattle.ans_model.specs.File.Layout.{after_content, content, is_end_mark}
 use Rattle.ans_model.specs.File.Record.{comment_count, number}

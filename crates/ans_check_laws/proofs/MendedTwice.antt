@@ -5,7 +5,6 @@ use Rattle.std.proofs.Common.{true≢false}
 use Rattle.std.specs.Prelude.{if◌then◌else◌, IsTrue, ◌↔◌, ◌&&◌, bytes_eq, codes, Option, Some, None, MatchBool}
 use Rattle.std.proofs.lemmas.Bool.{cases_lt, eq-eqb, ne_eqb}
 use Rattle.std.proofs.lemmas.List.{length-append, length-drop, length-take-le, take-append-drop}
-use Rattle.std.proofs.Math.Seq.{take-append_seam, drop-append_seam}
 use Rattle.ans_model.specs.Bytes.{longest_file}
 use Rattle.ans_model.specs.File.Layout.{content}
 use Rattle.ans_model.specs.File.Record.{file_size, stated_size}

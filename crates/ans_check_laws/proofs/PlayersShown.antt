@@ -9,7 +9,7 @@ use Rattle.ans_model.specs.Screen.State.{Size}
 use Rattle.ans_model.specs.Screen.StartClass.{Covers, all_known, none_known}
 use Rattle.ans_model.specs.Verdict.Good.{GoodWith, Picture}
 use Rattle.ans_model.specs.declared.start.Start.{Start}
-use Rattle.ans_model.proofs.ClassLemmas.{covers_all_known, none_known_covers}
+use Rattle.ans_model.proofs.ClassLemmas.{covers_all_known, covers_both_ways, none_known_covers}
 use Rattle.ans_players.specs.Classes.{IsLeastSame, IsSame}
 use Rattle.ans_players.specs.Players.{Behaviour, IsPlayer, IsShown}
 use Rattle.ans_players.specs.Situations.{AreAgreed, Spelled, is_agreed, spelled, stand_of}
@@ -23,7 +23,6 @@ use Rattle.ans_walks.specs.SaidOfPlayers.{IsSameWhereCleared}
 use Rattle.ans_mend.specs.declared.outcome.Mended.{Mended}
 use Rattle.ans_model.specs.declared.mends.Mends.{Mends}
 use Rattle.ans_mend.specs.Mending.{IsMended}
-use Rattle.ans_check_laws.proofs.Covering.{covers_both_ways}
 use Rattle.ans_check_laws.proofs.MendedTwice.{still}
 
 abbrev pub none_agreed : Kind → Bool

@@ -3,7 +3,7 @@ use Rattle.std.proofs.Common.{◌≡◌, ℕ, suc, ◌+◌, Bool, true, false, r
 use Rattle.std.proofs.Common.{List, [], ◌∷◌, ◌++◌, length}
 use Rattle.std.specs.Prelude.{not, ◌&&◌, ◌||◌, nat_lt, is_some, Some, None, if◌then◌else◌}
 use Rattle.std.specs.List.{list_any, position, position_or_len}
-use Rattle.std.proofs.lemmas.Bool.{and_parts, lt-ltb}
+use Rattle.std.proofs.lemmas.Bool.{and_parts, lt-ltb, or_parts}
 use Rattle.std.proofs.lemmas.Bool.Decides.{nat_tests}
 use Rattle.std.proofs.lemmas.List.Elements.{All-head, All-tail, All-cons}
 use Rattle.std.proofs.lemmas.List.Folds.{list_any-append}
@@ -50,10 +50,6 @@ or_right : (a b : Bool) → b ≡ true → (a || b) ≡ true
 or_right true b h = refl
 or_right false b h = h
 
-neither : (a b : Bool) → (a || b) ≡ false → (a ≡ false) × (b ≡ false)
-neither true b h = absurd (true≢false h)
-neither false b h = (refl, h)
-
 -- where they are wanted, a return is put
 feeds_have : (bytes : List ℕ) → list_any is_line_feed bytes ≡ true → list_any is_return (with_returns bytes) ≡ true
 feeds_have [] h = absurd (true≢false (sym h))
@@ -83,7 +79,7 @@ put_wants_none bytes behind wants =
 pub put_unmarked : (bytes : List ℕ) → list_any is_end_mark bytes ≡ false
     → list_any is_end_mark (with_returns bytes) ≡ false
 put_unmarked [] h = refl
-put_unmarked (b ∷ bytes) h = go (is_line_feed b) refl (neither (is_end_mark b) (list_any is_end_mark bytes) h)
+put_unmarked (b ∷ bytes) h = go (is_line_feed b) refl (or_parts (is_end_mark b) (list_any is_end_mark bytes) h)
     (put_unmarked bytes)
   where
     go : (feed : Bool) → is_line_feed b ≡ feed → (is_end_mark b ≡ false) × (list_any is_end_mark bytes ≡ false)
