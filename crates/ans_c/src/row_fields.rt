@@ -2,7 +2,7 @@
 
 ghost use Rattle.std.specs.Prelude.{◌≡◌, ◌≤◌, ◌+◌, ℕ, List, drop, length};
 ghost use Rattle.ans_model.specs.Bytes.{longest_file};
-ghost use Rattle.ans_sauce.specs.RecordBytes.{bytes_of};
+ghost use Rattle.ans_sauce.specs.RecordBytes.{sauce_bytes};
 ghost use Rattle.ans_sauce.specs.Split.{IsSplit};
 ghost use Rattle.ans_c.specs.Row.{IsTellingFields, IsTellingParts, TellsFields, aspect_number, has_note, notes_sum};
 ghost use Rattle.ans_c.specs.Row.{piece, spacing_number};
@@ -85,8 +85,8 @@ fn piece_behind(front: usize, offset: usize, text: &[u8]) -> Piece
 /// What a record says that stands behind so many bytes of its file.
 fn fields_behind(front: usize, sauce: &Record<'_>) -> ToldFields
     requires { front ≤ longest_file }
-    ensures { (file : List ℕ) → drop front file ≡ bytes_of sauce.now
-        → IsTellingFields file (bytes_of sauce.now) result }
+    ensures { (file : List ℕ) → drop front file ≡ sauce_bytes sauce.now
+        → IsTellingFields file (sauce_bytes sauce.now) result }
 {
     ToldFields {
         is_there: 1,

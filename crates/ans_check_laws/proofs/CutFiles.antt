@@ -185,7 +185,9 @@ module _ (file : List ℕ) where
     mark_record = go (lacks_end_mark file)
       where
         go : (lacks : Bool) → record_in (marked_if lacks) ≡ record_in file
-        go true = ap record_in marked_whole ∙ record_behind marked_front (record_in file) (record_length file (recorded_long file has))
+        go true =
+            ap record_in marked_whole
+            ∙ record_behind marked_front (record_in file) (record_length file (recorded_long file has))
         go false = refl
 
 -- ---- returns

@@ -12,7 +12,7 @@ use Rattle.ans_model.specs.Verdict.Good.{Picture}
 use Rattle.ans_model.specs.declared.start.Start.{Start}
 use Rattle.ans_sauce.proofs.LaidParts.{laid_body}
 use Rattle.ans_sauce.specs.Contents.{content_in}
-use Rattle.ans_picture_laws.specs.RedrawnFileLaws.{CanBeRedrawn, IsRedrawnTo, stays}
+use Rattle.ans_picture_laws.specs.RedrawnFileLaws.{CanBeRedrawn, IsRedrawnTo, note_stays}
 use Rattle.ans_redraw.specs.RedrawnFile.{redrawn_file}
 use Rattle.ans_redraw.specs.declared.outcome.Redrawn.{Redrawn}
 use Rattle.ans_picture_laws.proofs.RedrawnContents.{content_tells_the_picture}
@@ -60,7 +60,7 @@ pub redrawing_keeps : (file new : List ℕ) (apart : FileParts) (picture : Pictu
     → (new_apart : FileParts) × ((class : Start) → Passes new class new_apart picture)
     × (stated_size new_apart.record_bytes ≡ stated_size apart.record_bytes)
     × (new_apart.comment_bytes ≡ apart.comment_bytes)
-    × (notes new_apart.body new_apart.record_bytes ≡ filter stays (notes apart.body apart.record_bytes))
+    × (notes new_apart.body new_apart.record_bytes ≡ filter note_stays (notes apart.body apart.record_bytes))
 redrawing_keeps file new apart picture redrawn passes h =
     let its : IsNew file apart picture new = is_new file new apart picture redrawn passes h in
     let to : (new_apart : FileParts) × IsRedrawnTo file apart picture new_apart =

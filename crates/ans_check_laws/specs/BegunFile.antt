@@ -14,7 +14,7 @@ abbrev pub begun_parts : FileParts → FileParts
 begun_parts apart = resized_parts mending (file_size apart.record_bytes + length mending) apart
 
 -- That file is accepted, has the same size and the same notes, and passes from every start with this picture.
-pub record IsBegun (apart : FileParts) (picture : Picture) : Type 0 where
+pub record IsBegunFile (apart : FileParts) (picture : Picture) : Type 0 where
   pub accepts : Accepts (laid_file (begun_parts apart)) (begun_parts apart)
   pub size : stated_size (begun_parts apart).record_bytes ≡ stated_size apart.record_bytes
   pub notes : notes (begun_parts apart).body (begun_parts apart).record_bytes ≡ notes apart.body apart.record_bytes
@@ -24,4 +24,4 @@ pub record IsBegun (apart : FileParts) (picture : Picture) : Type 0 where
 abbrev pub BegunFilePasses : Type 0
 BegunFilePasses = (file : List ℕ) (apart : FileParts) (picture : Picture) → Accepts file apart
     → GoodWith (stated_size apart.record_bytes) all_known (content apart.body) picture
-    → file_size apart.record_bytes + length mending < 4294967296 → IsBegun apart picture
+    → file_size apart.record_bytes + length mending < 4294967296 → IsBegunFile apart picture

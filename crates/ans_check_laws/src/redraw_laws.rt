@@ -11,7 +11,7 @@ ghost use Rattle.ans_model.specs.declared.start.Start.{Start};
 ghost use Rattle.ans_sauce.specs.Contents.{content_in};
 ghost use Rattle.ans_mend.specs.declared.outcome.Mended.{Mended};
 ghost use Rattle.ans_model.specs.declared.mends.Mends.{Mends};
-ghost use Rattle.ans_picture_laws.specs.RedrawnFileLaws.{stays};
+ghost use Rattle.ans_picture_laws.specs.RedrawnFileLaws.{note_stays};
 ghost use Rattle.ans_redraw.specs.RedrawnFile.{IsTooLong};
 ghost use Rattle.ans_redraw.specs.declared.outcome.Redrawn.{Redrawn};
 ghost use Rattle.ans_redraw.specs.declared.outcome.Unredrawn.{Unredrawn};
@@ -29,7 +29,7 @@ pub fn redrawing_keeps_the_picture()
         × (stated_size new_apart.record_bytes ≡ stated_size apart.record_bytes)
         × (new_apart.comment_bytes ≡ apart.comment_bytes)
         × (notes new_apart.body new_apart.record_bytes
-        ≡ filter stays (notes apart.body apart.record_bytes)) }
+        ≡ filter note_stays (notes apart.body apart.record_bytes)) }
 {}
 
 /// To redraw once is enough: of what is written, redrawn again, the same bytes are written. There is never a

@@ -27,7 +27,8 @@ content_front file =
     let body : List ℕ = body_in file in
     let body_front : take (length body) file ≡ body =
     front_of_front file (length (front_in file) - block_size (comment_count (record_in file))) (length file - 128) in
-    sym (take-take (length (content_in file)) (length body) file (front_shorter body (position_or_len is_end_mark body)))
+    sym (take-take (length (content_in file)) (length body) file
+    (front_shorter body (position_or_len is_end_mark body)))
     ∙ ap (take (length (content_in file))) body_front ∙ front_again body (position_or_len is_end_mark body)
 
 pub same_content : (file : List ℕ) → with_content (content_in file) file ≡ file

@@ -87,14 +87,16 @@ names_within mends whole based front few short = go mends.name_colours
     go true = omega (arith, few, short)
 
 module _ (mends asked : Mends) (whole cut based : List ℕ) (is_cut : IsTailCut whole cut)
-    (shorter : length cut ≤ length whole) (asked_is : asked ≡ asked_for mends cut) (based_is : based ≡ recorded mends cut)
+    (shorter : length cut ≤ length whole) (asked_is : asked ≡ asked_for mends cut)
+    (based_is : based ≡ recorded mends cut)
   where
     all_fits : length based + (most_added asked based + 1) ≤ length whole + most_put mends whole
     all_fits =
         let given : List ℕ = recorded mends cut in
         let returns = few_returns mends whole cut is_cut in
         let long = recorded_length mends cut in
-        let front : length (front_in given) ≡ length given - 128 = length-take-le (length given - 128) given (omega arith) in
+        let front : length (front_in given) ≡ length given - 128 =
+        length-take-le (length given - 128) given (omega arith) in
         let names = names_within mends (length whole) (length given) (length (front_in given))
         (omega (arith, shorter, long)) (omega (arith, shorter, long, front)) in
         subst₂ (λ (m : Mends) (v : List ℕ). length v + (most_added m v + 1) ≤ length whole + most_put mends whole)

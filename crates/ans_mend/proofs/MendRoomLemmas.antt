@@ -13,7 +13,8 @@ use Rattle.ans_model.specs.File.Refusals.{block_size, has_record}
 use Rattle.ans_sauce.specs.Found.{body_in, front_in, record_in}
 use Rattle.ans_sauce.specs.Contents.{content_in, with_content}
 use Rattle.ans_sauce.proofs.RecordLemmas.{front_before, front_shorter}
-use Rattle.ans_mend.specs.LineEnds.{is_line_feed, line_feeds, returned as returned_byte, wants_returns, with_line_ends}
+use Rattle.ans_mend.specs.LineEnds.{is_line_feed, line_feeds, byte_returned as returned_byte, wants_returns}
+use Rattle.ans_mend.specs.LineEnds.{with_line_ends}
 use Rattle.ans_mend.specs.LineEnds.{with_returns}
 use Rattle.ans_mend.specs.NewRecord.{new_record, takes_record, with_new_record}
 use Rattle.ans_mend.specs.Tail.{IsTailCut}

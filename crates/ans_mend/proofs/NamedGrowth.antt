@@ -13,9 +13,9 @@ use Rattle.ans_walks.specs.Counted.{count_of, counted}
 use Rattle.ans_walks.specs.declared.times.Times.{Times}
 use Rattle.ans_walks.proofs.KindsFound.{spelled_behind}
 use Rattle.ans_mend.specs.NamedColours.{named_content, times_named}
-use Rattle.ans_mend.specs.NameSearch.{GoesFirst, Grows, NoneGoes}
+use Rattle.ans_mend.specs.NameSearch.{IsNamedFirst, Grows, NoneGoes}
 use Rattle.ans_mend.specs.declared.name_colours.Growth.{Growth}
-use Rattle.ans_mend.specs.declared.name_search.Going.{Going}
+use Rattle.ans_mend.specs.declared.name_search.Naming.{Naming}
 use Rattle.ans_mend.proofs.RowEndsOut.{counted_within}
 use Rattle.ans_mend.proofs.SearchSteps.{texts_long}
 
@@ -49,7 +49,7 @@ grown_to_nothing content = record {
 
 module _ (content : List ℕ) (read : ℕ) (times : Option Times) (bytes : ℕ) (h : GrownTo content read times bytes) where
   -- one sequence more
-  pub grown_more : (g : Going) → GoesFirst (drop read content) g
+  pub grown_more : (g : Naming) → IsNamedFirst (drop read content) g
       → GrownTo content (read + g.end) (counted times true (read + g.start))
       (bytes + (length g.put.now - (g.rest - g.zero)))
   grown_more g f =

@@ -12,8 +12,8 @@ use Rattle.ans_tokens.proofs.Scanning.{nothing_left, split_reading}
 use Rattle.ans_walks.proofs.KindsFound.{spelled_behind}
 use Rattle.ans_mend.specs.NamedColours.{left_by, missing_numbers, named_content, named_sequence, named_text}
 use Rattle.ans_mend.specs.NamedColours.{names_behind_token, put_by, to_zero, way_of}
-use Rattle.ans_mend.specs.NameSearch.{GoesFirst, NoneGoes, bytes_of}
-use Rattle.ans_mend.specs.declared.name_search.Going.{Going}
+use Rattle.ans_mend.specs.NameSearch.{IsNamedFirst, NoneGoes, bytes_of}
+use Rattle.ans_mend.specs.declared.name_search.Naming.{Naming}
 use Rattle.ans_mend.specs.declared.naming.Way.{Way}
 use Rattle.ans_mend.specs.declared.naming.Way.TheVariants.{Within, After, Between}
 use Rattle.ans_mend.proofs.SearchSteps.{spelled_bytes, texts_long}
@@ -83,14 +83,14 @@ pub record GoesOn (start memory : List ℕ) (end written read : ℕ) (named : Li
 
 module _ (start memory : List ℕ) (end written read : ℕ) (named : List ℕ)
     (h : GoesOn start memory end written read named)
-    (g : Going) (f : GoesFirst (take (end - read) (drop read memory)) g) (order : read ≤ end)
+    (g : Naming) (f : IsNamedFirst (take (end - read) (drop read memory)) g) (order : read ≤ end)
     (within : end ≤ length start) (same : drop read memory ≡ drop read start) (written_in : written ≤ length memory)
     (long : length named ≡ end) where
   abbrev bytes : List ℕ
   bytes = take (end - read) (drop read start)
 
-  first : GoesFirst (take (end - read) (drop read start)) g
-  first = subst (λ (v : List ℕ). GoesFirst (take (end - read) v) g) same f
+  first : IsNamedFirst (take (end - read) (drop read start)) g
+  first = subst (λ (v : List ℕ). IsNamedFirst (take (end - read) v) g) same f
 
   bytes_long : length bytes ≡ end - read
   bytes_long =

@@ -6,12 +6,12 @@ use Rattle.std.proofs.lemmas.List.{get_or-drop, get_or-take, length-drop, length
 use Rattle.std.proofs.lemmas.List.{append-nil}
 use Rattle.std.proofs.lemmas.List.Sums.{count_by_more_no, count_by_more_yes, sum_by-take-le}
 use Rattle.std.proofs.lemmas.Grind.{flat_map-append}
-use Rattle.ans_mend.specs.LineEnds.{is_line_feed, line_feeds, returned, with_returns}
+use Rattle.ans_mend.specs.LineEnds.{is_line_feed, line_feeds, byte_returned, with_returns}
 use Rattle.ans_mend.proofs.MovedUp.{filled_front, moved, moved_content}
 
 -- one byte more
 feeds_more : (xs : List ℕ) (i : ℕ) → i < length xs
-    → line_feeds (take (i + 1) xs) + 1 ≡ line_feeds (take i xs) + length (returned (slice_index_or xs i 0))
+    → line_feeds (take (i + 1) xs) + 1 ≡ line_feeds (take i xs) + length (byte_returned (slice_index_or xs i 0))
 feeds_more xs i within = go (is_line_feed (slice_index_or xs i 0)) refl
   where
     go : (feed : Bool) → is_line_feed (slice_index_or xs i 0) ≡ feed
@@ -22,11 +22,11 @@ feeds_more xs i within = go (is_line_feed (slice_index_or xs i 0)) refl
     go false is = let more = count_by_more_no is_line_feed xs i 0 within is in omega (arith, more)
 
 returns_more : (xs : List ℕ) (i : ℕ) → i < length xs
-    → with_returns (take (i + 1) xs) ≡ with_returns (take i xs) ++ returned (slice_index_or xs i 0)
+    → with_returns (take (i + 1) xs) ≡ with_returns (take i xs) ++ byte_returned (slice_index_or xs i 0)
 returns_more xs i within =
     ap with_returns (take_more xs i 0 within)
-    ∙ flat_map-append returned (take i xs) (slice_index_or xs i 0 ∷ [])
-    ∙ ap (λ (v : List ℕ). with_returns (take i xs) ++ v) (append-nil (returned (slice_index_or xs i 0)))
+    ∙ flat_map-append byte_returned (take i xs) (slice_index_or xs i 0 ∷ [])
+    ∙ ap (λ (v : List ℕ). with_returns (take i xs) ++ v) (append-nil (byte_returned (slice_index_or xs i 0)))
 
 module _ (start memory : List ℕ) (gap count index written : ℕ) (more : index < count)
     (within : gap + count ≤ length start) (room : line_feeds (take count (drop gap start)) ≤ gap)
@@ -54,25 +54,25 @@ module _ (start memory : List ℕ) (gap count index written : ℕ) (more : index
   feeds_within n =
       let front = sum_by-take-le (λ (b : ℕ). if is_line_feed b then 1 else 0) content n in omega (arith, front, room)
 
-  pub has_room : written + length (returned byte) ≤ length memory
+  pub has_room : written + length (byte_returned byte) ≤ length memory
   has_room =
       let feeds = feeds_more content index (omega (arith, more, content_length)) in
       let limit = feeds_within (index + 1) in
       rw same_byte (omega (arith, feeds, limit, place, within, same_length, more))
 
-  module _ (result : ℕ) (new : List ℕ) (counted : result ≡ written + length (returned byte))
-      (new_length : length new ≡ length memory) (wrote : take result new ≡ take written memory ++ returned byte)
+  module _ (result : ℕ) (new : List ℕ) (counted : result ≡ written + length (byte_returned byte))
+      (new_length : length new ≡ length memory) (wrote : take result new ≡ take written memory ++ byte_returned byte)
       (behind : (at : ℕ) → result ≤ at → drop at new ≡ drop at memory) where
     pub next_place : result ≡ index + 1 + line_feeds (take (index + 1) content)
     next_place =
         let feeds = feeds_more content index (omega (arith, more, content_length)) in
-        let long : result ≡ written + length (returned (slice_index_or content index 0)) =
-        counted ∙ ap (λ (b : ℕ). written + length (returned b)) same_byte in
+        let long : result ≡ written + length (byte_returned (slice_index_or content index 0)) =
+        counted ∙ ap (λ (b : ℕ). written + length (byte_returned b)) same_byte in
         omega (arith, feeds, long, place)
 
     pub next_done : take result new ≡ with_returns (take (index + 1) content)
     next_done =
-        wrote ∙ ap₂ (λ (v : List ℕ) (b : ℕ). v ++ returned b) done same_byte
+        wrote ∙ ap₂ (λ (v : List ℕ) (b : ℕ). v ++ byte_returned b) done same_byte
         ∙ sym (returns_more content index (omega (arith, more, content_length)))
 
     pub next_left : drop (gap + (index + 1)) new ≡ drop (gap + (index + 1)) start

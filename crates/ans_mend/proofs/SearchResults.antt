@@ -14,7 +14,7 @@ use Rattle.ans_tokens.specs.Walk.{Front, Walks, WalksTo}
 use Rattle.ans_tokens.proofs.Walked.{never_refused}
 use Rattle.ans_walks.specs.NamesShown.{shown_names}
 use Rattle.ans_mend.specs.NameSearch.{HasSearched, IsSearched, NoneGoes, WaitsIn}
-use Rattle.ans_mend.specs.declared.name_search.Search.{Search}
+use Rattle.ans_mend.specs.declared.name_search.NameSearch.{NameSearch}
 use Rattle.ans_mend.specs.declared.name_search.Taking.{Taking}
 use Rattle.ans_mend.proofs.SearchSteps.{none_goes, waiting_within}
 
@@ -23,10 +23,10 @@ pub on_err : {A B : Type 0} → (r : Result A B) (P : Type 0) → P → OnErr r 
 on_err (Ok a) P p = tt
 on_err (Err b) P p = p
 
-abbrev over_front : Search → Front → Search → Bool → Type 0
+abbrev over_front : NameSearch → Front → NameSearch → Bool → Type 0
 over_front first front now goes_on = HasSearched first front goes_on now
 
-module _ (bytes : List ℕ) (first now : Search) where
+module _ (bytes : List ℕ) (first now : NameSearch) where
   pub not_read : (fault : Fault) → WalksTo over_front bytes (length bytes) first now (Err fault)
       → (tokens : List TokenKind) → ¬ Reads bytes tokens
   not_read fault h tokens reads =

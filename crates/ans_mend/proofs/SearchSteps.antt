@@ -22,10 +22,10 @@ use Rattle.ans_walks.proofs.KindsFound.{one, spelled_more}
 use Rattle.ans_walks.specs.NamesShown.{shown_names}
 use Rattle.ans_mend.specs.NamedColours.{missing_numbers, named_content, named_sequence, named_text}
 use Rattle.ans_mend.specs.NamedColours.{numbers_to_zero, takes_names, through_numbers, times_named}
-use Rattle.ans_mend.specs.NameSearch.{GoesFirst, HasSearched, IsSearched, NoneGoes}
+use Rattle.ans_mend.specs.NameSearch.{IsNamedFirst, HasSearched, IsSearched, NoneGoes}
 use Rattle.ans_mend.specs.NameSearch.{Waits, bytes_of, taking_after}
-use Rattle.ans_mend.specs.declared.name_search.Going.{Going}
-use Rattle.ans_mend.specs.declared.name_search.Search.{Search}
+use Rattle.ans_mend.specs.declared.name_search.Naming.{Naming}
+use Rattle.ans_mend.specs.declared.name_search.NameSearch.{NameSearch}
 use Rattle.ans_mend.specs.declared.name_search.Taking.{Taking}
 use Rattle.ans_walks.specs.declared.names.Names as walked
 use Rattle.ans_mend.proofs.NamesWaiting.{bytes_append}
@@ -65,9 +65,9 @@ some_bytes (t ∷ tokens) (x ∷ texts) reads some = go x refl
     go (b ∷ y) is = rw is (omega arith)
 
 -- ---- a token more
-module _ (first old : Search) (front : Front) (t : TokenKind) (text behind : List ℕ)
+module _ (first old : NameSearch) (front : Front) (t : TokenKind) (text behind : List ℕ)
     (h : HasSearched first front true old) where
-  pub searched_more : (new : Search) (goes_on : Bool) → new.behind ≡ length behind
+  pub searched_more : (new : NameSearch) (goes_on : Bool) → new.behind ≡ length behind
       → IsSearched goes_on new.taking (shown_names new.named) (spelled front.tokens front.texts ++ one t text ∷ [])
       → HasSearched first (front_with front t text behind) goes_on new
   searched_more new goes_on at searched = record {
@@ -79,7 +79,7 @@ module _ (first old : Search) (front : Front) (t : TokenKind) (text behind : Lis
   }
 
   -- it prints or clears
-  pub printed : (new : Search) (goes_on : Bool) → paints t ≡ true → new.behind ≡ length behind
+  pub printed : (new : NameSearch) (goes_on : Bool) → paints t ≡ true → new.behind ≡ length behind
       → new.taking ≡ (if are_both (shown_names old.named) then None else old.taking) → new.named ≡ old.named
       → is_some new.taking ≡ not goes_on → HasSearched first (front_with front t text behind) goes_on new
   printed new goes_on prints at taking_is named_is some =
@@ -100,7 +100,7 @@ module _ (first old : Search) (front : Front) (t : TokenKind) (text behind : Lis
       none_if (Some x) false is = refl
 
   -- it does neither
-  pub passed : (new : Search) (token : Token) → paints t ≡ false → shown_kind (kind_of token) ≡ t
+  pub passed : (new : NameSearch) (token : Token) → paints t ≡ false → shown_kind (kind_of token) ≡ t
       → start_of token ≡ length (concat front.texts) → length_of token ≡ length text
       → new.behind ≡ length behind → new.taking ≡ taking_after old.taking token
       → shown_names new.named ≡ names_after (shown_names old.named) t
@@ -234,13 +234,13 @@ module _ (bytes left : List ℕ) (tokens : List TokenKind) (texts : List (List �
       (length (bytes_of h.before ++ (h.waiting.text ++ bytes_of h.after))) whole_apart h.start (omega arith)
       (omega arith) refl taking.length h.long
 
-  pub goes_first : are_both n ≡ false → (g : Going) (cut rest : ℕ) → g.start ≡ taking.start
+  pub goes_first : are_both n ≡ false → (g : Naming) (cut rest : ℕ) → g.start ≡ taking.start
       → g.zero ≡ taking.start + cut → g.rest ≡ taking.start + rest → g.end ≡ length (concat texts)
       → cut ≤ rest → rest ≤ taking.length → length g.put.now ≤ 12 → rest < cut + length g.put.now
       → (named_text (missing_numbers n) (through_numbers taking.numbers h.waiting.text)
       (drop (length (through_numbers taking.numbers h.waiting.text)) h.waiting.text)
       ≡ take cut h.waiting.text ++ (g.put.now ++ drop rest h.waiting.text))
-      → GoesFirst bytes g
+      → IsNamedFirst bytes g
   goes_first missing g cut rest start_is cut_is rest_is end_is order in_text few grows text_is =
       let w : List ℕ = h.waiting.text in
       let long = h.long in

@@ -13,12 +13,12 @@ abbrev pub is_return : ℕ → Bool
 is_return b = b == 0x0D
 
 -- a byte, and a return before it if it is a line feed
-abbrev pub returned : ℕ → List ℕ
-returned b = if is_line_feed b then 0x0D ∷ b ∷ [] else b ∷ []
+abbrev pub byte_returned : ℕ → List ℕ
+byte_returned b = if is_line_feed b then 0x0D ∷ b ∷ [] else b ∷ []
 
 -- the bytes with a return before each line feed
 abbrev pub with_returns : List ℕ → List ℕ
-with_returns bytes = flat_map returned bytes
+with_returns bytes = flat_map byte_returned bytes
 
 -- how many line feeds there are
 abbrev pub line_feeds : List ℕ → ℕ

@@ -17,8 +17,8 @@ use Rattle.ans_mend.specs.NamedColours.{begins_unnamed, named_content, named_seq
 use Rattle.ans_mend.specs.NamedColours.{takes_names, times_named}
 use Rattle.ans_mend.specs.declared.name_colours.Growth.{Growth}
 use Rattle.ans_mend.specs.declared.name_search.First.{First}
-use Rattle.ans_mend.specs.declared.name_search.Going.{Going}
-use Rattle.ans_mend.specs.declared.name_search.Search.{Search}
+use Rattle.ans_mend.specs.declared.name_search.Naming.{Naming}
+use Rattle.ans_mend.specs.declared.name_search.NameSearch.{NameSearch}
 use Rattle.ans_mend.specs.declared.name_search.Taking.{Taking}
 use Rattle.ans_mend.specs.declared.name_search.Waiting.{Waiting}
 
@@ -64,7 +64,7 @@ IsSearched false None n xs = ⊥
 IsSearched false (Some taking) n xs = Waits xs taking (λ more. n) × (are_both n ≡ false)
 
 -- over the front the search has come here, and goes on or stops
-pub record HasSearched (first : Search) (front : Front) (goes_on : Bool) (now : Search) : Type 0 where
+pub record HasSearched (first : NameSearch) (front : Front) (goes_on : Bool) (now : NameSearch) : Type 0 where
   pub texts : length front.texts ≡ length front.tokens
   pub behind : now.behind ≡ length front.behind
   pub searched : IsSearched goes_on now.taking (shown_names now.named) (spelled front.tokens front.texts)
@@ -90,7 +90,7 @@ pub record WaitsIn (bytes : List ℕ) (w : Waiting) : Type 0 where
   pub within : w.taking.start + w.taking.length ≤ length bytes
 
 -- the first bytes are read, whatever comes: one sequence in them gets names, and the others stay
-pub record GoesFirst (bytes : List ℕ) (g : Going) : Type 0 where
+pub record IsNamedFirst (bytes : List ℕ) (g : Naming) : Type 0 where
   pub tokens : List TokenKind
   pub texts : List (List ℕ)
   pub reads : ReadsAs (take g.end bytes) tokens texts

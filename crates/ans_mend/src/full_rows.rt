@@ -16,7 +16,7 @@ use ans_walks::{FullRowEnd, RowPlay, Times, ends_full_rows};
 
 /// What was taken out, how often, and how many bytes are left of those that were looked at.
 #[derive(Clone, Copy)]
-struct Left {
+struct RowsLeft {
     times: Option<Times>,
     count: usize,
 }
@@ -66,7 +66,7 @@ fn take_out_end(memory: &mut [u8], count: usize, from: usize, end: &FullRowEnd) 
 }
 
 /// Takes the line ends behind full rows out of the first `count` bytes, which a play is to go over.
-fn take_out_ends(memory: &mut [u8], count: usize, mut rows: RowPlay) -> Left
+fn take_out_ends(memory: &mut [u8], count: usize, mut rows: RowPlay) -> RowsLeft
     requires within { count ≤ length memory.old }
     requires limit { count ≤ longest_file }
     requires begins { rows.played ≡ 0 }
@@ -86,7 +86,7 @@ fn take_out_ends(memory: &mut [u8], count: usize, mut rows: RowPlay) -> Left
         kept = take_out_end(memory, kept, read, &end);
         read = rows.played;
     }
-    Left {
+    RowsLeft {
         times,
         count: keep(memory, kept, read, count),
     }

@@ -6,7 +6,7 @@ ghost use Rattle.std.specs.List.{list_any, position};
 ghost use Rattle.ans_mend.specs.Drafts.{memory_of};
 ghost use Rattle.ans_mend.specs.LineEnds.{AreReturns, ArePut, is_return};
 ghost use Rattle.ans_sauce.specs.Contents.{content_in};
-ghost use Rattle.ans_mend.specs.LineEnds.{is_line_feed, line_feeds, returned, wants_returns, with_line_ends};
+ghost use Rattle.ans_mend.specs.LineEnds.{is_line_feed, line_feeds, byte_returned, wants_returns, with_line_ends};
 ghost use Rattle.ans_mend.specs.LineEnds.{with_returns};
 
 use crate::draft::Draft;
@@ -36,10 +36,10 @@ pub fn count_line_feeds(bytes: &[u8]) -> usize
 /// Writes a byte behind the first ones, behind a return if it is a line feed. Returns how many bytes there
 /// are then.
 fn write_returned(memory: &mut [u8], count: usize, byte: u8) -> usize
-    requires { count + length (returned byte) ≤ length memory.old }
-    ensures count { result ≡ count + length (returned byte) }
+    requires { count + length (byte_returned byte) ≤ length memory.old }
+    ensures count { result ≡ count + length (byte_returned byte) }
     ensures same_length { length memory.new ≡ length memory.old }
-    ensures written { take result memory.new ≡ take count memory.old ++ returned byte }
+    ensures written { take result memory.new ≡ take count memory.old ++ byte_returned byte }
     ensures behind { (place : ℕ) → result ≤ place → drop place memory.new ≡ drop place memory.old }
 {
     let mut end = count;
@@ -75,7 +75,7 @@ fn put_returns_in(memory: &mut [u8], used: usize, count: usize, gap: usize)
     requires within { count ≤ used }
     requires gap { gap ≡ line_feeds (take count memory.old) }
     ensures same_length { length memory.new ≡ length memory.old }
-    ensures returned { take (used + gap) memory.new
+    ensures byte_returned { take (used + gap) memory.new
         ≡ with_returns (take count memory.old) ++ drop count (take used memory.old) }
 {
     memory.copy_within(0..used, gap);

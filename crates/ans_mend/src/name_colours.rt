@@ -9,13 +9,13 @@ ghost use Rattle.ans_model.specs.Sequence.Reads.{Reads, ReadsAs};
 ghost use Rattle.ans_players.specs.Situations.{spelled};
 ghost use Rattle.ans_mend.specs.Drafts.{memory_of};
 ghost use Rattle.ans_mend.specs.NamedColours.{HasNamedColours, IsTooLongNamed, named_content, names_room};
-ghost use Rattle.ans_mend.specs.NameSearch.{GoesFirst, Grows, HaveNamedLength, NoneGoes};
+ghost use Rattle.ans_mend.specs.NameSearch.{IsNamedFirst, Grows, HaveNamedLength, NoneGoes};
 
 use crate::draft::Draft;
 use crate::full_rows::once_more;
 use crate::keeping::keep;
 use crate::line_ends::content_of;
-use crate::name_search::{Going, next_going};
+use crate::name_search::{Naming, next_going};
 use crate::outcome::Unmended;
 use ans_model::limits::MAX_FILE;
 use ans_sauce::overwrite;
@@ -63,10 +63,10 @@ fn write_behind(memory: &mut [u8], count: usize, bytes: &[u8]) -> usize
 }
 
 /// The first sequence that is to name colours, in bytes that can be read.
-fn going_in(bytes: &[u8]) -> Option<Going>
+fn going_in(bytes: &[u8]) -> Option<Naming>
     requires limit { length bytes.now ≤ longest_file }
     requires reads { (tokens : List TokenKind) × Reads bytes.now tokens }
-    ensures { MatchOption result (NoneGoes bytes.now) (GoesFirst bytes.now) }
+    ensures { MatchOption result (NoneGoes bytes.now) (IsNamedFirst bytes.now) }
 {
     match next_going(bytes) {
         Ok(going) => going,

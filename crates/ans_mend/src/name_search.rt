@@ -8,7 +8,7 @@ ghost use Rattle.ans_players.specs.Situations.{spelled};
 ghost use Rattle.ans_mend.specs.NamedColours.{begins_unnamed};
 ghost use Rattle.ans_players.specs.Names.{are_both};
 ghost use Rattle.ans_walks.specs.NamesShown.{shown_names};
-ghost use Rattle.ans_mend.specs.NameSearch.{GoesFirst, NoneGoes, WaitsIn, taking_after};
+ghost use Rattle.ans_mend.specs.NameSearch.{IsNamedFirst, NoneGoes, WaitsIn, taking_after};
 
 use crate::names::{has_zero, takes_names};
 use crate::naming::{count_to_zero, naming_of};
@@ -28,7 +28,7 @@ struct Taking {
 
 /// A colour sequence that is to name colours. Its places are offsets in bytes.
 #[derive(Clone, Copy)]
-pub(crate) struct Going {
+pub(crate) struct Naming {
     pub(crate) start: usize,
     /// How many bytes stand before the names.
     pub(crate) zero: usize,
@@ -41,7 +41,7 @@ pub(crate) struct Going {
 
 /// Looks for the first sequence that is to name colours.
 #[derive(Clone, Copy)]
-struct Search {
+struct NameSearch {
     /// Which colours are named.
     named: Names,
     taking: Option<Taking>,
@@ -70,7 +70,7 @@ fn after_token(taking: Option<Taking>, token: &Token) -> Option<Taking>
     }
 }
 
-impl Walker for Search {
+impl Walker for NameSearch {
     ghost use Rattle.ans_mend.specs.NameSearch.{HasSearched};
 
     ghost ready = { λ search offset. Unit {0} };
@@ -105,7 +105,7 @@ fn waiting_in(bytes: &[u8]) -> Result<Option<Waiting>, Fault>
     ensures waiting { IfOk result (λ waiting. MatchOption waiting (NoneGoes bytes.now) (WaitsIn bytes.now)) }
     ensures unread { OnErr result ((tokens : List TokenKind) → ¬ Reads bytes.now tokens) }
 {
-    let mut search = Search {
+    let mut search = NameSearch {
         named: Names::NONE,
         taking: None,
         behind: bytes.len(),
@@ -125,15 +125,15 @@ fn waiting_in(bytes: &[u8]) -> Result<Option<Waiting>, Fault>
 }
 
 /// Where the sequence that waits gets its names.
-fn going_of(bytes: &[u8], waiting: Waiting) -> Going
+fn going_of(bytes: &[u8], waiting: Waiting) -> Naming
     requires limit { length bytes.now ≤ longest_file }
     requires waits { WaitsIn bytes.now waiting }
-    ensures { GoesFirst bytes.now result }
+    ensures { IsNamedFirst bytes.now result }
 {
     let start = waiting.taking.start;
     let text = &bytes[start..start + waiting.taking.length];
     let naming = naming_of(text, waiting.taking.numbers, waiting.named);
-    Going {
+    Naming {
         start,
         zero: start + naming.zero,
         rest: start + naming.rest,
@@ -143,9 +143,9 @@ fn going_of(bytes: &[u8], waiting: Waiting) -> Going
 }
 
 /// The first sequence that is to name colours. `Err` says that the bytes cannot be read to their end.
-pub(crate) fn next_going(bytes: &[u8]) -> Result<Option<Going>, Fault>
+pub(crate) fn next_going(bytes: &[u8]) -> Result<Option<Naming>, Fault>
     requires { length bytes.now ≤ longest_file }
-    ensures going { IfOk result (λ going. MatchOption going (NoneGoes bytes.now) (GoesFirst bytes.now)) }
+    ensures going { IfOk result (λ going. MatchOption going (NoneGoes bytes.now) (IsNamedFirst bytes.now)) }
     ensures unread { OnErr result ((tokens : List TokenKind) → ¬ Reads bytes.now tokens) }
 {
     match waiting_in(bytes)? {

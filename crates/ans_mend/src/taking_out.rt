@@ -133,13 +133,13 @@ impl Told {
 /// What is told of the sequences that were taken out, and how many bytes are left of those that were looked
 /// at.
 #[derive(Clone, Copy)]
-struct Left {
+struct BytesLeft {
     told: Told,
     count: usize,
 }
 
 /// Takes sequences out of the first `count` bytes.
-fn take_out_sequences(memory: &mut [u8], count: usize) -> Left
+fn take_out_sequences(memory: &mut [u8], count: usize) -> BytesLeft
     requires within { count ≤ length memory.old }
     requires limit { count ≤ longest_file }
     ensures few { result.count ≤ count }
@@ -159,7 +159,7 @@ fn take_out_sequences(memory: &mut [u8], count: usize) -> Left
         kept = keep(memory, kept, read, place);
         read = end;
     }
-    Left {
+    BytesLeft {
         told,
         count: keep(memory, kept, read, count),
     }

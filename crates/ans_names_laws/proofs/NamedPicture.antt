@@ -21,7 +21,7 @@ use Rattle.ans_mend.specs.NamedColours.{after_zero, missing_numbers, names_behin
 use Rattle.ans_mend.specs.NamedColours.{way_of}
 use Rattle.ans_mend.specs.declared.naming.Way.{Way}
 use Rattle.ans_mend.specs.declared.naming.Way.TheVariants.{Within, After, Between}
-use Rattle.ans_names_laws.specs.NamedTokens.{named_parts, named_tokens, numbers_of, parts_by}
+use Rattle.ans_names_laws.specs.NamedTokens.{named_parts, named_tokens, colour_numbers, parts_by}
 use Rattle.ans_names_laws.specs.NameLaws.{CellsStay}
 use Rattle.ans_names_laws.proofs.ColourTexts.{is_written}
 use Rattle.ans_names_laws.proofs.CutSequences.{is_cut}
@@ -35,7 +35,7 @@ tokens_of xs = map (λ x. x.token) xs
 
 -- a colour sequence
 abbrev IsColours : TokenKind → Type 0
-IsColours t = t ≡ Colours (numbers_of t)
+IsColours t = t ≡ Colours (colour_numbers t)
 
 abbrev AreColours : List Spelled → Type 0
 AreColours xs = AllByRecursion (λ x. IsColours x.token) xs

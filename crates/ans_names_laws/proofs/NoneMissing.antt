@@ -17,7 +17,7 @@ use Rattle.ans_mend.specs.NameSearch.{bytes_of}
 use Rattle.ans_mend.specs.declared.naming.Way.{Way}
 use Rattle.ans_mend.specs.declared.naming.Way.TheVariants.{Within, After, Between}
 use Rattle.ans_names_laws.specs.NamedTokens.{colours_of, named_tokens, naming_numbers, naming_sequence}
-use Rattle.ans_names_laws.specs.NamedTokens.{numbers_after_zero, numbers_of, numbers_through_zero, parts_by}
+use Rattle.ans_names_laws.specs.NamedTokens.{numbers_after_zero, colour_numbers, numbers_through_zero, parts_by}
 use Rattle.ans_names_laws.proofs.NamedParts.{takes_if}
 
 -- ---- more names
@@ -147,10 +147,10 @@ some_before ks any =
 
 -- a sequence that takes the names away, by its numbers
 pub record TakesNames (t : TokenKind) : Type 0 where
-  pub is : t ≡ Colours (numbers_of t)
+  pub is : t ≡ Colours (colour_numbers t)
   pub before : list_any is_zero (numbers_through_zero t) ≡ true
   pub after : list_any is_zero (numbers_after_zero t) ≡ false
-  pub whole : numbers_of t ≡ numbers_through_zero t ++ numbers_after_zero t
+  pub whole : colour_numbers t ≡ numbers_through_zero t ++ numbers_after_zero t
 
 pub takes_by_numbers : (t : TokenKind) → takes_names t ≡ true → TakesNames t
 takes_by_numbers (Colours ps) takes = record {

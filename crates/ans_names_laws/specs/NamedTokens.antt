@@ -9,17 +9,17 @@ use Rattle.ans_mend.specs.declared.naming.Way.{Way}
 use Rattle.ans_mend.specs.declared.naming.Way.TheVariants.{Within, After, Between}
 
 -- the numbers of a colour sequence
-abbrev pub numbers_of : TokenKind → List ℕ
-numbers_of (Colours parameters) = parameters
-numbers_of t = []
+abbrev pub colour_numbers : TokenKind → List ℕ
+colour_numbers (Colours parameters) = parameters
+colour_numbers t = []
 
 -- those up to and with its last 0
 abbrev pub numbers_through_zero : TokenKind → List ℕ
-numbers_through_zero t = take (numbers_to_zero t) (numbers_of t)
+numbers_through_zero t = take (numbers_to_zero t) (colour_numbers t)
 
 -- and those after it
 abbrev pub numbers_after_zero : TokenKind → List ℕ
-numbers_after_zero t = drop (numbers_to_zero t) (numbers_of t)
+numbers_after_zero t = drop (numbers_to_zero t) (colour_numbers t)
 
 -- the numbers that name what is not named
 abbrev pub naming_numbers : Names → List ℕ

@@ -1,5 +1,6 @@
 -- Names of topics, and the words that ask for one.
-use Rattle.std.proofs.Common.{◌≡◌, ℕ, ◌+◌, ◌-◌, ◌<◌, ◌≤◌, Bool, true, false, true≢false, List, [], ◌∷◌, ◌++◌, length, drop, take}
+use Rattle.std.proofs.Common.{◌≡◌, ℕ, ◌+◌, ◌-◌, ◌<◌, ◌≤◌, Bool, true, false, true≢false, List, [], ◌∷◌, ◌++◌, length}
+use Rattle.std.proofs.Common.{drop, take}
 use Rattle.std.proofs.Common.{get_or, map, Some, None, codes, refl, sym, arith, drop-cons, add-one}
 use Rattle.std.specs.Prelude.{◌↔◌, IsSome, IsTrue, Option, find, if◌then◌else◌, option_map}
 use Rattle.std.specs.Char.{eq_ignore_ascii_case}

@@ -19,7 +19,7 @@ use Rattle.ans_model.specs.Sequence.Meaning as means
 use Rattle.ans_model.specs.Sequence.Meaning.{meaning}
 use Rattle.ans_model.specs.Sequence.Reads.{SpellsToken}
 use Rattle.ans_players.specs.Situations.{omits}
-use Rattle.ans_redraw.specs.Colours.{colours_text}
+use Rattle.ans_redraw.specs.Colours.{colour_sequence}
 
 -- ---- a number
 -- its digits, as a test
@@ -76,7 +76,7 @@ numbers_mean : (n : ℕ) (ns : List ℕ) → meaning (raw_of (n ∷ ns)) ≡ Ok 
 numbers_mean n ns = rw (none_quoted ns, numbers_back ns) refl
 
 pub numbers_spelled : (n : ℕ) (ns : List ℕ) → AreBytes (n ∷ ns) → length (n ∷ ns) ≤ 16
-    → SpellsToken (Colours (n ∷ ns)) (colours_text (n ∷ ns))
+    → SpellsToken (Colours (n ∷ ns)) (colour_sequence (n ∷ ns))
 numbers_spelled n ns bytes few = inr (record {
   raw = raw_of (n ∷ ns);
   spelled = record {
@@ -153,7 +153,7 @@ numbers_unmarked (n ∷ m ∷ ns) h =
     unmarked_both (decimal n) (semicolon ∷ join_with_byte semicolon (map decimal (m ∷ ns))) (number_unmarked n h.0)
     (numbers_unmarked (m ∷ ns) h.1)
 
-pub text_unmarked : (ns : List ℕ) → AreBytes ns → list_any is_end_mark (colours_text ns) ≡ false
+pub text_unmarked : (ns : List ℕ) → AreBytes ns → list_any is_end_mark (colour_sequence ns) ≡ false
 text_unmarked ns h =
     unmarked_both (join_with_byte semicolon (map decimal ns)) (0x6D ∷ []) (numbers_unmarked ns h) refl
 
@@ -198,5 +198,5 @@ numbers_omit_none a n (m ∷ ns) h =
     ∙ number_omits_none a (decimal n) semicolon (more ++ 0x6D ∷ []) one.some_digit one.digits_only
     ∙ numbers_omit_none semicolon m ns h.1
 
-pub text_omits_none : (n : ℕ) (ns : List ℕ) → AreBytes (n ∷ ns) → omits (colours_text (n ∷ ns)) ≡ false
+pub text_omits_none : (n : ℕ) (ns : List ℕ) → AreBytes (n ∷ ns) → omits (colour_sequence (n ∷ ns)) ≡ false
 text_omits_none n ns h = numbers_omit_none bracket n ns h

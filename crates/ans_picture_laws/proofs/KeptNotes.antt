@@ -12,30 +12,30 @@ use Rattle.ans_model.specs.File.Record.{date_field, file_size, flags, tinfo}
 use Rattle.ans_model.specs.declared.note.Note.{Note}
 use Rattle.ans_model.specs.declared.note.Note.TheVariants.{WidthAssumed, NoEndMark, SizeDiffers, OddDate, FlagBits}
 use Rattle.ans_model.specs.declared.note.Note.TheVariants.{FlagPair}
-use Rattle.ans_picture_laws.specs.RedrawnFileLaws.{stays}
+use Rattle.ans_picture_laws.specs.RedrawnFileLaws.{note_stays}
 
 -- ---- one by one
-width_stays : (test : Bool) → filter stays (note_if test WidthAssumed) ≡ note_if test WidthAssumed
+width_stays : (test : Bool) → filter note_stays (note_if test WidthAssumed) ≡ note_if test WidthAssumed
 width_stays true = refl
 width_stays false = refl
 
-mark_goes : (test : Bool) → filter stays (note_if test NoEndMark) ≡ []
+mark_goes : (test : Bool) → filter note_stays (note_if test NoEndMark) ≡ []
 mark_goes true = refl
 mark_goes false = refl
 
-size_goes : (test : Bool) → filter stays (note_if test SizeDiffers) ≡ []
+size_goes : (test : Bool) → filter note_stays (note_if test SizeDiffers) ≡ []
 size_goes true = refl
 size_goes false = refl
 
-date_stays : (test : Bool) → filter stays (note_if test OddDate) ≡ note_if test OddDate
+date_stays : (test : Bool) → filter note_stays (note_if test OddDate) ≡ note_if test OddDate
 date_stays true = refl
 date_stays false = refl
 
-bits_stay : (test : Bool) → filter stays (note_if test FlagBits) ≡ note_if test FlagBits
+bits_stay : (test : Bool) → filter note_stays (note_if test FlagBits) ≡ note_if test FlagBits
 bits_stay true = refl
 bits_stay false = refl
 
-pair_stays : (test : Bool) → filter stays (note_if test FlagPair) ≡ note_if test FlagPair
+pair_stays : (test : Bool) → filter note_stays (note_if test FlagPair) ≡ note_if test FlagPair
 pair_stays true = refl
 pair_stays false = refl
 
@@ -50,7 +50,7 @@ notes_by width marked same_size date bits =
     ++ note_if (bits / 8 % 4 == 3 || bits / 2 % 4 == 3) FlagPair
 
 by_stay : (width : ℕ) (marked same_size : Bool) (date : List ℕ) (bits : ℕ)
-    → filter stays (notes_by width marked same_size date bits) ≡ notes_by width true true date bits
+    → filter note_stays (notes_by width marked same_size date bits) ≡ notes_by width true true date bits
 by_stay width marked same_size date bits =
     simp (filter-append, width_stays, mark_goes, size_goes, date_stays, bits_stay, pair_stays) refl
 
@@ -63,7 +63,7 @@ pub record AreResized (apart new : FileParts) : Type 0 where
   pub counted : file_size new.record_bytes ≡ length (content new.body)
 
 pub notes_stay : (apart new : FileParts) → AreResized apart new
-    → notes new.body new.record_bytes ≡ filter stays (notes apart.body apart.record_bytes)
+    → notes new.body new.record_bytes ≡ filter note_stays (notes apart.body apart.record_bytes)
 notes_stay apart new h =
     let r : List ℕ = apart.record_bytes in
     let s : List ℕ = new.record_bytes in

@@ -6,21 +6,21 @@ use Rattle.std.proofs.lemmas.Bool.{eqb-true, eqb-false}
 use Rattle.ans_model.specs.declared.cell.Cell.{Cell}
 use Rattle.ans_model.specs.Screen.State.{cell}
 use Rattle.ans_show.specs.Runs.{Run, run, joined, runs}
-use Rattle.ans_picture_laws.specs.LongestRuns.{cells_of, BeginsOtherwise, AreLongest}
+use Rattle.ans_picture_laws.specs.LongestRuns.{run_cells, BeginsOtherwise, AreLongest}
 
-joined_cells : (c : Cell) (rs : List Run) → flat_map cells_of (joined c rs) ≡ c ∷ flat_map cells_of rs
+joined_cells : (c : Cell) (rs : List Run) → flat_map run_cells (joined c rs) ≡ c ∷ flat_map run_cells rs
 joined_cells c [] = refl
 joined_cells c (r ∷ more) = by_test (c.attribute == r.attribute) refl
   where
     by_test : (t : Bool) → (c.attribute == r.attribute) ≡ t
-        → flat_map cells_of (if t then run c.attribute (c.byte ∷ r.bytes) ∷ more
-        else run c.attribute (c.byte ∷ []) ∷ r ∷ more) ≡ c ∷ flat_map cells_of (r ∷ more)
+        → flat_map run_cells (if t then run c.attribute (c.byte ∷ r.bytes) ∷ more
+        else run c.attribute (c.byte ∷ []) ∷ r ∷ more) ≡ c ∷ flat_map run_cells (r ∷ more)
     by_test true e =
-        ap (λ (a : ℕ). c ∷ (map (λ b. cell b a) r.bytes ++ flat_map cells_of more))
+        ap (λ (a : ℕ). c ∷ (map (λ b. cell b a) r.bytes ++ flat_map run_cells more))
         (eqb-true c.attribute r.attribute e)
     by_test false e = refl
 
-pub runs_are_the_row : (row : List Cell) → flat_map cells_of (runs row) ≡ row
+pub runs_are_the_row : (row : List Cell) → flat_map run_cells (runs row) ≡ row
 runs_are_the_row [] = refl
 runs_are_the_row (c ∷ row) =
     joined_cells c (runs row) ∙ ap (λ (cs : List Cell). c ∷ cs) (runs_are_the_row row)

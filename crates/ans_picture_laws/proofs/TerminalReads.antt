@@ -13,7 +13,7 @@ use Rattle.ans_model.specs.Verdict.Good.{Picture}
 use Rattle.ans_model.specs.Text.Characters.{glyph_text}
 use Rattle.ans_show.specs.Looks.{Look, look_of}
 use Rattle.ans_show.specs.Runs.{Run}
-use Rattle.ans_picture_laws.specs.Seen.{Seen, SeenCell, SeenEnd, plain, seen_picture}
+use Rattle.ans_picture_laws.specs.Seen.{Seen, SeenCell, SeenEnd, white_on_black, seen_picture}
 use Rattle.ans_show.specs.TerminalText.{parameter, foreground_text, background_text, colours_text, run_text}
 use Rattle.ans_show.specs.TerminalText.{terminal_line_end}
 use Rattle.ans_show.specs.TerminalText.{terminal_text}
@@ -119,7 +119,7 @@ run_reads vga non_blink r h = record {
 }
 
 end_reads : ReadsOn read_terminal outside terminal_line_end (SeenEnd ∷ [])
-end_reads = record { after = λ l. plain; on = λ l. reads_ascii terminal_line_end refl (λ rest. refl) }
+end_reads = record { after = λ l. white_on_black; on = λ l. reads_ascii terminal_line_end refl (λ rest. refl) }
 
 -- each cell of the picture is seen in its place, as its attribute says
 pub terminal_text_read : (vga non_blink : Bool) (before : Look) (picture : Picture) → All IsByteCell picture.cells

@@ -24,7 +24,7 @@ use Rattle.ans_players.specs.Grips.{Grip, Firm, Wrapped, BehindReturn, Stand}
 use Rattle.ans_players.specs.Mends.{sequence}
 use Rattle.ans_players.specs.Names.{Names, unnamed, names_behind}
 use Rattle.ans_players.proofs.Spellings.{of_byte, one_up, home}
-use Rattle.ans_redraw.specs.Colours.{colours, colours_to, numbers_to}
+use Rattle.ans_redraw.specs.Colours.{colour_token, colours_to, numbers_to}
 use Rattle.ans_redraw.specs.Form.{skip, over_few, over, line_end, set_back, is_coloured, black, blackened, down_and_up}
 use Rattle.ans_redraw.specs.Form.{down, downward, row_place}
 use Rattle.ans_redraw.proofs.ColourParts.{numbers_lead, some_number}
@@ -66,9 +66,9 @@ module _ (z : Size) (cells : List Cell) (agreed : Kind → Bool) where
   -- numbers that all players take alike and that keep both colours named, wherever they stand
   common_lead : (g : Grip) (k a : ℕ) (p : Position) (ns : List ℕ) → AreCommon ns → (ns ≡ [] → ⊥)
       → fold names_behind named ns ≡ named
-      → Leads z agreed (stand z cells g k p a) (colours ns ∷ []) (stand z cells g k p (attribute_after_all a ns))
+      → Leads z agreed (stand z cells g k p a) (colour_token ns ∷ []) (stand z cells g k p (attribute_after_all a ns))
   common_lead g k a p ns common some kept =
-      one_leads z agreed (stand z cells g k p a) (colours ns) (stand z cells g k p (attribute_after_all a ns))
+      one_leads z agreed (stand z cells g k p a) (colour_token ns) (stand z cells g k p (attribute_after_all a ns))
       (record {
         spelled = common_spelled ns common some;
         unmarked = common_unmarked ns common;
@@ -83,11 +83,11 @@ module _ (z : Size) (cells : List Cell) (agreed : Kind → Bool) where
   colours_to_lead g k from to p h i = by_test (from == to) refl
     where
       by_test : (t : Bool) → (from == to) ≡ t
-          → Leads z agreed (stand z cells g k p from) (if t then [] else colours (numbers_to from to) ∷ [])
+          → Leads z agreed (stand z cells g k p from) (if t then [] else colour_token (numbers_to from to) ∷ [])
           (stand z cells g k p to)
       by_test true e = stays z agreed _ _ (ap (λ (a : ℕ). stand z cells g k p a) (eqb-true from to e))
       by_test false e =
-          subst (λ (a : ℕ). Leads z agreed (stand z cells g k p from) (colours (numbers_to from to) ∷ [])
+          subst (λ (a : ℕ). Leads z agreed (stand z cells g k p from) (colour_token (numbers_to from to) ∷ [])
           (stand z cells g k p a)) (numbers_lead from to h i)
           (common_lead g k from p (numbers_to from to) (numbers_are_common from to)
           (some_number from to h i (eqb-false from to e)) (numbers_keep from to))
@@ -110,7 +110,7 @@ module _ (z : Size) (cells : List Cell) (agreed : Kind → Bool) where
       → Leads z agreed (stand z cells g k p a) set_back (ended g k p)
   set_back_leads g k a p =
       let common : AreCommon (0 ∷ []) = record { common = refl; few = omega arith } in
-      one_leads z agreed (stand z cells g k p a) (colours (0 ∷ [])) (ended g k p)
+      one_leads z agreed (stand z cells g k p a) (colour_token (0 ∷ [])) (ended g k p)
       (record {
         spelled = common_spelled (0 ∷ []) common (λ e. cc);
         unmarked = common_unmarked (0 ∷ []) common;

@@ -5,8 +5,8 @@ use Rattle.ans_model.specs.Screen.State.{cell}
 use Rattle.ans_show.specs.Runs.{Run}
 
 -- the cells of a run
-abbrev pub cells_of : Run → List Cell
-cells_of r = map (λ b. cell b r.attribute) r.bytes
+abbrev pub run_cells : Run → List Cell
+run_cells r = map (λ b. cell b r.attribute) r.bytes
 
 -- the first run, if there is one, has another attribute
 abbrev pub BeginsOtherwise : ℕ → List Run → Type 0

@@ -5,11 +5,11 @@ use Rattle.std.specs.Str.{bytes_eq}
 use Rattle.ans_model.specs.Text.Hexadecimal.{hex_digit}
 use Rattle.ans_show.specs.Looks.{Look}
 use Rattle.ans_show.specs.TerminalText.{Triple, vga_colour}
-use Rattle.ans_picture_laws.specs.Seen.{Seen, SeenCell, plain, seen_of}
+use Rattle.ans_picture_laws.specs.Seen.{Seen, SeenCell, white_on_black, seen_of}
 
 -- the number that decimal digits spell
-abbrev pub number : List ℕ → ℕ
-number digits = fold (λ n d. 10 * n + (d - 0x30)) 0 digits
+abbrev pub number_read : List ℕ → ℕ
+number_read digits = fold (λ n d. 10 * n + (d - 0x30)) 0 digits
 
 -- the words between blanks and quotes; of the first one, `word` is read
 abbrev pub words : List ℕ → List ℕ → List (List ℕ)
@@ -22,15 +22,16 @@ words word (c ∷ text) =
 abbrev pub after_class : Look → List ℕ → Look
 after_class l [] = l
 after_class l (c ∷ digits) =
-    if c == 0x66 then record l { foreground = number digits }
-    else if c == 0x62 then record l { background = number digits }
+    if c == 0x66 then record l { foreground = number_read digits }
+    else if c == 0x62 then record l { background = number_read digits }
     else if c == 0x6B then record l { blinks = true }
     else l
 
 -- how cells look behind a tag of these words: in a span by its classes, and else plain
 abbrev pub look_in : List (List ℕ) → Look
-look_in [] = plain
-look_in (name ∷ classes) = if bytes_eq name (codes "span") then fold after_class plain classes else plain
+look_in [] = white_on_black
+look_in (name ∷ classes) =
+    if bytes_eq name (codes "span") then fold after_class white_on_black classes else white_on_black
 
 -- the character of a name
 abbrev pub named_character : List ℕ → ℕ

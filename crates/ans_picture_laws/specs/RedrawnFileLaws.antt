@@ -25,10 +25,10 @@ pub record CanBeRedrawn (file : List ℕ) (apart : FileParts) (picture : Picture
   pub room : length (redrawn_file file picture) ≤ longest_file
 
 -- whether a note stays: all do but those on the end mark and on the FileSize
-abbrev pub stays : Note → Bool
-stays NoEndMark = false
-stays SizeDiffers = false
-stays _ = true
+abbrev pub note_stays : Note → Bool
+note_stays NoEndMark = false
+note_stays SizeDiffers = false
+note_stays _ = true
 
 -- The redrawn file is accepted so. It states the same size, has the same comments, and its record is the same but for
 -- the FileSize. Of the notes it has those that stay. Its content is the form of the picture, and from every start of
@@ -38,7 +38,7 @@ pub record IsRedrawnTo (file : List ℕ) (apart : FileParts) (picture : Picture)
   pub size : stated_size new.record_bytes ≡ stated_size apart.record_bytes
   pub comments : new.comment_bytes ≡ apart.comment_bytes
   pub sauce : new.record_bytes ≡ with_file_size (length (form_bytes picture)) apart.record_bytes
-  pub notes : notes new.body new.record_bytes ≡ filter stays (notes apart.body apart.record_bytes)
+  pub notes : notes new.body new.record_bytes ≡ filter note_stays (notes apart.body apart.record_bytes)
   pub form : content new.body ≡ form_bytes picture
   pub good : (class : Start) → GoodWith (stated_size new.record_bytes) class (content new.body) picture
 

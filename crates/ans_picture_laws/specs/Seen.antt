@@ -7,8 +7,8 @@ use Rattle.ans_model.specs.Text.ReportText.{rows_of}
 use Rattle.ans_show.specs.Looks.{Look, look_of}
 
 -- white on black
-abbrev pub plain : Look
-plain = record { foreground = 7; background = 0; blinks = false }
+abbrev pub white_on_black : Look
+white_on_black = record { foreground = 7; background = 0; blinks = false }
 
 -- the attribute that looks so
 abbrev pub attribute_of : Look → ℕ

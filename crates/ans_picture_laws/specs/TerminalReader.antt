@@ -4,7 +4,7 @@ use Rattle.std.specs.Prelude.{◌||◌, drop, Option, Some, None, if◌then◌el
 use Rattle.ans_model.specs.Bytes.{escape, semicolon}
 use Rattle.ans_show.specs.Looks.{Look}
 use Rattle.ans_show.specs.TerminalText.{Triple, terminal_order, vga_colours}
-use Rattle.ans_picture_laws.specs.Seen.{Seen, plain, seen_of}
+use Rattle.ans_picture_laws.specs.Seen.{Seen, white_on_black, seen_of}
 
 -- the numbers between semicolons; of the first one, `n` is read
 abbrev pub numbers : ℕ → List ℕ → List ℕ
@@ -18,15 +18,15 @@ abbrev pub same_triple : Triple → Triple → Bool
 same_triple (red, green, blue) (r, g, b) = red == r && (green == g && blue == b)
 
 -- the place of a mixed colour in a list
-abbrev pub place_of : Triple → List Triple → ℕ
-place_of t [] = 0
-place_of t (u ∷ colours) = if same_triple t u then 0 else 1 + place_of t colours
+abbrev pub index_of_colour : Triple → List Triple → ℕ
+index_of_colour t [] = 0
+index_of_colour t (u ∷ colours) = if same_triple t u then 0 else 1 + index_of_colour t colours
 
 -- What one parameter does: 0 is plain, 5 blinks, 30 to 37 and 90 to 97 set the foreground, 40 to 47 and 100 to 107 the
 -- background. The order of a terminal's colours turned round is itself.
 abbrev pub after_parameter : ℕ → Look → Look
 after_parameter p l =
-    if p == 0 then plain
+    if p == 0 then white_on_black
     else if p == 5 then record l { blinks = true }
     else if nat_le 100 p then record l { background = 8 + terminal_order (p - 100) }
     else if nat_le 90 p then record l { foreground = 8 + terminal_order (p - 90) }
@@ -36,8 +36,8 @@ after_parameter p l =
 -- what a mixed colour does behind 38 or 48
 abbrev pub after_mixed : ℕ → Triple → Look → Look
 after_mixed p t l =
-    if p == 38 then record l { foreground = place_of t vga_colours }
-    else record l { background = place_of t vga_colours }
+    if p == 38 then record l { foreground = index_of_colour t vga_colours }
+    else record l { background = index_of_colour t vga_colours }
 
 -- one parameter after another; 38 and 48 go with a 2 and three numbers
 abbrev pub after_parameters : List ℕ → Look → Look

@@ -12,13 +12,13 @@ ghost use Rattle.ans_picture_laws.specs.Seen.{attribute_of, seen_picture};
 ghost use Rattle.ans_show.specs.PageText.{page_text, foreground_style, background_style};
 ghost use Rattle.ans_picture_laws.specs.PageReader.{InText, read_page, class_style, sixteen};
 ghost use Rattle.ans_show.specs.TerminalText.{terminal_text};
-ghost use Rattle.ans_picture_laws.specs.LongestRuns.{cells_of, AreLongest};
+ghost use Rattle.ans_picture_laws.specs.LongestRuns.{run_cells, AreLongest};
 ghost use Rattle.ans_picture_laws.specs.TerminalReader.{outside, read_terminal};
 
 /// The runs of a row are its cells, each run has a cell, and no two that follow one another have one
 /// attribute.
 pub fn runs_are_longest()
-    ensures cells { (row : List Cell) → flat_map cells_of (runs row) ≡ row }
+    ensures cells { (row : List Cell) → flat_map run_cells (runs row) ≡ row }
     ensures longest { (row : List Cell) → AreLongest (runs row) }
 {}
 

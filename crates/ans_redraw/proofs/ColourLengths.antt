@@ -8,8 +8,9 @@ use Rattle.std.specs.List.{concat, join_with_byte}
 use Rattle.std.proofs.lemmas.Bool.{agree_below_at, eqb-true, and_cases}
 use Rattle.ans_model.specs.Bytes.{semicolon}
 use Rattle.ans_players.specs.Situations.{Spelled}
-use Rattle.ans_redraw.specs.Colours.{foreground, is_bright, background, blinks, colour_number, number_if, changes}
-use Rattle.ans_redraw.specs.Colours.{stays, anew, numbers_to, colours_text, colours, colours_to}
+use Rattle.ans_redraw.specs.Colours.{foreground_of, is_bright, background_of, blinks, ansi_number, parameter_if}
+use Rattle.ans_redraw.specs.Colours.{changes}
+use Rattle.ans_redraw.specs.Colours.{only_adds, anew, numbers_to, colour_sequence, colour_token, colours_to}
 use Rattle.ans_redraw.proofs.ColourParts.{foreground_lt, background_lt, bright_number, blink_number}
 use Rattle.ans_redraw.proofs.ColourParts.{front_number, back_number}
 
@@ -35,7 +36,7 @@ joined_length n (m ∷ ns) =
     let a = length-append (decimal n) (semicolon ∷ join_with_byte semicolon (map decimal (m ∷ ns))) in
     omega (arith, more, a)
 
-text_length : (ns : List ℕ) → weight ns ≤ 10 → length (colours_text ns) ≤ 12
+text_length : (ns : List ℕ) → weight ns ≤ 10 → length (colour_sequence ns) ≤ 12
 text_length [] h = omega arith
 text_length (n ∷ ns) h =
     let joined = joined_length n ns in
@@ -46,17 +47,17 @@ one_digit : (length (decimal 0) ≡ 1) × (length (decimal 1) ≡ 1) × (length 
 unfolding digits
 one_digit = (refl, refl, refl)
 
-foreground_digits : (f : ℕ) → f < 8 → length (decimal (30 + colour_number f)) ≡ 2
+foreground_digits : (f : ℕ) → f < 8 → length (decimal (30 + ansi_number f)) ≡ 2
 unfolding digits
 foreground_digits f lt =
-    eqb-true _ 2 (agree_below_at (λ f. length (decimal (30 + colour_number f)) == 2) (λ n. true) 8 f refl lt)
+    eqb-true _ 2 (agree_below_at (λ f. length (decimal (30 + ansi_number f)) == 2) (λ n. true) 8 f refl lt)
 
-background_digits : (g : ℕ) → g < 8 → length (decimal (40 + colour_number g)) ≡ 2
+background_digits : (g : ℕ) → g < 8 → length (decimal (40 + ansi_number g)) ≡ 2
 unfolding digits
 background_digits g lt =
-    eqb-true _ 2 (agree_below_at (λ g. length (decimal (40 + colour_number g)) == 2) (λ n. true) 8 g refl lt)
+    eqb-true _ 2 (agree_below_at (λ g. length (decimal (40 + ansi_number g)) == 2) (λ n. true) 8 g refl lt)
 
-weight_if : (test : Bool) (n : ℕ) → weight (number_if test n) ≤ length (decimal n) + 1
+weight_if : (test : Bool) (n : ℕ) → weight (parameter_if test n) ≤ length (decimal n) + 1
 weight_if true n = omega arith
 weight_if false n = omega arith
 
@@ -79,12 +80,12 @@ module _ (from to : ℕ) where
       let a = weight_both bright (blink ++ (front ++ back)) in
       let b = weight_both blink (front ++ back) in
       let c = weight_both front back in
-      let three : weight front ≤ length (decimal (30 + colour_number (foreground to))) + 1 =
-      weight_if (not (foreground from == foreground to)) (30 + colour_number (foreground to)) in
-      let four : weight back ≤ length (decimal (40 + colour_number (background to))) + 1 =
-      weight_if (not (background from == background to)) (40 + colour_number (background to)) in
-      let f = foreground_digits (foreground to) (foreground_lt to) in
-      let g = background_digits (background to) (background_lt to) in
+      let three : weight front ≤ length (decimal (30 + ansi_number (foreground_of to))) + 1 =
+      weight_if (not (foreground_of from == foreground_of to)) (30 + ansi_number (foreground_of to)) in
+      let four : weight back ≤ length (decimal (40 + ansi_number (background_of to))) + 1 =
+      weight_if (not (background_of from == background_of to)) (40 + ansi_number (background_of to)) in
+      let f = foreground_digits (foreground_of to) (foreground_lt to) in
+      let g = background_digits (background_of to) (background_lt to) in
       omega (arith, a, b, c)
 
   changes_light : weight (changes from to) ≤ 10
@@ -99,35 +100,35 @@ goes_out true b h = h
 goes_out false b h = absurd (let no : ⊥ = cc in no)
 
 module _ (to : ℕ) where
-  anew_weight : weight (anew to) ≡ 8 + (weight (number_if (is_bright to) 1) + weight (number_if (blinks to) 5))
+  anew_weight : weight (anew to) ≡ 8 + (weight (parameter_if (is_bright to) 1) + weight (parameter_if (blinks to) 5))
   anew_weight =
-      let rest : List ℕ = (30 + colour_number (foreground to)) ∷ (40 + colour_number (background to)) ∷ [] in
-      let a = weight_both (number_if (is_bright to) 1) (number_if (blinks to) 5 ++ rest) in
-      let b = weight_both (number_if (blinks to) 5) rest in
-      let f = foreground_digits (foreground to) (foreground_lt to) in
-      let g = background_digits (background to) (background_lt to) in
+      let rest : List ℕ = (30 + ansi_number (foreground_of to)) ∷ (40 + ansi_number (background_of to)) ∷ [] in
+      let a = weight_both (parameter_if (is_bright to) 1) (parameter_if (blinks to) 5 ++ rest) in
+      let b = weight_both (parameter_if (blinks to) 5) rest in
+      let f = foreground_digits (foreground_of to) (foreground_lt to) in
+      let g = background_digits (background_of to) (background_lt to) in
       omega (arith, a, b, f, g, one_digit)
 
-gone_light : (from to : ℕ) → stays from to ≡ false → weight (anew to) ≤ 10
+gone_light : (from to : ℕ) → only_adds from to ≡ false → weight (anew to) ≤ 10
 gone_light from to h =
     elim (and_cases (not (is_bright from) || is_bright to) (not (blinks from) || blinks to) h) [
       | inl no_bright ↦
           let none : is_bright to ≡ false = goes_out (is_bright from) (is_bright to) no_bright in
-          let one : weight (number_if (is_bright to) 1) ≡ 0 = rw none refl in
-          let two : weight (number_if (blinks to) 5) ≤ length (decimal 5) + 1 = weight_if (blinks to) 5 in
+          let one : weight (parameter_if (is_bright to) 1) ≡ 0 = rw none refl in
+          let two : weight (parameter_if (blinks to) 5) ≤ length (decimal 5) + 1 = weight_if (blinks to) 5 in
           omega (arith, anew_weight to, one, two, one_digit)
       | inr no_blink ↦
           let none : blinks to ≡ false = goes_out (blinks from) (blinks to) no_blink in
-          let one : weight (number_if (blinks to) 5) ≡ 0 = rw none refl in
-          let two : weight (number_if (is_bright to) 1) ≤ length (decimal 1) + 1 = weight_if (is_bright to) 1 in
+          let one : weight (parameter_if (blinks to) 5) ≡ 0 = rw none refl in
+          let two : weight (parameter_if (is_bright to) 1) ≤ length (decimal 1) + 1 = weight_if (is_bright to) 1 in
           omega (arith, anew_weight to, one, two, one_digit)
     ]
 
-pub numbers_length : (from to : ℕ) → length (colours_text (numbers_to from to)) ≤ 12
-numbers_length from to = by_test (stays from to) refl
+pub numbers_length : (from to : ℕ) → length (colour_sequence (numbers_to from to)) ≤ 12
+numbers_length from to = by_test (only_adds from to) refl
   where
-    by_test : (a : Bool) → stays from to ≡ a
-        → length (colours_text (if a then changes from to else anew to)) ≤ 12
+    by_test : (a : Bool) → only_adds from to ≡ a
+        → length (colour_sequence (if a then changes from to else anew to)) ≤ 12
     by_test true e = text_length (changes from to) (changes_light from to)
     by_test false e = text_length (anew to) (gone_light from to e)
 
@@ -137,6 +138,6 @@ one_text x = length-append x.text [] ∙ omega arith
 pub colours_to_length : (from to : ℕ) → bytes_of (colours_to from to) ≤ 12
 colours_to_length from to = by_test (from == to)
   where
-    by_test : (t : Bool) → bytes_of (if t then [] else colours (numbers_to from to) ∷ []) ≤ 12
+    by_test : (t : Bool) → bytes_of (if t then [] else colour_token (numbers_to from to) ∷ []) ≤ 12
     by_test true = omega arith
-    by_test false = omega (arith, one_text (colours (numbers_to from to)), numbers_length from to)
+    by_test false = omega (arith, one_text (colour_token (numbers_to from to)), numbers_length from to)

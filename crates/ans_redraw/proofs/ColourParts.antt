@@ -8,8 +8,9 @@ use Rattle.std.proofs.lemmas.Bool.{agree_below, agree_below_at, eqb-true, and_pa
 use Rattle.std.proofs.lemmas.List.Sums.{fold-append}
 use Rattle.ans_model.specs.Bytes.{IsByte}
 use Rattle.ans_model.specs.Screen.Attribute.{attribute_after, attribute_after_all}
-use Rattle.ans_redraw.specs.Colours.{foreground, is_bright, background, blinks, colour_number, number_if, changes}
-use Rattle.ans_redraw.specs.Colours.{stays, anew, numbers_to}
+use Rattle.ans_redraw.specs.Colours.{foreground_of, is_bright, background_of, blinks, ansi_number, parameter_if}
+use Rattle.ans_redraw.specs.Colours.{changes}
+use Rattle.ans_redraw.specs.Colours.{only_adds, anew, numbers_to}
 
 -- the attribute of a foreground, bright, a background and blink
 abbrev pub made : ℕ → Bool → ℕ → Bool → ℕ
@@ -19,10 +20,10 @@ abbrev yes : ℕ → Bool
 yes n = true
 
 -- a byte is made of its parts
-pub made_of_parts : (a : ℕ) → IsByte a → made (foreground a) (is_bright a) (background a) (blinks a) ≡ a
+pub made_of_parts : (a : ℕ) → IsByte a → made (foreground_of a) (is_bright a) (background_of a) (blinks a) ≡ a
 made_of_parts a h =
     eqb-true _ a
-    (agree_below_at (λ a. made (foreground a) (is_bright a) (background a) (blinks a) == a) yes 256 a refl h)
+    (agree_below_at (λ a. made (foreground_of a) (is_bright a) (background_of a) (blinks a) == a) yes 256 a refl h)
 
 -- a test of two colours holds
 each_pair : (p : ℕ → ℕ → Bool) → agree_below (λ f. agree_below (p f) yes 8) yes 8 ≡ true → (f g : ℕ) → f < 8 → g < 8
@@ -73,10 +74,10 @@ five_is f g bright blink lt gt =
 -- a colour's number behind 30 makes it the foreground
 abbrev foreground_test : ℕ → ℕ → Bool → ℕ → Bool → Bool
 foreground_test to f bright g blink =
-    attribute_after (made f bright g blink) (30 + colour_number to) == made to bright g blink
+    attribute_after (made f bright g blink) (30 + ansi_number to) == made to bright g blink
 
 foreground_is : (to f g : ℕ) (bright blink : Bool) → to < 8 → f < 8 → g < 8
-    → attribute_after (made f bright g blink) (30 + colour_number to) ≡ made to bright g blink
+    → attribute_after (made f bright g blink) (30 + ansi_number to) ≡ made to bright g blink
 foreground_is to f g bright blink ot lt gt =
     eqb-true _ _ (each_made (foreground_test to)
     (agree_below_at (λ to. of_each_made (foreground_test to)) yes 8 to refl ot) f g bright blink lt gt)
@@ -84,76 +85,76 @@ foreground_is to f g bright blink ot lt gt =
 -- behind 40, the background
 abbrev background_test : ℕ → ℕ → Bool → ℕ → Bool → Bool
 background_test to f bright g blink =
-    attribute_after (made f bright g blink) (40 + colour_number to) == made f bright to blink
+    attribute_after (made f bright g blink) (40 + ansi_number to) == made f bright to blink
 
 background_is : (to f g : ℕ) (bright blink : Bool) → to < 8 → f < 8 → g < 8
-    → attribute_after (made f bright g blink) (40 + colour_number to) ≡ made f bright to blink
+    → attribute_after (made f bright g blink) (40 + ansi_number to) ≡ made f bright to blink
 background_is to f g bright blink ot lt gt =
     eqb-true _ _ (each_made (background_test to)
     (agree_below_at (λ to. of_each_made (background_test to)) yes 8 to refl ot) f g bright blink lt gt)
 
 -- ---- all numbers, one after the other
 bright_step : (f g : ℕ) (h bright blink : Bool) → f < 8 → g < 8
-    → attribute_after_all (made f h g blink) (number_if (not h && bright) 1) ≡ made f (h || bright) g blink
+    → attribute_after_all (made f h g blink) (parameter_if (not h && bright) 1) ≡ made f (h || bright) g blink
 bright_step f g true bright blink lt gt = refl
 bright_step f g false true blink lt gt = one_is f g false blink lt gt
 bright_step f g false false blink lt gt = refl
 
 blink_step : (f g : ℕ) (bright h blink : Bool) → f < 8 → g < 8
-    → attribute_after_all (made f bright g h) (number_if (not h && blink) 5) ≡ made f bright g (h || blink)
+    → attribute_after_all (made f bright g h) (parameter_if (not h && blink) 5) ≡ made f bright g (h || blink)
 blink_step f g bright true blink lt gt = refl
 blink_step f g bright false true lt gt = five_is f g bright false lt gt
 blink_step f g bright false false lt gt = refl
 
 foreground_step : (f g to : ℕ) (bright blink : Bool) → f < 8 → g < 8 → to < 8
-    → attribute_after_all (made f bright g blink) (number_if (not (f == to)) (30 + colour_number to))
+    → attribute_after_all (made f bright g blink) (parameter_if (not (f == to)) (30 + ansi_number to))
     ≡ made to bright g blink
 foreground_step f g to bright blink lt gt ot = by_test (f == to) refl
   where
     by_test : (b : Bool) → (f == to) ≡ b
-        → attribute_after_all (made f bright g blink) (number_if (not b) (30 + colour_number to))
+        → attribute_after_all (made f bright g blink) (parameter_if (not b) (30 + ansi_number to))
         ≡ made to bright g blink
     by_test true e = ap (λ (n : ℕ). made n bright g blink) (eqb-true f to e)
     by_test false e = foreground_is to f g bright blink ot lt gt
 
 background_step : (f g to : ℕ) (bright blink : Bool) → f < 8 → g < 8 → to < 8
-    → attribute_after_all (made f bright g blink) (number_if (not (g == to)) (40 + colour_number to))
+    → attribute_after_all (made f bright g blink) (parameter_if (not (g == to)) (40 + ansi_number to))
     ≡ made f bright to blink
 background_step f g to bright blink lt gt ot = by_test (g == to) refl
   where
     by_test : (b : Bool) → (g == to) ≡ b
-        → attribute_after_all (made f bright g blink) (number_if (not b) (40 + colour_number to))
+        → attribute_after_all (made f bright g blink) (parameter_if (not b) (40 + ansi_number to))
         ≡ made f bright to blink
     by_test true e = ap (λ (n : ℕ). made f bright n blink) (eqb-true g to e)
     by_test false e = background_is to f g bright blink ot lt gt
 
-pub foreground_lt : (a : ℕ) → foreground a < 8
+pub foreground_lt : (a : ℕ) → foreground_of a < 8
 foreground_lt a = mod-lt a (lit< tt)
 
-pub background_lt : (a : ℕ) → background a < 8
+pub background_lt : (a : ℕ) → background_of a < 8
 background_lt a = mod-lt (a / 16) (lit< tt)
 
 -- the four numbers of what changes, where each is there
 module _ (from to : ℕ) where
   abbrev pub bright_number : List ℕ
-  bright_number = number_if (not (is_bright from) && is_bright to) 1
+  bright_number = parameter_if (not (is_bright from) && is_bright to) 1
 
   abbrev pub blink_number : List ℕ
-  blink_number = number_if (not (blinks from) && blinks to) 5
+  blink_number = parameter_if (not (blinks from) && blinks to) 5
 
   abbrev pub front_number : List ℕ
-  front_number = number_if (not (foreground from == foreground to)) (30 + colour_number (foreground to))
+  front_number = parameter_if (not (foreground_of from == foreground_of to)) (30 + ansi_number (foreground_of to))
 
   abbrev pub back_number : List ℕ
-  back_number = number_if (not (background from == background to)) (40 + colour_number (background to))
+  back_number = parameter_if (not (background_of from == background_of to)) (40 + ansi_number (background_of to))
 
 -- what the numbers of what changes do
 changes_make : (from to : ℕ) → IsByte from
     → attribute_after_all from (changes from to)
-    ≡ made (foreground to) (is_bright from || is_bright to) (background to) (blinks from || blinks to)
+    ≡ made (foreground_of to) (is_bright from || is_bright to) (background_of to) (blinks from || blinks to)
 changes_make from to h =
-    let f = foreground from in
-    let g = background from in
+    let f = foreground_of from in
+    let g = background_of from in
     let bright : List ℕ = bright_number from to in
     let blink : List ℕ = blink_number from to in
     let front : List ℕ = front_number from to in
@@ -168,9 +169,10 @@ changes_make from to h =
     (background_lt from))
     ∙ fold-append attribute_after (made f (is_bright from || is_bright to) g (blinks from || blinks to)) front back
     ∙ ap (λ (a : ℕ). attribute_after_all a back)
-    (foreground_step f g (foreground to) (is_bright from || is_bright to) (blinks from || blinks to)
+    (foreground_step f g (foreground_of to) (is_bright from || is_bright to) (blinks from || blinks to)
     (foreground_lt from) (background_lt from) (foreground_lt to))
-    ∙ background_step (foreground to) g (background to) (is_bright from || is_bright to) (blinks from || blinks to)
+    ∙ background_step (foreground_of to) g (background_of to) (is_bright from || is_bright to)
+    (blinks from || blinks to)
     (foreground_lt to) (background_lt from) (background_lt to)
 
 -- where it does not go, it is what it becomes
@@ -178,25 +180,25 @@ or_stays : (a b : Bool) → (not a || b) ≡ true → (a || b) ≡ b
 or_stays true b h = sym h
 or_stays false b h = refl
 
-changes_lead : (from to : ℕ) → IsByte from → IsByte to → stays from to ≡ true
+changes_lead : (from to : ℕ) → IsByte from → IsByte to → only_adds from to ≡ true
     → attribute_after_all from (changes from to) ≡ to
 changes_lead from to h g s =
     let both : ((not (is_bright from) || is_bright to) ≡ true) × ((not (blinks from) || blinks to) ≡ true) =
     and_parts (not (is_bright from) || is_bright to) (not (blinks from) || blinks to) s in
     changes_make from to h
-    ∙ ap₂ (λ (bright blink : Bool). made (foreground to) bright (background to) blink)
+    ∙ ap₂ (λ (bright blink : Bool). made (foreground_of to) bright (background_of to) blink)
     (or_stays (is_bright from) (is_bright to) both.0) (or_stays (blinks from) (blinks to) both.1)
     ∙ made_of_parts to g
 
 -- after a 0 the numbers of all parts
 anew_leads : (from to : ℕ) → IsByte to → attribute_after_all from (anew to) ≡ to
 anew_leads from to h =
-    let f = foreground to in
-    let g = background to in
-    let bright : List ℕ = number_if (is_bright to) 1 in
-    let blink : List ℕ = number_if (blinks to) 5 in
-    let front : ℕ = 30 + colour_number f in
-    let back : ℕ = 40 + colour_number g in
+    let f = foreground_of to in
+    let g = background_of to in
+    let bright : List ℕ = parameter_if (is_bright to) 1 in
+    let blink : List ℕ = parameter_if (blinks to) 5 in
+    let front : ℕ = 30 + ansi_number f in
+    let back : ℕ = 40 + ansi_number g in
     let rest : List ℕ = front ∷ back ∷ [] in
     ap (λ (a : ℕ). attribute_after_all a (bright ++ (blink ++ rest)))
     (ap (λ (v : ℕ). bit_or v 0x07) (and_zero_r from))
@@ -213,9 +215,9 @@ anew_leads from to h =
 
 -- the numbers lead from each attribute to each
 pub numbers_lead : (from to : ℕ) → IsByte from → IsByte to → attribute_after_all from (numbers_to from to) ≡ to
-numbers_lead from to h g = by_test (stays from to) refl
+numbers_lead from to h g = by_test (only_adds from to) refl
   where
-    by_test : (a : Bool) → stays from to ≡ a
+    by_test : (a : Bool) → only_adds from to ≡ a
         → attribute_after_all from (if a then changes from to else anew to) ≡ to
     by_test true e = changes_lead from to h g e
     by_test false e = anew_leads from to g

@@ -13,8 +13,8 @@ use Rattle.std.proofs.lemmas.Grind.{flat_map-append}
 use Rattle.std.proofs.lemmas.List.{length-take-le, take_at, take-take}
 use Rattle.ans_model.specs.Bytes.{IsByte, escape, bracket, semicolon}
 use Rattle.ans_players.specs.Situations.{Spelled}
-use Rattle.ans_redraw.specs.Colours.{foreground, is_bright, background, blinks, colour_number, number_if}
-use Rattle.ans_redraw.specs.Colours.{anew, numbers_to, colours_text, colours, colours_to}
+use Rattle.ans_redraw.specs.Colours.{foreground_of, is_bright, background_of, blinks, ansi_number, parameter_if}
+use Rattle.ans_redraw.specs.Colours.{anew, numbers_to, colour_sequence, colour_token, colours_to}
 use Rattle.ans_redraw.specs.Form.{texts}
 use Rattle.ans_redraw.specs.Numbers.{listed}
 use Rattle.ans_redraw.proofs.ColourParts.{some_number}
@@ -37,12 +37,12 @@ two_digits n ge lt =
 
 -- ---- numbers that are there, or not
 pub digit_if : (there : Bool) (n : ℕ) → n < 10
-    → take (if there then 2 else 0) ((0x30 + n) ∷ semicolon ∷ []) ≡ listed (number_if there n)
+    → take (if there then 2 else 0) ((0x30 + n) ∷ semicolon ∷ []) ≡ listed (parameter_if there n)
 digit_if true n lt = rw (one_digit n lt) refl
 digit_if false n lt = refl
 
 pub number_is_there : (there : Bool) (n : ℕ) → 10 ≤ n → n < 100
-    → take (if there then 3 else 0) ((0x30 + n / 10) ∷ (0x30 + n % 10) ∷ semicolon ∷ []) ≡ listed (number_if there n)
+    → take (if there then 3 else 0) ((0x30 + n / 10) ∷ (0x30 + n % 10) ∷ semicolon ∷ []) ≡ listed (parameter_if there n)
 number_is_there true n ge lt = rw (two_digits n ge lt) refl
 number_is_there false n ge lt = refl
 
@@ -94,7 +94,7 @@ last_off before text x y end le e =
 -- the last semicolon becomes the letter
 letter_behind : (before text : List ℕ) (end : ℕ) (ns : List ℕ) → (ns ≡ [] → ⊥) → end ≤ length text
     → take end text ≡ (before ++ escape ∷ bracket ∷ []) ++ listed ns
-    → (1 ≤ end) × (take (end - 1) text ++ 0x6D ∷ [] ≡ before ++ (colours_text ns ++ []))
+    → (1 ≤ end) × (take (end - 1) text ++ 0x6D ∷ [] ≡ before ++ (colour_sequence ns ++ []))
 letter_behind before text end [] some le e = absurd (some refl)
 letter_behind before text end (n ∷ ns) some le e =
     let start : List ℕ = escape ∷ bracket ∷ [] in
@@ -117,22 +117,22 @@ colours_written before first text start end from to is_from is_to apart le begun
     let there =
     letter_behind before text end (numbers_to from to) (some_number from to is_from is_to apart) le
     (e ∙ ap (λ (x : List ℕ). x ++ listed (numbers_to from to)) begun) in
-    let is : colours_to from to ≡ colours (numbers_to from to) ∷ [] = rw (ne_eqb from to apart) refl in
+    let is : colours_to from to ≡ colour_token (numbers_to from to) ∷ [] = rw (ne_eqb from to apart) refl in
     (there.0, there.1 ∙ ap (λ (xs : List Spelled). before ++ texts xs) (sym is))
 
 -- 0, and the numbers of all parts
 anew_listed : (before : List ℕ) (to : ℕ)
-    → ((((before ++ listed (number_if true 0)) ++ listed (number_if (is_bright to) 1))
-    ++ listed (number_if (blinks to) 5))
-    ++ listed (number_if true (30 + colour_number (foreground to))))
-    ++ listed (number_if true (40 + colour_number (background to)))
+    → ((((before ++ listed (parameter_if true 0)) ++ listed (parameter_if (is_bright to) 1))
+    ++ listed (parameter_if (blinks to) 5))
+    ++ listed (parameter_if true (30 + ansi_number (foreground_of to))))
+    ++ listed (parameter_if true (40 + ansi_number (background_of to)))
     ≡ before ++ listed (anew to)
 anew_listed before to =
-    let zero : List ℕ = number_if true 0 in
-    let bright : List ℕ = number_if (is_bright to) 1 in
-    let blink : List ℕ = number_if (blinks to) 5 in
-    let front : List ℕ = number_if true (30 + colour_number (foreground to)) in
-    let back : List ℕ = number_if true (40 + colour_number (background to)) in
+    let zero : List ℕ = parameter_if true 0 in
+    let bright : List ℕ = parameter_if (is_bright to) 1 in
+    let blink : List ℕ = parameter_if (blinks to) 5 in
+    let front : List ℕ = parameter_if true (30 + ansi_number (foreground_of to)) in
+    let back : List ℕ = parameter_if true (40 + ansi_number (background_of to)) in
     let two : List ℕ = front ++ back in
     append_assoc (((before ++ listed zero) ++ listed bright) ++ listed blink) (listed front) (listed back)
     ∙ append_assoc ((before ++ listed zero) ++ listed bright) (listed blink) (listed front ++ listed back)
@@ -145,17 +145,17 @@ anew_listed before to =
     ∙ ap (λ (v : List ℕ). before ++ v) (sym (listed_both zero (bright ++ (blink ++ two))))
 
 pub anew_text : (before t0 t1 t2 t3 t4 : List ℕ) (to f g : ℕ) (bright blink : Bool) → bright ≡ is_bright to
-    → blink ≡ blinks to → f ≡ colour_number (foreground to) → g ≡ colour_number (background to)
-    → t0 ≡ before ++ listed (number_if true 0) → t1 ≡ t0 ++ listed (number_if bright 1)
-    → t2 ≡ t1 ++ listed (number_if blink 5) → t3 ≡ t2 ++ listed (number_if true (30 + f))
-    → t4 ≡ t3 ++ listed (number_if true (40 + g)) → t4 ≡ before ++ listed (anew to)
+    → blink ≡ blinks to → f ≡ ansi_number (foreground_of to) → g ≡ ansi_number (background_of to)
+    → t0 ≡ before ++ listed (parameter_if true 0) → t1 ≡ t0 ++ listed (parameter_if bright 1)
+    → t2 ≡ t1 ++ listed (parameter_if blink 5) → t3 ≡ t2 ++ listed (parameter_if true (30 + f))
+    → t4 ≡ t3 ++ listed (parameter_if true (40 + g)) → t4 ≡ before ++ listed (anew to)
 anew_text before t0 t1 t2 t3 t4 to f g bright blink b k i j e0 e1 e2 e3 e4 =
-    e4 ∙ ap (λ (n : ℕ). t3 ++ listed (number_if true (40 + n))) j
-    ∙ ap (λ (v : List ℕ). v ++ listed (number_if true (40 + colour_number (background to))))
-    (e3 ∙ ap (λ (n : ℕ). t2 ++ listed (number_if true (30 + n))) i
-    ∙ ap (λ (v : List ℕ). v ++ listed (number_if true (30 + colour_number (foreground to))))
-    (e2 ∙ ap (λ (t : Bool). t1 ++ listed (number_if t 5)) k
-    ∙ ap (λ (v : List ℕ). v ++ listed (number_if (blinks to) 5))
-    (e1 ∙ ap (λ (t : Bool). t0 ++ listed (number_if t 1)) b
-    ∙ ap (λ (v : List ℕ). v ++ listed (number_if (is_bright to) 1)) e0)))
+    e4 ∙ ap (λ (n : ℕ). t3 ++ listed (parameter_if true (40 + n))) j
+    ∙ ap (λ (v : List ℕ). v ++ listed (parameter_if true (40 + ansi_number (background_of to))))
+    (e3 ∙ ap (λ (n : ℕ). t2 ++ listed (parameter_if true (30 + n))) i
+    ∙ ap (λ (v : List ℕ). v ++ listed (parameter_if true (30 + ansi_number (foreground_of to))))
+    (e2 ∙ ap (λ (t : Bool). t1 ++ listed (parameter_if t 5)) k
+    ∙ ap (λ (v : List ℕ). v ++ listed (parameter_if (blinks to) 5))
+    (e1 ∙ ap (λ (t : Bool). t0 ++ listed (parameter_if t 1)) b
+    ∙ ap (λ (v : List ℕ). v ++ listed (parameter_if (is_bright to) 1)) e0)))
     ∙ anew_listed before to

@@ -1,7 +1,7 @@
 //! How one attribute becomes another.
 ghost use Rattle.std.specs.Prelude.{◌≡◌, ◌≢◌, ◌==◌, not, ◌&&◌, ◌+◌, ◌≤◌, ◌<◌, ◌++◌, length, take, if◌then◌else◌};
-ghost use Rattle.ans_redraw.specs.Colours.{anew, background, blinks, changes, colour_number, colours_to};
-ghost use Rattle.ans_redraw.specs.Colours.{foreground, is_bright, number_if, numbers_to, stays};
+ghost use Rattle.ans_redraw.specs.Colours.{anew, background_of, blinks, changes, ansi_number, colours_to};
+ghost use Rattle.ans_redraw.specs.Colours.{foreground_of, is_bright, parameter_if, numbers_to, only_adds};
 ghost use Rattle.ans_redraw.specs.Form.{texts};
 ghost use Rattle.ans_redraw.specs.Numbers.{listed};
 
@@ -13,8 +13,8 @@ pub(crate) const GREY: u8 = 0x07;
 /// Where ANSI.SYS has the colours, whose bits are blue, green and red.
 const COLOUR_NUMBERS: [u8; 8] = [0, 4, 2, 6, 1, 5, 3, 7];
 
-fn foreground(attribute: u8) -> u8
-    ensures { result ≡ foreground attribute }
+fn foreground_of(attribute: u8) -> u8
+    ensures { result ≡ foreground_of attribute }
 {
     attribute % 8
 }
@@ -25,8 +25,8 @@ fn is_bright(attribute: u8) -> bool
     attribute / 8 % 2 == 1
 }
 
-fn background(attribute: u8) -> u8
-    ensures { result ≡ background attribute }
+fn background_of(attribute: u8) -> u8
+    ensures { result ≡ background_of attribute }
 {
     attribute / 16 % 8
 }
@@ -37,9 +37,9 @@ fn blinks(attribute: u8) -> bool
     attribute / 128 % 2 == 1
 }
 
-fn colour_number(colour: u8) -> u8
+fn ansi_number(colour: u8) -> u8
     requires { colour < 8 }
-    ensures { result ≡ colour_number colour }
+    ensures { result ≡ ansi_number colour }
 {
     COLOUR_NUMBERS[colour as usize]
 }
@@ -63,22 +63,22 @@ fn starts_blinking(from: u8, to: u8) -> bool
 /// Whether the foreground changes.
 #[inline(always)]
 fn recolours_front(from: u8, to: u8) -> bool
-    ensures { result ≡ not (foreground from == foreground to) }
+    ensures { result ≡ not (foreground_of from == foreground_of to) }
 {
-    foreground(from) != foreground(to)
+    foreground_of(from) != foreground_of(to)
 }
 
 /// Whether the background changes.
 #[inline(always)]
 fn recolours_back(from: u8, to: u8) -> bool
-    ensures { result ≡ not (background from == background to) }
+    ensures { result ≡ not (background_of from == background_of to) }
 {
-    background(from) != background(to)
+    background_of(from) != background_of(to)
 }
 
 /// Whether neither bright nor blink goes.
-fn stays(from: u8, to: u8) -> bool
-    ensures { result ≡ stays from to }
+fn only_adds(from: u8, to: u8) -> bool
+    ensures { result ≡ only_adds from to }
 {
     (!is_bright(from) || is_bright(to)) && (!blinks(from) || blinks(to))
 }
@@ -90,7 +90,7 @@ fn write_digit(text: &mut [u8], end: usize, number: u8, is_there: bool) -> usize
     requires digit { number < 10 }
     ensures within { result ≤ end + 2 }
     ensures length { length text.new ≡ length text.old }
-    ensures text { take result text.new ≡ take end text.old ++ listed (number_if is_there number) }
+    ensures text { take result text.new ≡ take end text.old ++ listed (parameter_if is_there number) }
 {
     write(text, end, &[b'0' + number, b';'], length_if(is_there, 2))
 }
@@ -103,7 +103,7 @@ fn write_number(text: &mut [u8], end: usize, number: u8, is_there: bool) -> usiz
     requires digits { number < 100 }
     ensures within { result ≤ end + 3 }
     ensures length { length text.new ≡ length text.old }
-    ensures text { take result text.new ≡ take end text.old ++ listed (number_if is_there number) }
+    ensures text { take result text.new ≡ take end text.old ++ listed (parameter_if is_there number) }
 {
     write(
         text,
@@ -123,9 +123,9 @@ fn write_changes(text: &mut [u8], end: usize, from: u8, to: u8) -> usize
 {
     let bright = write_digit(text, end, 1, brightens(from, to));
     let blink = write_digit(text, bright, 5, starts_blinking(from, to));
-    let number = 30 + colour_number(foreground(to));
+    let number = 30 + ansi_number(foreground_of(to));
     let front = write_number(text, blink, number, recolours_front(from, to));
-    let number = 40 + colour_number(background(to));
+    let number = 40 + ansi_number(background_of(to));
     write_number(text, front, number, recolours_back(from, to))
 }
 
@@ -139,9 +139,9 @@ fn write_anew(text: &mut [u8], end: usize, to: u8) -> usize
     let zero = write_digit(text, end, 0, true);
     let bright = write_digit(text, zero, 1, is_bright(to));
     let blink = write_digit(text, bright, 5, blinks(to));
-    let number = 30 + colour_number(foreground(to));
+    let number = 30 + ansi_number(foreground_of(to));
     let front = write_number(text, blink, number, true);
-    let number = 40 + colour_number(background(to));
+    let number = 40 + ansi_number(background_of(to));
     write_number(text, front, number, true)
 }
 
@@ -161,7 +161,7 @@ fn write_numbers(text: &mut [u8], end: usize, from: u8, to: u8) -> usize
     ensures length { length text.new ≡ length text.old }
     ensures text { take result text.new ≡ take end text.old ++ listed (numbers_to from to) }
 {
-    if stays(from, to) {
+    if only_adds(from, to) {
         return write_changes(text, end, from, to);
     }
     write_anew(text, end, to)

@@ -12,7 +12,7 @@
 //!
 //! A file is redrawn if the form becomes its content, and behind it stands all that stood behind the content.
 //! [`redrawn_with`] says what that changes of it, or how long it would be where that is too much.
-//! [`put_redrawn_file`] puts the new file, and [`copy_redrawn_file`] copies it to an array. Which file that is stands in
+//! [`put_redrawn_file`] puts the new file, and [`copy_redrawn_file`] copies it to an array. Which file that is, is in
 //! `specs/RedrawnFile.antt`, and what is said of it in `specs/RedrawnText.antt`. That the picture is the one that the
 //! file shows, is for the crate above to see to.
 #![tactic(auto)]
@@ -32,5 +32,5 @@ mod way;
 pub use form::{form_length, put_form};
 pub use new_file::{copy_redrawn_file, put_redrawn_file, redrawn_with};
 pub use outcome::{Redrawn, Unredrawn};
-pub use pen::Pen;
+pub use pen::Gap;
 pub use redrawn_text::{put_redrawn, put_unredrawn};

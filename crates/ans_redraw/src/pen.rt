@@ -3,7 +3,7 @@
 /// The current attribute, and how many cells it has passed over since the last byte. The definition of the form
 /// names it, so it is public.
 #[derive(Clone, Copy)]
-pub struct Pen {
+pub struct Gap {
     pub attribute: u8,
     pub passed: usize,
 }

@@ -6,7 +6,7 @@ use Rattle.ans_model.specs.File.Layout.{FileParts, content}
 use Rattle.ans_model.specs.File.NoteConditions.{notes}
 use Rattle.ans_model.specs.Screen.State.{Size}
 use Rattle.ans_sauce.specs.declared.parts.Parts.{Parts}
-use Rattle.ans_sauce.specs.RecordBytes.{bytes_of}
+use Rattle.ans_sauce.specs.RecordBytes.{sauce_bytes}
 
 -- `parts.content()`
 abbrev pub content_of : Parts → List ℕ
@@ -18,7 +18,7 @@ comments_of parts = parts.comments.now
 
 -- the 128 bytes of `parts.sauce()`
 abbrev pub record_of : Parts → List ℕ
-record_of parts = bytes_of parts.sauce
+record_of parts = sauce_bytes parts.sauce
 
 -- `parts.width()`
 abbrev pub width_of : Parts → ℕ

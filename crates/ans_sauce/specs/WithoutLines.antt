@@ -5,7 +5,7 @@ use Rattle.ans_model.specs.File.Layout.{content, is_clean_end}
 use Rattle.ans_model.specs.File.Record.{tinfo}
 use Rattle.ans_model.specs.File.Refusals.{has_record}
 use Rattle.ans_sauce.specs.Found.{body_in, record_in}
-use Rattle.ans_sauce.specs.RecordBytes.{bytes_of}
+use Rattle.ans_sauce.specs.RecordBytes.{sauce_bytes}
 use Rattle.ans_sauce.specs.declared.no_lines.WithoutLines.{WithoutLines}
 
 -- Behind F5 neither F6 nor F8 would follow: the width is within the limit, and there are only end marks after the
@@ -17,4 +17,4 @@ lacks_lines_alone file =
 -- the file's content and its record
 pub record IsWithoutLines (file : List ℕ) (found : WithoutLines) : Type 0 where
   pub content_is : found.content.now ≡ content (body_in file)
-  pub record_is : bytes_of found.sauce ≡ record_in file
+  pub record_is : sauce_bytes found.sauce ≡ record_in file

@@ -3,7 +3,7 @@ ghost use Rattle.std.specs.Prelude.{◌≡◌, ◌+◌, ◌-◌, ◌≤◌, ℕ,
 ghost use Rattle.memchr.specs.Find.{IsLast};
 ghost use Rattle.ans_model.specs.File.Refusals.{record_fault};
 ghost use Rattle.ans_model.specs.declared.fault.Cause.TheVariants.{NoRecord, BytesAfterEndMark};
-ghost use Rattle.ans_sauce.specs.RecordBytes.{bytes_of};
+ghost use Rattle.ans_sauce.specs.RecordBytes.{sauce_bytes};
 ghost use Rattle.ans_sauce.specs.Split.{EndsInRecord};
 ghost use Rattle.ans_sauce.specs.Found.{IsFound, IsLastRecord, IsRecordAt, after_end_mark};
 
@@ -87,7 +87,7 @@ fn found_before_the_end(file: &[u8]) -> Found<'_>
 
 /// What follows the first end mark, up to the comment block.
 fn after_end_mark<'a>(front: &'a [u8], sauce: &Record<'_>) -> &'a [u8]
-    ensures { (file : List ℕ) → EndsInRecord file front.now (bytes_of sauce.now)
+    ensures { (file : List ℕ) → EndsInRecord file front.now (sauce_bytes sauce.now)
         → result.now ≡ after_end_mark file }
 {
     let (_, rest) = cut_content(body_before(front, sauce));

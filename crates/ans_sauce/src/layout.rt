@@ -6,7 +6,7 @@ ghost use Rattle.std.specs.List.{position};
 ghost use Rattle.ans_model.specs.File.Layout.{content, after_content, is_end_mark};
 ghost use Rattle.ans_model.specs.File.Refusals.{has_record, has_block, block_size, fault_at};
 ghost use Rattle.ans_model.specs.File.Refusals.{first_refusal, record_fault};
-ghost use Rattle.ans_sauce.specs.RecordBytes.{bytes_of};
+ghost use Rattle.ans_sauce.specs.RecordBytes.{sauce_bytes};
 ghost use Rattle.ans_sauce.specs.Split.{IsSplit, EndsInRecord, IsCut, PassesRecord, record_refusals};
 
 use crate::fields::{COMMENT_COUNT, DATA_TYPE, END_MARK, RECORD_SIZE, TINFO_1, TINFO_2, VERSION};
@@ -24,7 +24,7 @@ fn fault(offset: usize, cause: Cause) -> Fault
 
 /// What stands before the record, and the record, where there is one.
 pub fn cut_record(file: &[u8]) -> Option<(&[u8], Record<'_>)>
-    ensures cut { IfSome result (λ cut. EndsInRecord file.now cut.0.now (bytes_of cut.1)) }
+    ensures cut { IfSome result (λ cut. EndsInRecord file.now cut.0.now (sauce_bytes cut.1)) }
     ensures none { IfNone result (IsFalse (has_record file.now)) }
 {
     let (front, bytes) = file.split_at(file.len().checked_sub(RECORD_SIZE)?);
@@ -61,7 +61,7 @@ fn cut_block(front: &[u8], count: u8) -> Option<(&[u8], &[u8])>
 /// What stands before a record and before where the comment block that it counts would begin (SAUCE
 /// 00.5, file layout). `front` is what stands before the record.
 pub fn body_before<'a>(front: &'a [u8], sauce: &Record<'_>) -> &'a [u8]
-    ensures { result.now ≡ take (length front.now - block_size (comment_count (bytes_of sauce.now)))
+    ensures { result.now ≡ take (length front.now - block_size (comment_count (sauce_bytes sauce.now)))
         front.now }
 {
     let block = block_size(sauce.comment_count());
@@ -72,9 +72,9 @@ pub fn body_before<'a>(front: &'a [u8], sauce: &Record<'_>) -> &'a [u8]
 /// refusals F2 to F7, in their order.
 fn cut_front<'a>(front: &'a [u8], sauce: &Record<'_>) -> Result<(&'a [u8], &'a [u8]), Fault>
     ensures ok { IfOk result
-        (λ cut. PassesRecord front.now (bytes_of sauce.now) cut.0.now cut.1.now) }
+        (λ cut. PassesRecord front.now (sauce_bytes sauce.now) cut.0.now cut.1.now) }
     ensures err { IfErr result
-        (λ fault. first_refusal (record_refusals front.now (bytes_of sauce.now)) ≡ Some fault) }
+        (λ fault. first_refusal (record_refusals front.now (sauce_bytes sauce.now)) ≡ Some fault) }
 {
     let at = front.len();
     if !sauce.is_version_00() {

@@ -3,7 +3,7 @@
 ghost use Rattle.std.specs.Prelude.{◌≡◌, ◌≤◌, true, false, IfSome, IfNone};
 ghost use Rattle.ans_model.specs.Bytes.{most_columns};
 ghost use Rattle.ans_model.specs.File.Record.{stated_width};
-ghost use Rattle.ans_sauce.specs.RecordBytes.{bytes_of};
+ghost use Rattle.ans_sauce.specs.RecordBytes.{sauce_bytes};
 ghost use Rattle.ans_sauce.specs.WithoutLines.{IsWithoutLines, lacks_lines_alone};
 
 use crate::layout::{body_before, cut_content, cut_record, first_other_byte};
@@ -24,8 +24,8 @@ pub struct WithoutLines<'a> {
 pub fn without_lines(file: &[u8]) -> Option<WithoutLines<'_>>
     ensures some { IfSome result (IsWithoutLines file.now) }
     ensures lacks { IfSome result (λ found. lacks_lines_alone file.now ≡ true) }
-    ensures some_columns { IfSome result (λ found. 1 ≤ stated_width (bytes_of found.sauce)) }
-    ensures columns { IfSome result (λ found. stated_width (bytes_of found.sauce) ≤ most_columns) }
+    ensures some_columns { IfSome result (λ found. 1 ≤ stated_width (sauce_bytes found.sauce)) }
+    ensures columns { IfSome result (λ found. stated_width (sauce_bytes found.sauce) ≤ most_columns) }
     ensures none { IfNone result (lacks_lines_alone file.now ≡ false) }
 {
     let (front, sauce) = cut_record(file)?;

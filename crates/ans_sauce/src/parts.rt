@@ -27,7 +27,7 @@ pub struct Parts<'a> {
 }
 
 impl<'a> Parts<'a> {
-    ghost use Rattle.ans_sauce.specs.RecordBytes.{bytes_of};
+    ghost use Rattle.ans_sauce.specs.RecordBytes.{sauce_bytes};
     ghost use Rattle.ans_sauce.specs.Parts.{content_of, comments_of, record_of, width_of, lines_of, size_of, notes_of};
 
     /// The bytes from the file's start up to the first end mark, the comment block or the record.
@@ -62,7 +62,7 @@ impl<'a> Parts<'a> {
 
     /// The record.
     pub fn sauce(&self) -> Record<'a>
-        ensures { bytes_of result ≡ record_of self.now }
+        ensures { sauce_bytes result ≡ record_of self.now }
     {
         self.sauce
     }

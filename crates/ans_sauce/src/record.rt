@@ -24,32 +24,32 @@ pub struct Record<'a> {
 }
 
 impl<'a> Record<'a> {
-    ghost use Rattle.ans_sauce.specs.RecordBytes.{bytes_of};
+    ghost use Rattle.ans_sauce.specs.RecordBytes.{sauce_bytes};
 
     /// The version's two bytes. A record that is accepted has `00`.
     pub(crate) fn version(&self) -> &'a [u8]
-        ensures { result.now ≡ version_field (bytes_of self.now) }
+        ensures { result.now ≡ version_field (sauce_bytes self.now) }
     {
         self.field(VERSION, 2)
     }
 
     /// The title, of at most 35 bytes.
     pub fn title(&self) -> &'a [u8]
-        ensures { result.now ≡ trimmed (title_field (bytes_of self.now)) }
+        ensures { result.now ≡ trimmed (title_field (sauce_bytes self.now)) }
     {
         trimmed(self.field(TITLE, 35))
     }
 
     /// The author's name, of at most 20 bytes.
     pub fn author(&self) -> &'a [u8]
-        ensures { result.now ≡ trimmed (author_field (bytes_of self.now)) }
+        ensures { result.now ≡ trimmed (author_field (sauce_bytes self.now)) }
     {
         trimmed(self.field(AUTHOR, 20))
     }
 
     /// The name of the author's group, of at most 20 bytes.
     pub fn group(&self) -> &'a [u8]
-        ensures { result.now ≡ trimmed (group_field (bytes_of self.now)) }
+        ensures { result.now ≡ trimmed (group_field (sauce_bytes self.now)) }
     {
         trimmed(self.field(GROUP, 20))
     }
@@ -57,14 +57,14 @@ impl<'a> Record<'a> {
     /// The date, as CCYYMMDD where the record keeps to its layout; `Note::OddDate` says
     /// where it does not.
     pub fn date(&self) -> &'a [u8]
-        ensures { result.now ≡ trimmed (date_field (bytes_of self.now)) }
+        ensures { result.now ≡ trimmed (date_field (sauce_bytes self.now)) }
     {
         trimmed(self.date_bytes())
     }
 
     /// The name of the font (TInfoS), of at most 22 bytes.
     pub fn font(&self) -> &'a [u8]
-        ensures { result.now ≡ trimmed (font_field (bytes_of self.now)) }
+        ensures { result.now ≡ trimmed (font_field (sauce_bytes self.now)) }
     {
         trimmed(self.field(FONT, 22))
     }
@@ -72,21 +72,21 @@ impl<'a> Record<'a> {
     /// The stated size in bytes of the file without its record (FileSize). Nothing else rests on
     /// it; `Note::SizeDiffers` says where it does not fit.
     pub fn file_size(&self) -> u32
-        ensures { result ≡ file_size (bytes_of self.now) }
+        ensures { result ≡ file_size (sauce_bytes self.now) }
     {
         LittleEndian::read_u32(self.field(FILE_SIZE, 4))
     }
 
     /// The kind of file (DataType). A record that is accepted has 1, Character.
     pub(crate) fn data_type(&self) -> u8
-        ensures { result ≡ data_type (bytes_of self.now) }
+        ensures { result ≡ data_type (sauce_bytes self.now) }
     {
         self.byte(DATA_TYPE)
     }
 
     /// Which of its kind (FileType). A record that is accepted has 1, ANSi.
     pub(crate) fn file_type(&self) -> u8
-        ensures { result ≡ file_type (bytes_of self.now) }
+        ensures { result ≡ file_type (sauce_bytes self.now) }
     {
         self.byte(FILE_TYPE)
     }
@@ -96,21 +96,21 @@ impl<'a> Record<'a> {
     pub fn tinfo(&self, i: usize) -> u16
         requires first { 1 ≤ i }
         requires last { i ≤ 4 }
-        ensures { result ≡ tinfo i (bytes_of self.now) }
+        ensures { result ≡ tinfo i (sauce_bytes self.now) }
     {
         LittleEndian::read_u16(self.field(TINFO_1 - 2 + 2 * i, 2))
     }
 
     /// How many lines of 64 bytes the comment block has (Comments), from 0 to 255.
     pub fn comment_count(&self) -> u8
-        ensures { result ≡ comment_count (bytes_of self.now) }
+        ensures { result ≡ comment_count (sauce_bytes self.now) }
     {
         self.byte(COMMENT_COUNT)
     }
 
     /// The flags (TFlags, for Character/ANSi the ANSiFlags).
     pub fn flags(&self) -> u8
-        ensures { result ≡ flags (bytes_of self.now) }
+        ensures { result ≡ flags (sauce_bytes self.now) }
     {
         self.byte(FLAGS)
     }
@@ -118,7 +118,7 @@ impl<'a> Record<'a> {
     /// Whether the flags' bit 0, non-blink, is set: bit 7 of an attribute is then a bright background,
     /// and no blink.
     pub fn is_non_blink(&self) -> bool
-        ensures { result ≡ is_non_blink (bytes_of self.now) }
+        ensures { result ≡ is_non_blink (sauce_bytes self.now) }
     {
         self.flags() % 2 == 1
     }
@@ -126,7 +126,7 @@ impl<'a> Record<'a> {
     /// The flags' bits 1 and 2, the letter spacing: 1 for letters of 8 pixels, 2 for letters of 9, and 0
     /// where nothing is said. 3 has no meaning.
     pub fn letter_spacing(&self) -> u8
-        ensures { result ≡ letter_spacing (bytes_of self.now) }
+        ensures { result ≡ letter_spacing (sauce_bytes self.now) }
     {
         self.flags() / 2 % 4
     }
@@ -134,14 +134,14 @@ impl<'a> Record<'a> {
     /// The flags' bits 3 and 4, the aspect ratio: 1 for pixels to be stretched, 2 for square ones, and 0
     /// where nothing is said. 3 has no meaning.
     pub fn aspect_ratio(&self) -> u8
-        ensures { result ≡ aspect_ratio (bytes_of self.now) }
+        ensures { result ≡ aspect_ratio (sauce_bytes self.now) }
     {
         self.flags() / 8 % 4
     }
 
     /// The stated width in columns (TInfo1). 0 stands for 80. A record that is accepted states at most 1024.
     pub fn width(&self) -> usize
-        ensures { result ≡ stated_width (bytes_of self.now) }
+        ensures { result ≡ stated_width (sauce_bytes self.now) }
     {
         match self.tinfo(1) {
             0 => 80,
@@ -151,59 +151,59 @@ impl<'a> Record<'a> {
 
     /// The stated number of lines (TInfo2). A record that is accepted states 1 to 8192.
     pub fn lines(&self) -> usize
-        ensures { result ≡ stated_lines (bytes_of self.now) }
+        ensures { result ≡ stated_lines (sauce_bytes self.now) }
     {
         self.tinfo(2) as usize
     }
 
     pub(crate) fn date_bytes(&self) -> &'a [u8]
-        ensures { result.now ≡ date_field (bytes_of self.now) }
+        ensures { result.now ≡ date_field (sauce_bytes self.now) }
     {
         self.field(DATE, 8)
     }
 
     pub(crate) fn is_version_00(&self) -> bool
-        ensures { result ≡ bytes_eq (version_field (bytes_of self.now)) (codes "00") }
+        ensures { result ≡ bytes_eq (version_field (sauce_bytes self.now)) (codes "00") }
     {
         self.version() == b"00".as_slice()
     }
 
     /// Whether it is of type Character/ANSi: DataType 1 and FileType 1 (SAUCE 00.5).
     pub fn is_character_ansi(&self) -> bool
-        ensures { result ≡ (data_type (bytes_of self.now) == 1
-            && file_type (bytes_of self.now) == 1) }
+        ensures { result ≡ (data_type (sauce_bytes self.now) == 1
+            && file_type (sauce_bytes self.now) == 1) }
     {
         self.data_type() == 1 && self.file_type() == 1
     }
 
     pub(crate) fn states_no_lines(&self) -> bool
-        ensures { result ≡ (tinfo 2 (bytes_of self.now) == 0) }
+        ensures { result ≡ (tinfo 2 (sauce_bytes self.now) == 0) }
     {
         self.tinfo(2) == 0
     }
 
     pub(crate) fn is_too_wide(&self) -> bool
-        ensures { result ≡ nat_lt most_columns (tinfo 1 (bytes_of self.now)) }
+        ensures { result ≡ nat_lt most_columns (tinfo 1 (sauce_bytes self.now)) }
     {
         self.tinfo(1) as usize > MAX_WIDTH
     }
 
     pub(crate) fn is_too_long(&self) -> bool
-        ensures { result ≡ nat_lt most_lines (tinfo 2 (bytes_of self.now)) }
+        ensures { result ≡ nat_lt most_lines (tinfo 2 (sauce_bytes self.now)) }
     {
         self.tinfo(2) as usize > MAX_LINES
     }
 
     fn byte(&self, offset: usize) -> u8
         requires { offset < 128 }
-        ensures { result ≡ number (field offset 1 (bytes_of self.now)) }
+        ensures { result ≡ number (field offset 1 (sauce_bytes self.now)) }
     {
         self.bytes[offset]
     }
 
     fn field(&self, offset: usize, size: usize) -> &'a [u8]
         requires { offset + size ≤ 128 }
-        ensures bytes { result.now ≡ field offset size (bytes_of self.now) }
+        ensures bytes { result.now ≡ field offset size (sauce_bytes self.now) }
         ensures size { length result.now ≡ size }
     {
         &self.bytes[offset..offset + size]

@@ -16,11 +16,11 @@ pub struct Reset {
 }
 
 impl<'a> Record<'a> {
-    ghost use Rattle.ans_sauce.specs.RecordBytes.{bytes_of};
+    ghost use Rattle.ans_sauce.specs.RecordBytes.{sauce_bytes};
 
     /// The record's bytes with this FileSize.
     pub fn with_file_size(&self, size: u32) -> [u8; RECORD_SIZE]
-        ensures { result ≡ with_file_size size (bytes_of self.now) }
+        ensures { result ≡ with_file_size size (sauce_bytes self.now) }
     {
         let mut bytes = [0; RECORD_SIZE];
         bytes.copy_from_slice(self.bytes);

@@ -28,7 +28,7 @@ use Rattle.ans_table.specs.NameText.{name_text}
 use Rattle.ans_table.specs.Columns.{by_pair}
 use Rattle.ans_table.specs.JsonRow.{Adds, Entries, Named, aspect_values, comments_from, content_values, count}
 use Rattle.ans_table.specs.JsonRow.{fault_values, field_values, flag_values, found_values, parts_values}
-use Rattle.ans_table.specs.JsonRow.{players_values, record_values, row_data, row_values, spacing_values, texts}
+use Rattle.ans_table.specs.JsonRow.{players_values, record_values, row_data, row_values, spacing_values, text_list}
 use Rattle.ans_table.specs.JsonRow.{verdict_values, with_values}
 
 -- no float, and at most lists
@@ -109,7 +109,7 @@ items_nest : (ts : List (List ℕ)) → items_depth (items_of (map string ts)) �
 items_nest [] = omega arith
 items_nest (t ∷ ts) = omega (arith, items_nest ts)
 
-flat_texts : (ts : List (List ℕ)) → IsFlat (texts ts)
+flat_texts : (ts : List (List ℕ)) → IsFlat (text_list ts)
 flat_texts ts = record { float = items_float ts; nests = omega (arith, items_nest ts) }
 
 flat_fault : (fault : Fault) → AllFlat (fault_values fault)

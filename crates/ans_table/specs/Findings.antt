@@ -8,7 +8,7 @@ use Rattle.ans_model.specs.Screen.State.{Size}
 use Rattle.ans_model.specs.Screen.StartClass.{all_known}
 use Rattle.ans_model.specs.Verdict.Needs.{IsLeast}
 use Rattle.ans_sauce.specs.Parts.{content_of, record_of, size_of}
-use Rattle.ans_sauce.specs.RecordBytes.{bytes_of}
+use Rattle.ans_sauce.specs.RecordBytes.{sauce_bytes}
 use Rattle.ans_sauce.specs.Judged.{IsJudged, IsRecordFault, is_pass, parts_in}
 use Rattle.ans_sauce.specs.declared.judged.Judged.{Judged}
 use Rattle.ans_sauce.specs.declared.judged.Judged.TheVariants.{NoContent, Refused, Passes}
@@ -40,7 +40,7 @@ IsRecordOf file None = IsFalse (has_record file)
 -- what is said of a record or a layout that is refused is true of the file
 pub record IsRecordFinding (file : List ℕ) (said : RecordFinding) : Type 0 where
   pub refused : IsRecordFault file said.fault
-  pub sauce : IsRecordOf file (option_map bytes_of said.sauce)
+  pub sauce : IsRecordOf file (option_map sauce_bytes said.sauce)
 
 -- what is said of a content that is refused from the cleared start is true of it
 pub record IsFaultFinding (parts : Parts) (said : FaultFinding) : Type 0 where
@@ -72,7 +72,7 @@ parts_of (Err reason) = None
 
 -- the record of a file that was read, where it has one
 abbrev pub sauce_in : Finding → Option (List ℕ)
-sauce_in (NoContent said) = option_map bytes_of said.sauce
+sauce_in (NoContent said) = option_map sauce_bytes said.sauce
 sauce_in (Refused parts said) = Some (record_of parts)
 sauce_in (Passes parts said) = Some (record_of parts)
 

@@ -35,8 +35,8 @@ abbrev pub count : ℕ → Data
 count n = number (unsigned n)
 
 -- a list of texts
-abbrev pub texts : List (List ℕ) → Data
-texts ts = array (items_of (map string ts))
+abbrev pub text_list : List (List ℕ) → Data
+text_list ts = array (items_of (map string ts))
 
 -- the members, and the values by their names
 abbrev pub with_values : List Named → Members → Members
@@ -52,16 +52,18 @@ fault_values fault =
 -- no kinds, and the parts that have to be known for every player to show the same; or the kinds in which players part
 -- that a content makes use of
 abbrev pub players_values : Players → List Named
-players_values (Any class) = (codes "players", texts []) ∷ (codes "on_every_player", texts (part_names class)) ∷ []
+players_values (Any class) =
+    (codes "players", text_list []) ∷ (codes "on_every_player", text_list (part_names class)) ∷ []
 players_values (InNamedColours class times) =
-    (codes "players", texts (kind_word OwnColours ∷ [])) ∷ (codes "on_every_player", texts (part_names class)) ∷ []
-players_values (Agreeing used) = (codes "players", texts (words_used used)) ∷ []
+    (codes "players", text_list (kind_word OwnColours ∷ []))
+    ∷ (codes "on_every_player", text_list (part_names class)) ∷ []
+players_values (Agreeing used) = (codes "players", text_list (words_used used)) ∷ []
 
 -- what a content needs that passes, on which players it shows its picture, and whether it does on taller screens
 abbrev pub pass_values : PassFinding → List Named
 pass_values said =
     (codes "verdict", string (codes "pass"))
-    ∷ (codes "needs", texts (part_names said.needs))
+    ∷ (codes "needs", text_list (part_names said.needs))
     ∷ (players_values said.players ++ (codes "taller", boolean said.taller) ∷ [])
 
 -- the verdict on a file that was read, and what belongs to it
@@ -89,8 +91,8 @@ comment_texts parts = comments_from 0 (comment_count (record_of parts)) (comment
 abbrev pub parts_values : Parts → List Named
 parts_values parts =
     (codes "content", count (length (content_of parts)))
-    ∷ (codes "notes", texts (map note_label (notes_of parts)))
-    ∷ (codes "comments", texts (comment_texts parts)) ∷ []
+    ∷ (codes "notes", text_list (map note_label (notes_of parts)))
+    ∷ (codes "comments", text_list (comment_texts parts)) ∷ []
 
 abbrev pub content_values : Option Parts → List Named
 content_values (Some parts) = parts_values parts

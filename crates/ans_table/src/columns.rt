@@ -2,7 +2,7 @@
 
 ghost use Rattle.std.specs.Prelude.{◌≡◌, Some, option_map, decimal};
 ghost use Rattle.std.specs.Option.{option_copied};
-ghost use Rattle.ans_sauce.specs.RecordBytes.{bytes_of};
+ghost use Rattle.ans_sauce.specs.RecordBytes.{sauce_bytes};
 ghost use Rattle.ans_write.specs.Puts.{Puts};
 ghost use Rattle.ans_table.specs.Columns.{by_pair, column, content_columns, escaped_byte, escaped_text};
 ghost use Rattle.ans_table.specs.Columns.{fault_columns, field_columns, flag_columns, found_columns, pass_columns};
@@ -105,7 +105,7 @@ pub(crate) fn put_verdict<W: Write>(out: &mut Outbox<'_, W>, finding: &RowFindin
 }
 
 fn put_size<W: Write>(out: &mut Outbox<'_, W>, sauce: &Record<'_>)
-    ensures { Puts W.contents out.old out.new (stated_columns (Some (bytes_of sauce.now))) }
+    ensures { Puts W.contents out.old out.new (stated_columns (Some (sauce_bytes sauce.now))) }
 {
     put_number(out, sauce.width());
     put_number(out, sauce.lines());
@@ -113,7 +113,7 @@ fn put_size<W: Write>(out: &mut Outbox<'_, W>, sauce: &Record<'_>)
 
 /// The columns of the stated size.
 pub(crate) fn put_stated_size<W: Write>(out: &mut Outbox<'_, W>, sauce: Option<Record<'_>>)
-    ensures { Puts W.contents out.old out.new (stated_columns (option_map bytes_of sauce.entry)) }
+    ensures { Puts W.contents out.old out.new (stated_columns (option_map sauce_bytes sauce.entry)) }
 {
     match sauce {
         Some(sauce) => put_size(out, &sauce),
@@ -151,7 +151,7 @@ fn pair_text(pair: u8, one: &'static [u8], two: &'static [u8]) -> &'static [u8]
 }
 
 fn put_flags<W: Write>(out: &mut Outbox<'_, W>, sauce: &Record<'_>)
-    ensures { Puts W.contents out.old out.new (flag_columns (bytes_of sauce.now)) }
+    ensures { Puts W.contents out.old out.new (flag_columns (sauce_bytes sauce.now)) }
 {
     put_column(out, answer_text(sauce.is_non_blink()));
     put_column(out, pair_text(sauce.letter_spacing(), b"8", b"9"));
@@ -184,7 +184,7 @@ fn put_field<W: Write>(out: &mut Outbox<'_, W>, text: &[u8])
 }
 
 fn put_fields<W: Write>(out: &mut Outbox<'_, W>, sauce: &Record<'_>)
-    ensures { Puts W.contents out.old out.new (field_columns (bytes_of sauce.now)) }
+    ensures { Puts W.contents out.old out.new (field_columns (sauce_bytes sauce.now)) }
 {
     put_field(out, sauce.font());
     put_field(out, sauce.date());
@@ -195,7 +195,7 @@ fn put_fields<W: Write>(out: &mut Outbox<'_, W>, sauce: &Record<'_>)
 
 /// The columns of the record's flags and texts.
 pub(crate) fn put_record<W: Write>(out: &mut Outbox<'_, W>, sauce: Option<Record<'_>>)
-    ensures { Puts W.contents out.old out.new (record_columns (option_map bytes_of sauce.entry)) }
+    ensures { Puts W.contents out.old out.new (record_columns (option_map sauce_bytes sauce.entry)) }
 {
     match sauce {
         Some(sauce) => {

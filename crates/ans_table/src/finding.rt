@@ -6,7 +6,7 @@ ghost use Rattle.ans_model.specs.Bytes.{longest_file};
 ghost use Rattle.ans_model.specs.Screen.StartClass.{all_known};
 ghost use Rattle.ans_model.specs.Verdict.Needs.{IsLeast};
 ghost use Rattle.ans_sauce.specs.Parts.{content_of, size_of};
-ghost use Rattle.ans_sauce.specs.RecordBytes.{bytes_of};
+ghost use Rattle.ans_sauce.specs.RecordBytes.{sauce_bytes};
 ghost use Rattle.ans_sauce.specs.Judged.{IsRecordFault};
 ghost use Rattle.ans_model.specs.Verdict.LastFault.{IsDeserved};
 ghost use Rattle.ans_table.specs.Findings.{IsFaultFinding, IsPassFinding, IsRecordFinding, outcome_of, parts_of};
@@ -140,7 +140,7 @@ pub(crate) fn parts_of<'f, 'a>(finding: &'f RowFinding<'a>) -> Option<&'f Parts<
 }
 
 fn sauce_in<'a>(finding: &Finding<'a>) -> Option<Record<'a>>
-    ensures { option_map bytes_of result ≡ sauce_in finding.now }
+    ensures { option_map sauce_bytes result ≡ sauce_in finding.now }
 {
     match finding {
         Judged::NoContent(said) => said.sauce,
@@ -150,7 +150,7 @@ fn sauce_in<'a>(finding: &Finding<'a>) -> Option<Record<'a>>
 
 /// The record of the file, where one was read.
 pub(crate) fn sauce_of<'a>(finding: &RowFinding<'a>) -> Option<Record<'a>>
-    ensures { option_map bytes_of result ≡ sauce_of finding.now }
+    ensures { option_map sauce_bytes result ≡ sauce_of finding.now }
 {
     match finding {
         Ok(finding) => sauce_in(finding),

@@ -6,11 +6,12 @@ ghost use Rattle.serde_json.specs.Data.{string};
 ghost use Rattle.serde_json.specs.Read.{read};
 ghost use Rattle.serde_json.specs.View.{view};
 ghost use Rattle.ans_model.specs.Text.Characters.{shown_bytes};
-ghost use Rattle.ans_sauce.specs.RecordBytes.{bytes_of};
+ghost use Rattle.ans_sauce.specs.RecordBytes.{sauce_bytes};
 ghost use Rattle.ans_table.specs.JsonRow.{Adds, aspect_values, comment_texts, content_values, count};
 ghost use Rattle.ans_table.specs.JsonRow.{fault_values, field_values, flag_values, found_values, json_text};
 ghost use Rattle.ans_table.specs.JsonRow.{parts_values, pass_values, players_values};
-ghost use Rattle.ans_table.specs.JsonRow.{record_values, row_data, size_values, spacing_values, texts, verdict_values};
+ghost use Rattle.ans_table.specs.JsonRow.{record_values, row_data, size_values, spacing_values, text_list};
+ghost use Rattle.ans_table.specs.JsonRow.{verdict_values};
 ghost use Rattle.ans_table.specs.NameText.{name_text};
 ghost use Rattle.ans_table.specs.Labels.{fault_label, note_label};
 ghost use Rattle.ans_model.specs.Text.Words.{texts_of, part_names};
@@ -61,7 +62,7 @@ fn name_value(alloc: Global, name: &[u8]) -> Result<Value, AllocError>
 }
 
 fn words_value(alloc: Global, words: &[&str]) -> Result<Value, AllocError>
-    ensures { IfOk result (λ v. view v ≡ texts (texts_of words.now)) }
+    ensures { IfOk result (λ v. view v ≡ text_list (texts_of words.now)) }
 {
     let mut list = Vec::new(alloc);
     for word in words {
@@ -72,7 +73,7 @@ fn words_value(alloc: Global, words: &[&str]) -> Result<Value, AllocError>
 
 /// The names of the parts that a class knows.
 fn known_value(alloc: Global, class: Start) -> Result<Value, AllocError>
-    ensures { IfOk result (λ v. view v ≡ texts (part_names class)) }
+    ensures { IfOk result (λ v. view v ≡ text_list (part_names class)) }
 {
     words_value(alloc, class.part_names().as_slice())
 }
@@ -91,7 +92,7 @@ fn note_value(alloc: Global, note: Note) -> Result<Value, AllocError>
 
 /// The labels of notes.
 fn notes_value(alloc: Global, notes: &[Note]) -> Result<Value, AllocError>
-    ensures { IfOk result (λ v. view v ≡ texts (map note_label notes.now)) }
+    ensures { IfOk result (λ v. view v ≡ text_list (map note_label notes.now)) }
 {
     let mut list = Vec::new(alloc);
     for note in notes {
@@ -102,7 +103,7 @@ fn notes_value(alloc: Global, notes: &[Note]) -> Result<Value, AllocError>
 
 /// The lines of the comment block.
 fn comments_value(alloc: Global, parts: &Parts<'_>) -> Result<Value, AllocError>
-    ensures { IfOk result (λ v. view v ≡ texts (comment_texts parts.now)) }
+    ensures { IfOk result (λ v. view v ≡ text_list (comment_texts parts.now)) }
 {
     let mut list = Vec::new(alloc);
     for i in 0..parts.sauce().comment_count() as usize {
@@ -218,7 +219,7 @@ fn put_content(members: &mut Members, alloc: Global, parts: Option<&Parts<'_>>) 
 }
 
 fn put_spacing(members: &mut Members, alloc: Global, sauce: &Record<'_>) -> Added
-    ensures { Adds members.old.entries members.new.entries result (spacing_values (bytes_of sauce.now)) }
+    ensures { Adds members.old.entries members.new.entries result (spacing_values (sauce_bytes sauce.now)) }
 {
     match sauce.letter_spacing() {
         1 => put(members, alloc, "spacing", Value::from(8u64)),
@@ -228,7 +229,7 @@ fn put_spacing(members: &mut Members, alloc: Global, sauce: &Record<'_>) -> Adde
 }
 
 fn put_aspect(members: &mut Members, alloc: Global, sauce: &Record<'_>) -> Added
-    ensures { Adds members.old.entries members.new.entries result (aspect_values (bytes_of sauce.now)) }
+    ensures { Adds members.old.entries members.new.entries result (aspect_values (sauce_bytes sauce.now)) }
 {
     match sauce.aspect_ratio() {
         1 => put_text(members, alloc, "aspect", "stretch"),
@@ -238,7 +239,7 @@ fn put_aspect(members: &mut Members, alloc: Global, sauce: &Record<'_>) -> Added
 }
 
 fn put_flags(members: &mut Members, alloc: Global, sauce: &Record<'_>) -> Added
-    ensures { Adds members.old.entries members.new.entries result (flag_values (bytes_of sauce.now)) }
+    ensures { Adds members.old.entries members.new.entries result (flag_values (sauce_bytes sauce.now)) }
 {
     put(members, alloc, "ice", Value::Bool(sauce.is_non_blink()))?;
     put_spacing(members, alloc, sauce)?;
@@ -246,14 +247,14 @@ fn put_flags(members: &mut Members, alloc: Global, sauce: &Record<'_>) -> Added
 }
 
 fn put_size(members: &mut Members, alloc: Global, sauce: &Record<'_>) -> Added
-    ensures { Adds members.old.entries members.new.entries result (size_values (bytes_of sauce.now)) }
+    ensures { Adds members.old.entries members.new.entries result (size_values (sauce_bytes sauce.now)) }
 {
     put_number(members, alloc, "width", sauce.width())?;
     put_number(members, alloc, "lines", sauce.lines())
 }
 
 fn put_fields(members: &mut Members, alloc: Global, sauce: &Record<'_>) -> Added
-    ensures { Adds members.old.entries members.new.entries result (field_values (bytes_of sauce.now)) }
+    ensures { Adds members.old.entries members.new.entries result (field_values (sauce_bytes sauce.now)) }
 {
     put(members, alloc, "font", shown_value(alloc, sauce.font())?)?;
     put(members, alloc, "date", shown_value(alloc, sauce.date())?)?;
@@ -269,7 +270,7 @@ fn put_fields(members: &mut Members, alloc: Global, sauce: &Record<'_>) -> Added
 
 /// The members of the record, where there is one.
 fn put_record(members: &mut Members, alloc: Global, sauce: Option<Record<'_>>) -> Added
-    ensures { Adds members.old.entries members.new.entries result (record_values (option_map bytes_of sauce.entry)) }
+    ensures { Adds members.old.entries members.new.entries result (record_values (option_map sauce_bytes sauce.entry)) }
 {
     match sauce {
         Some(sauce) => {

@@ -1,11 +1,11 @@
 use Rattle.std.proofs.Common.{refl}
-use Rattle.ans_sauce.specs.RecordBytes.{bytes_of}
+use Rattle.ans_sauce.specs.RecordBytes.{sauce_bytes}
 use Rattle.ans_c.proofs.Pieces.{field_piece}
 use Rattle.ans_c.proofs.row_fields.fields_behind.Goals as goal
 
 pub returns : goal.returns
 returns c = λ file is.
-    let sauce = bytes_of c.args.sauce.now in
+    let sauce = sauce_bytes c.args.sauce.now in
     let front = c.args.front in
     record {
       is_there = refl;

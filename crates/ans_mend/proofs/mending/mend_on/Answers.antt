@@ -41,7 +41,8 @@ returns-in_err-settled-clause-reason g c =
     not_mended c.from_residual.result e c.in_err-settled.field-0.0 (IsReason c.args.mends.now c.args.draft.now.file)
     at same
     (reason_so c.args.mends.now c.args.draft.now.file c.cut_tail-tail.new.self.file c.cut_tail-tail.ensures.cut
-    c.asked_where-asked.result asked_is c.give_record-given_record.new.draft.file c.give_record-given_record.ensures.file
+    c.asked_where-asked.result asked_is c.give_record-given_record.new.draft.file
+    c.give_record-given_record.ensures.file
     c.in_err-settled.field-0.0 c.in_err-settled.ensures.reason)
 
 pub returns-in_err-judgement-clause-reason : goal.returns-in_err-judgement-clause-reason
@@ -52,7 +53,8 @@ returns-in_err-judgement-clause-reason g c =
     let at : c.from_residual-in_err-judgement.result ≡ Err e = search rules in
     rw at (weaker e
     (refused c.args.mends.now c.args.draft.now.file c.cut_tail-tail.new.self.file c.cut_tail-tail.ensures.cut
-    c.asked_where-asked.result asked_is c.give_record-given_record.new.draft.file c.give_record-given_record.ensures.file
+    c.asked_where-asked.result asked_is c.give_record-given_record.new.draft.file
+    c.give_record-given_record.ensures.file
     c.settle.new.draft.file c.in_ok-settled.settled.edits c.in_ok-settled.settled.end_mark
     c.in_ok-settled.ensures.settled)
     (rw c.file-3.ensures at c.in_err-judgement.ensures.fault))
@@ -66,7 +68,8 @@ returns-in_err-judgement-clause-room g c told =
     let none : LacksScreenFor (g.S.Screens.may_lack c.args.screens.now) c.settle.new.draft.file =
     rw c.file-3.ensures at (c.in_err-judgement.ensures.room (same_error _ at told)) in
     inr (lacks_screen c.args.mends.now c.args.draft.now.file c.cut_tail-tail.new.self.file c.cut_tail-tail.ensures.cut
-    c.asked_where-asked.result asked_is c.give_record-given_record.new.draft.file c.give_record-given_record.ensures.file
+    c.asked_where-asked.result asked_is c.give_record-given_record.new.draft.file
+    c.give_record-given_record.ensures.file
     c.settle.new.draft.file c.in_ok-settled.settled.edits c.in_ok-settled.settled.end_mark
     c.in_ok-settled.ensures.settled (g.S.Screens.may_lack c.args.screens.now) none)
 
@@ -79,9 +82,11 @@ returns-in_err-file_size-clause-reason g c =
     not_mended c.from_residual-in_err-file_size.result e c.in_err-file_size.field-0.0
     (IsReason c.args.mends.now c.args.draft.now.file) at same
     (too_long c.args.mends.now c.args.draft.now.file c.cut_tail-tail.new.self.file c.cut_tail-tail.ensures.cut
-    c.asked_where-asked.result asked_is c.give_record-given_record.new.draft.file c.give_record-given_record.ensures.file
+    c.asked_where-asked.result asked_is c.give_record-given_record.new.draft.file
+    c.give_record-given_record.ensures.file
     c.settle.new.draft.file c.in_ok-settled.settled.edits c.in_ok-settled.settled.end_mark
-    c.in_ok-settled.ensures.settled c.in_ok-judgement.judgement (rw c.file-3.ensures at c.in_ok-judgement.ensures.passes)
+    c.in_ok-settled.ensures.settled c.in_ok-judgement.judgement
+    (rw c.file-3.ensures at c.in_ok-judgement.ensures.passes)
     c.in_err-file_size.field-0.0 c.in_err-file_size.ensures.long)
 
 pub returns-clause-mended : goal.returns-clause-mended
@@ -91,9 +96,11 @@ returns-clause-mended g c =
     let fits : length c.give_record-given_record.new.draft.file ≤ longest_file =
     rw c.file-2.ensures at c.if-file-gt-MAX_FILE.false in
     mended c.args.mends.now c.args.draft.now.file c.cut_tail-tail.new.self.file c.cut_tail-tail.ensures.cut
-    c.asked_where-asked.result asked_is c.give_record-given_record.new.draft.file c.give_record-given_record.ensures.file
+    c.asked_where-asked.result asked_is c.give_record-given_record.new.draft.file
+    c.give_record-given_record.ensures.file
     c.settle.new.draft.file c.in_ok-settled.settled.edits c.in_ok-settled.settled.end_mark
-    c.in_ok-settled.ensures.settled c.in_ok-judgement.judgement (rw c.file-3.ensures at c.in_ok-judgement.ensures.passes)
+    c.in_ok-settled.ensures.settled c.in_ok-judgement.judgement
+    (rw c.file-3.ensures at c.in_ok-judgement.ensures.passes)
     c.in_ok-settled.settled.was c.in_ok-file_size.file_size c.set_file_size.new.draft.file
     c.in_ok-settled.ensures.was c.in_ok-file_size.ensures.sized fits c.in_ok-settled.ensures.length
     c.give_record-given_record.result c.give_record-given_record.ensures.given c.cut_tail-tail.result

@@ -1,7 +1,7 @@
 use Rattle.std.proofs.Common.{ℕ, ◌+◌, ◌-◌, List, length, drop, refl, sym, subst, Option}
 use Rattle.ans_model.specs.Sequence.Reads.{Reads}
 use Rattle.ans_walks.specs.declared.times.Times.{Times}
-use Rattle.ans_mend.specs.NameSearch.{GoesFirst, NoneGoes}
+use Rattle.ans_mend.specs.NameSearch.{IsNamedFirst, NoneGoes}
 use Rattle.ans_mend.proofs.NamedGrowth.{GrownTo, grown_more, grown_to_nothing, grown_whole, rest_of, unread}
 use Rattle.ans_mend.proofs.name_colours.growth_of.Goals as goal
 
@@ -13,8 +13,8 @@ sequences-preserved c =
     let content : List ℕ = c.args.content.now in
     let read : ℕ = c.sequences.read in
     let g = c.in-Some.going in
-    let first : GoesFirst (drop read content) g =
-    subst (λ (v : List ℕ). GoesFirst v g) (rest_of content read) (rw c.in-Some.is at c.in-Ok.ensures.going) in
+    let first : IsNamedFirst (drop read content) g =
+    subst (λ (v : List ℕ). IsNamedFirst v g) (rest_of content read) (rw c.in-Some.is at c.in-Ok.ensures.going) in
     subst (λ (v : Option Times). GrownTo content (read + g.end) v
     (c.sequences.bytes + (length g.put.now - (g.rest - g.zero)))) (sym c.once_more-times.ensures)
     (grown_more content read c.sequences.times c.sequences.bytes c.sequences.invariant g first)

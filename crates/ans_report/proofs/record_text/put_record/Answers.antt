@@ -2,7 +2,7 @@ use Rattle.std.proofs.Common.{rules, ◌≡◌, ◌∙◌, ℕ, List, ap}
 use Rattle.ans_model.specs.File.Record.{title_field, author_field, group_field, date_field, font_field, file_size}
 use Rattle.ans_model.specs.File.Record.{comment_count, flags, trimmed}
 use Rattle.ans_model.specs.Text.Hexadecimal.{hex_byte}
-use Rattle.ans_sauce.specs.RecordBytes.{bytes_of}
+use Rattle.ans_sauce.specs.RecordBytes.{sauce_bytes}
 use Rattle.ans_sauce.specs.Parts.{record_of, notes_of}
 use Rattle.ans_write.proofs.PutsLemmas.{Puts-then}
 use Rattle.ans_report.proofs.record_text.put_record.Goals as goal
@@ -10,7 +10,7 @@ use Rattle.ans_report.proofs.record_text.put_record.Goals as goal
 pub returns : goal.returns
 returns g c =
     let r = record_of c.args.parts.now in
-    let sauce : bytes_of c.sauce-sauce.result ≡ r = c.sauce-sauce.ensures in
+    let sauce : sauce_bytes c.sauce-sauce.result ≡ r = c.sauce-sauce.ensures in
     let title : c.title.result.now ≡ trimmed (title_field r) =
     c.title.ensures ∙ ap (λ (b : List ℕ). trimmed (title_field b)) sauce in
     let author : c.author.result.now ≡ trimmed (author_field r) =

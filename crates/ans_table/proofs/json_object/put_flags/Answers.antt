@@ -4,7 +4,7 @@ use Rattle.serde_json.specs.Data.{Data, Members, boolean, put}
 use Rattle.serde_json.specs.View.{members_view, view}
 use Rattle.serde_json.specs.declared.value.Value as value
 use Rattle.ans_model.specs.File.Record.{is_non_blink}
-use Rattle.ans_sauce.specs.RecordBytes.{bytes_of}
+use Rattle.ans_sauce.specs.RecordBytes.{sauce_bytes}
 use Rattle.ans_table.specs.JsonRow.{Named, aspect_values, spacing_values, with_values}
 use Rattle.ans_table.proofs.JsonLemmas.{Adds-then}
 use Rattle.ans_table.proofs.json_object.put_flags.Goals as goal
@@ -28,7 +28,7 @@ returns-in_err-put_spacing c =
 
 pub returns : goal.returns
 returns c =
-    let sauce = bytes_of c.args.sauce.now in
+    let sauce = sauce_bytes c.args.sauce.now in
     let ice : Named = (codes "ice", boolean (is_non_blink sauce)) in
     let old = c.args.members.now.entries in
     let iced = c.put.new.map.entries in

@@ -11,5 +11,6 @@ returns-in-Some-clause-memory c =
     let r : List ℕ = record_in c.args.self.now.file in
     ap memory_of c.state_non_blink.ensures
     ∙ ap (λ (n : ℕ). n + c.args.self.now.room)
-    (recorded_length 105 ((flags r - flags r % 2 + (if c.in-Some.on then 1 else 0)) ∷ []) c.args.self.now.file c.requires
+    (recorded_length 105 ((flags r - flags r % 2 + (if c.in-Some.on then 1 else 0)) ∷ []) c.args.self.now.file
+    c.requires
     (omega arith))
