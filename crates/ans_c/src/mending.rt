@@ -12,7 +12,7 @@ ghost use Rattle.ans_c.specs.Told.{HandsReport, LacksMendingRoom, ReportsMending
 
 use crate::numbers::{NO_ROOM, TOO_LONG, WRONG_NUMBER, mends_of};
 use crate::texts::{Nowhere, hand_over};
-use ans_mend::{Draft, Mended, Unmended, mend_on, put_mended, put_unmended};
+use ans_mend::{Draft, MendError, Mended, Unmended, mend_on, put_mended, put_unmended};
 use ans_model::limits::{MAX_FILE, MAX_LINES, MAX_WIDTH};
 use ans_model::mends::Mends;
 use ans_screen::LentRow;
@@ -74,12 +74,14 @@ fn mend_in(
 {
     let mut draft = copied(memory, file)?;
     match mend_on(screens, &mut draft, mends) {
-        Ok(Ok(changed)) => {
+        Ok(changed) => {
             let size = place(front_bytes(changed.front), draft.file(), mended)?;
             Some((Ok(changed), size))
         }
-        Ok(Err(reason)) => Some((Err(reason), 0)),
-        Err(_) => None,
+        Err(error) => match error {
+            MendError::NotMended(reason) => Some((Err(reason), 0)),
+            MendError::Memory => None,
+        },
     }
 }
 

@@ -322,7 +322,7 @@ fn redrawn_drawing() -> [u8; 160] {
 struct LentForMending {
     rows: [LentRow; 2],
     bytes: [u8; 16],
-    draft: [u8; 131],
+    draft: [u8; 261],
     mended: [u8; 156],
     size: usize,
     text: [u8; 128],
@@ -334,7 +334,7 @@ impl LentForMending {
         LentForMending {
             rows: [LentRow::new(); 2],
             bytes: [0x55; 16],
-            draft: [0x55; 131],
+            draft: [0x55; 261],
             mended: [0x55; 156],
             size: 7,
             text: [0x55; 128],
@@ -396,7 +396,7 @@ fn mended_within(room: Room) -> (u32, usize, usize) {
         0,
         &mut lent.rows[..rows.min(2)],
         &mut lent.bytes[..bytes.min(16)],
-        &mut lent.draft[..draft.min(131)],
+        &mut lent.draft[..draft.min(261)],
         &mut lent.mended[..mended.min(156)],
         &mut lent.size,
         &mut lent.text[..text.min(96)],
@@ -407,13 +407,13 @@ fn mended_within(room: Room) -> (u32, usize, usize) {
 
 #[test]
 fn mending_wants_room(rt: HostRuntime) {
-    assert_eq!(rt; mended_within((2, 16, 131, 156, 42)), (PASS, 156, 42));
-    assert_eq!(rt; mended_within((2, 16, 131, 156, 41)), (NO_ROOM, 156, 42));
+    assert_eq!(rt; mended_within((2, 16, 261, 156, 42)), (PASS, 156, 42));
+    assert_eq!(rt; mended_within((2, 16, 261, 156, 41)), (NO_ROOM, 156, 42));
     let few = [
-        (1, 16, 131, 156, 42),
-        (2, 15, 131, 156, 42),
-        (2, 16, 130, 156, 42),
-        (2, 16, 131, 155, 42),
+        (1, 16, 261, 156, 42),
+        (2, 15, 261, 156, 42),
+        (2, 16, 260, 156, 42),
+        (2, 16, 261, 155, 42),
     ];
     for room in few {
         assert_eq!(rt; mended_within(room), (NO_ROOM, 0, 0));

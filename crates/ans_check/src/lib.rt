@@ -28,7 +28,7 @@ mod streams;
 mod system;
 mod task;
 
-pub use ans_mend::{Mended, Unmended, mend_on};
+pub use ans_mend::{MendError, Mended, Unmended, mend_on};
 pub use ans_model::start::Start;
 pub use ans_options::{
     Asked, Command, Form, Mends, Options, TableForm, Topic, WordsError, asked, options,

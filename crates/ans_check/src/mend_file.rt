@@ -1,27 +1,23 @@
 //! What is written of a file that is to be mended.
-ghost use Rattle.std.specs.Prelude.{◌≡◌, ◌+◌, ◌*◌, ◌≤◌, ◌++◌, length, take};
+ghost use Rattle.std.specs.Prelude.{◌+◌, ◌≤◌, ◌++◌, length, take};
 ghost use Rattle.ans_model.specs.Bytes.{longest_file};
 ghost use Rattle.ans_write.specs.Puts.{Puts};
 ghost use Rattle.ans_mend.specs.Mending.{front_bytes};
-ghost use Rattle.ans_mend.specs.MendingRoom.{most_names, most_put};
+ghost use Rattle.ans_mend.specs.MendingRoom.{most_put};
 ghost use Rattle.ans_check.specs.Ending.{ending_of_mending};
 ghost use Rattle.ans_check.specs.Reported.{PutsTold};
-ghost use Rattle.ans_mend.specs.Mending.{TellsMended, mended_bytes};
+ghost use Rattle.ans_mend.specs.Mending.{TellsMended};
 
 use crate::errors::RunError;
 use crate::exit_status::Ending;
 use crate::task::Task;
-use ans_mend::{Draft, Mended, Unmended, count_line_feeds, mend_on};
-use ans_model::limits::MAX_FILE;
+use ans_mend::{Draft, MendError, Mended, Unmended, mend_on, room_for};
 use ans_options::Mends;
 use ans_verdict::KeptScreens;
 use ans_walks::SAFE_BEGINNING;
 use ans_write::Outbox;
 use std::alloc::{AllocError, Global};
 use std::io::Write;
-
-/// How many bytes a record takes with its end mark, and an end mark behind the content.
-const RECORD_ROOM: usize = 130;
 
 /// Puts the bytes that stand in front, where they are wanted.
 fn put_front<W: Write>(out: &mut Outbox<'_, W>, front: bool)
@@ -40,43 +36,6 @@ fn put_file<W: Write>(out: &mut Outbox<'_, W>, front: bool, draft: &[u8])
     out.put(draft);
 }
 
-/// Puts what came of mending: the file, or nothing where there is none.
-fn put_answer<W: Write>(out: &mut Outbox<'_, W>, answer: &Result<Mended, Unmended>, draft: &[u8])
-    ensures { Puts W.contents out.old out.new (mended_bytes answer.now draft.now) }
-{
-    if let Ok(mended) = answer {
-        put_file(out, mended.front, draft);
-    }
-}
-
-/// How many bytes names of colours are at most, where they are asked for: eight for each byte before the record,
-/// an end mark that is put counted, up to the longest file.
-fn room_for_names(file: &[u8], mends: &Mends) -> usize
-    requires { length file.now ≤ longest_file }
-    ensures value { result ≡ most_names mends.now (length file.now) (length file.now + 1) }
-    ensures few { result ≤ longest_file }
-{
-    if mends.name_colours {
-        (MAX_FILE - file.len()).min(8 * (file.len() + 1))
-    } else {
-        0
-    }
-}
-
-/// How many bytes are put into a file at most: a return before each line feed, names of colours, a record and
-/// end marks.
-fn room_for(file: &[u8], mends: &Mends) -> usize
-    requires { length file.now ≤ longest_file }
-    ensures value { result ≡ most_put mends.now file.now }
-    ensures few { result ≤ 2 * longest_file + 130 }
-{
-    let names = room_for_names(file, mends);
-    if !mends.line_ends {
-        return names + RECORD_ROOM;
-    }
-    count_line_feeds(file) + names + RECORD_ROOM
-}
-
 /// Mends the file in the first `count` bytes of a memory, and puts it.
 fn mend_in<W: Write>(
     alloc: Global,
@@ -90,9 +49,16 @@ fn mend_in<W: Write>(
     ensures { PutsTold W.contents (TellsMended mends.now (take count memory.old)) out.old out.new result }
 {
     let mut draft = Draft::new(memory, count);
-    let answer = mend_on(&mut KeptScreens::new(alloc), &mut draft, mends)?;
-    put_answer(out, &answer, draft.file());
-    Ok(answer)
+    match mend_on(&mut KeptScreens::new(alloc), &mut draft, mends) {
+        Ok(mended) => {
+            put_file(out, mended.front, draft.file());
+            Ok(Ok(mended))
+        }
+        Err(error) => match error {
+            MendError::NotMended(reason) => Ok(Err(reason)),
+            MendError::Memory => Err(AllocError),
+        },
+    }
 }
 
 /// Mends a file, and puts it.

@@ -187,7 +187,7 @@ module _ (mends : Mends) (file draft : List ℕ) (mended : Mended) (bytes : All 
   none_quotes : told ≡ nothing_told → All QuotesBytes told.kinds
   none_quotes is = subst (λ (v : Told). All QuotesBytes v.kinds) (sym is) nothing_quotes
 
-  some_quote : TakesOutOf looked_at h.is_edited.out told → All QuotesBytes told.kinds
+  some_quote : TakesOutOf looked_at h.steps.is_edited.out told → All QuotesBytes told.kinds
   some_quote t =
       subst (λ (v : Told). All QuotesBytes v.kinds) (sym t.told_is)
       (told_quotes nothing_told t.gone nothing_quotes
@@ -195,17 +195,17 @@ module _ (mends : Mends) (file draft : List ℕ) (mended : Mended) (bytes : All 
       (content_is_bytes looked_at looked_at_is_bytes) t.takes_out))
 
   pub told_bytes : All QuotesBytes told.kinds
-  told_bytes = go h.asked.take_out h.is_edited.sequences
+  told_bytes = go h.asked.take_out h.steps.is_edited.sequences
     where
       of_file : (recorded : Bool)
-          → MatchBool recorded (TakesOutOf looked_at h.is_edited.out told)
-          ((h.is_edited.out ≡ looked_at) × (told ≡ nothing_told))
+          → MatchBool recorded (TakesOutOf looked_at h.steps.is_edited.out told)
+          ((h.steps.is_edited.out ≡ looked_at) × (told ≡ nothing_told))
           → All QuotesBytes told.kinds
       of_file true t = some_quote t
       of_file false t = none_quotes t.1
 
-      go : (takes : Bool) → MatchBool takes (AreTakenOut looked_at h.is_edited.out told)
-          ((h.is_edited.out ≡ looked_at) × (told ≡ nothing_told)) → All QuotesBytes told.kinds
+      go : (takes : Bool) → MatchBool takes (AreTakenOut looked_at h.steps.is_edited.out told)
+          ((h.steps.is_edited.out ≡ looked_at) × (told ≡ nothing_told)) → All QuotesBytes told.kinds
       go true t = of_file (has_record looked_at) t
       go false t = none_quotes t.1
 

@@ -132,8 +132,8 @@ module _ (mends : Mends) (no_rows : mends.full_rows ≡ false) (file : List ℕ)
   abbrev z : Size
   z = stated_size (record_in file)
 
-  edited_again : IsEditedAsStated k.asked file k.edited again.edits
-  edited_again = subst (λ (v : List ℕ). IsEditedAsStated k.asked v k.edited again.edits) opened_stays k.is_edited
+  edited_again : IsEditedAsStated k.asked file k.steps.edited again.edits
+  edited_again = subst (λ (v : List ℕ). IsEditedAsStated k.asked v k.steps.edited again.edits) opened_stays k.steps.is_edited
 
   returned_stays : returned k.asked file ≡ file
   returned_stays = go k.asked.line_ends (sym (ap (λ (m : Mends). m.line_ends) k.asked_is))
@@ -205,44 +205,44 @@ module _ (mends : Mends) (no_rows : mends.full_rows ≡ false) (file : List ℕ)
       go true t = of_file (has_record file) t
       go false t = t.0
 
-  pub edited_stays : k.edited ≡ file
+  pub edited_stays : k.steps.edited ≡ file
   edited_stays =
       go k.asked.name_colours (sym (ap (λ (m : Mends). m.name_colours) k.asked_is))
-      (subst (λ (v : List ℕ). AreNamed k.asked v k.edited again.edits.named_colours) ended_stays edited_again.named)
+      (subst (λ (v : List ℕ). AreNamed k.asked v k.steps.edited again.edits.named_colours) ended_stays edited_again.named)
     where
       of_file : (recorded : Bool) → mends.name_colours ≡ true
           → MatchBool recorded ((left : List ℕ) × AreColoursNamed (content_in file) left again.edits.named_colours
-          × (k.edited ≡ with_content left file))
-          ((k.edited ≡ file) × (again.edits.named_colours ≡ None))
-          → k.edited ≡ file
+          × (k.steps.edited ≡ with_content left file))
+          ((k.steps.edited ≡ file) × (again.edits.named_colours ≡ None))
+          → k.steps.edited ≡ file
       of_file true asks (left, named, is) =
           is ∙ ap (λ (v : List ℕ). with_content v file) (names_stay asks left again.edits.named_colours named)
           ∙ same_content file apart accepts
       of_file false asks t = t.0
 
       go : (names : Bool) → mends.name_colours ≡ names
-          → MatchBool names (HasNamedColours file k.edited again.edits.named_colours)
-          ((k.edited ≡ file) × (again.edits.named_colours ≡ None)) → k.edited ≡ file
+          → MatchBool names (HasNamedColours file k.steps.edited again.edits.named_colours)
+          ((k.steps.edited ≡ file) × (again.edits.named_colours ≡ None)) → k.steps.edited ≡ file
       go true asks t = of_file (has_record file) asks t
       go false none t = t.0
 
   -- ---- nor of its lines
-  edited_good : PassesAsStated (record_in k.edited) (content_in k.edited)
+  edited_good : PassesAsStated (record_in k.steps.edited) (content_in k.steps.edited)
   edited_good =
       subst (λ (v : List ℕ). PassesAsStated (record_in v) (content_in v)) (sym edited_stays) (picture, file_good)
 
-  lined_stays : lined k.lines k.edited ≡ file
-  lined_stays = go k.lines k.are_lines
+  lined_stays : lined k.steps.lines k.steps.edited ≡ file
+  lined_stays = go k.steps.lines k.steps.are_lines
     where
       none_taken_for : (lines : ℕ)
-          → TakesLines k.asked (lacks_lines k.asked k.based) (record_in k.edited) (content_in k.edited) lines → ⊥
+          → TakesLines k.asked (lacks_lines k.asked k.based) (record_in k.steps.edited) (content_in k.steps.edited) lines → ⊥
       none_taken_for lines (inl lacks, asked) = true≢false (sym lacks ∙ lacks_none)
       none_taken_for lines (inr bad, asked) = bad edited_good
 
-      go : (lines : Option ℕ) → AreLinesFor k.asked (lacks_lines k.asked k.based) k.edited lines
-          → lined lines k.edited ≡ file
+      go : (lines : Option ℕ) → AreLinesFor k.asked (lacks_lines k.asked k.based) k.steps.edited lines
+          → lined lines k.steps.edited ≡ file
       go None h = edited_stays
       go (Some lines) h = absurd (none_taken_for lines h)
 
   pub settled_stays : k.settled ≡ with_end_mark file
-  settled_stays = k.settled_is ∙ ap with_end_mark lined_stays
+  settled_stays = k.steps.settled_is ∙ ap with_end_mark lined_stays

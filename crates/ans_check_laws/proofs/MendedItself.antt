@@ -103,21 +103,21 @@ module _ (file : List ℕ) (mended : Mended) (draft : List ℕ) (h : IsMended no
   itself_opened =
       ap₂ (λ (m : Mends) (v : List ℕ). opened m v) h.asked_is h.based_is ∙ not_opened h.cut
 
-  itself_edited : h.edited ≡ h.cut
+  itself_edited : h.steps.edited ≡ h.cut
   itself_edited =
-      not_edited (stated_size (record_in h.cut)) h.cut h.edited mended.edits
-      (subst₂ (λ (m : Mends) (v : List ℕ). IsEditedAsStated m v h.edited mended.edits) h.asked_is itself_opened
-      h.is_edited)
+      not_edited (stated_size (record_in h.cut)) h.cut h.steps.edited mended.edits
+      (subst₂ (λ (m : Mends) (v : List ℕ). IsEditedAsStated m v h.steps.edited mended.edits) h.asked_is itself_opened
+      h.steps.is_edited)
 
-  itself_lined : lined h.lines h.edited ≡ h.cut
+  itself_lined : lined h.steps.lines h.steps.edited ≡ h.cut
   itself_lined =
-      not_lined (lacks_lines h.asked h.based) h.edited h.lines
-      (subst (λ (m : Mends). AreLinesFor m (lacks_lines h.asked h.based) h.edited h.lines) h.asked_is h.are_lines)
+      not_lined (lacks_lines h.asked h.based) h.steps.edited h.steps.lines
+      (subst (λ (m : Mends). AreLinesFor m (lacks_lines h.asked h.based) h.steps.edited h.steps.lines) h.asked_is h.steps.are_lines)
       ∙ itself_edited
 
   -- what is written is the file without its tail, with an end mark, and with another FileSize
   itself_settled : h.settled ≡ with_end_mark h.cut
-  itself_settled = h.settled_is ∙ ap with_end_mark itself_lined
+  itself_settled = h.steps.settled_is ∙ ap with_end_mark itself_lined
 
   accepted_settled : (apart : FileParts) → Accepts file apart → h.settled ≡ with_end_mark file
   accepted_settled apart accepts = itself_settled ∙ ap with_end_mark (nothing_cut file apart accepts h.cut h.is_cut)

@@ -18,6 +18,7 @@ use Rattle.ans_sauce.specs.Fields.{with_file_size}
 use Rattle.ans_sauce.proofs.ResizedFiles.{resized_accepted, resized_size}
 use Rattle.ans_sauce.specs.Contents.{content_in}
 use Rattle.ans_mend.specs.EndMark.{with_end_mark}
+use Rattle.ans_mend.specs.declared.outcome.Edits.{Edits}
 use Rattle.ans_mend.specs.declared.outcome.Mended.{Mended}
 use Rattle.ans_mend.specs.declared.outcome.Unmended.{Unmended}
 use Rattle.ans_mend.specs.declared.outcome.Unmended.TheVariants.{Refused, TakesNoRecord, Torn, NoLines, TooLong}
@@ -70,17 +71,17 @@ module _ (mends : Mends) (file draft : List ℕ) (mended : Mended) (h : IsMended
   abbrev z : Size
   z = stated_size (record_in h.settled)
 
-  lines_or_reason : (lines : Option ℕ) (reason : Unmended) → AreLinesFor h.asked lacks h.edited lines
-      → IsReasonOfLines h.asked lacks (record_in h.edited) (content_in h.edited) reason → ⊥
+  lines_or_reason : (lines : Option ℕ) (reason : Unmended) → AreLinesFor h.asked lacks h.steps.edited lines
+      → IsReasonOfLines h.asked lacks (record_in h.steps.edited) (content_in h.steps.edited) reason → ⊥
   lines_or_reason None reason keeps (wants, asks, number) =
-      kept_without h.asked lacks (record_in h.edited) (content_in h.edited) reason reason keeps wants asks number
+      kept_without h.asked lacks (record_in h.steps.edited) (content_in h.steps.edited) reason reason keeps wants asks number
   lines_or_reason (Some n) reason takes (wants, asks, number) =
-      without_number h.asked lacks (record_in h.edited) (content_in h.edited) reason reason n takes asks number
+      without_number h.asked lacks (record_in h.steps.edited) (content_in h.steps.edited) reason reason n takes asks number
 
-  of_edited : (reason : Unmended) → IsReasonOfEdited h.asked lacks h.edited reason → ⊥
-  of_edited reason (inl (is, long)) = let fits = h.edited_sound.1 in omega (arith, long, fits)
-  of_edited reason (inr (inl (fault, is, refused))) = read_or_refused h.edited fault h.edited_sound.0 refused
-  of_edited reason (inr (inr why)) = lines_or_reason h.lines reason h.are_lines why
+  of_edited : (reason : Unmended) → IsReasonOfEdited h.asked lacks h.steps.edited reason → ⊥
+  of_edited reason (inl (is, long)) = let fits = h.steps.edited_sound.1 in omega (arith, long, fits)
+  of_edited reason (inr (inl (fault, is, refused))) = read_or_refused h.steps.edited fault h.steps.edited_sound.0 refused
+  of_edited reason (inr (inr why)) = lines_or_reason h.steps.lines reason h.steps.are_lines why
 
   -- the settled file states the size of the one that is written
   same_size : stated_size h.apart.record_bytes ≡ z
@@ -134,30 +135,31 @@ module _ (mends : Mends) (file draft : List ℕ) (mended : Mended) (h : IsMended
   of_settled NoLines why = why
 
   -- what is settled is one
-  same_settled : (settled : List ℕ) → IsSettled h.asked h.based settled → settled ≡ h.settled
-  same_settled settled g =
-      let edited : g.edited ≡ h.edited =
-      one_edited h.asked (stated_size (record_in (opened h.asked h.based))) (opened h.asked h.based) g.edited h.edited
-      g.edits mended.edits g.is_edited h.is_edited in
-      let moved : AreLinesFor h.asked lacks h.edited g.lines =
+  same_settled : (settled : List ℕ) (edits : Edits) (mark : Option ℕ) → IsSettled h.asked h.based edits mark settled
+      → settled ≡ h.settled
+  same_settled settled edits mark g =
+      let edited : g.edited ≡ h.steps.edited =
+      one_edited h.asked (stated_size (record_in (opened h.asked h.based))) (opened h.asked h.based) g.edited h.steps.edited
+      edits mended.edits g.is_edited h.steps.is_edited in
+      let moved : AreLinesFor h.asked lacks h.steps.edited g.lines =
       subst (λ (v : List ℕ). AreLinesFor h.asked lacks v g.lines) edited g.are_lines in
-      let lines : g.lines ≡ h.lines = one_lines h.asked lacks h.edited g.lines h.lines moved h.are_lines in
+      let lines : g.lines ≡ h.steps.lines = one_lines h.asked lacks h.steps.edited g.lines h.steps.lines moved h.steps.are_lines in
       g.settled_is ∙ ap₂ (λ (v : Option ℕ) (w : List ℕ). with_end_mark (lined v w)) lines edited
-      ∙ sym h.settled_is
+      ∙ sym h.steps.settled_is
 
   no_reason_for : (reason : Unmended) → IsReasonFor h.asked h.based reason → ⊥
   no_reason_for reason (inl (is, inl long)) = let fits = h.based_fits in omega (arith, long, fits)
-  no_reason_for reason (inl (is, inr long)) = let fits = h.is_edited.fits in omega (arith, long, fits)
+  no_reason_for reason (inl (is, inr long)) = let fits = h.steps.is_edited.fits in omega (arith, long, fits)
   no_reason_for reason (inr (inl (fault, is, refused))) =
-      read_or_refused (opened h.asked h.based) fault h.opened_read refused
+      read_or_refused (opened h.asked h.based) fault h.steps.opened_read refused
   no_reason_for reason (inr (inr (inl (read, edited, edits, is_edited, why)))) =
-      let same : edited ≡ h.edited =
-      one_edited h.asked (stated_size (record_in (opened h.asked h.based))) (opened h.asked h.based) edited h.edited
-      edits mended.edits is_edited h.is_edited in
+      let same : edited ≡ h.steps.edited =
+      one_edited h.asked (stated_size (record_in (opened h.asked h.based))) (opened h.asked h.based) edited h.steps.edited
+      edits mended.edits is_edited h.steps.is_edited in
       of_edited reason (subst (λ (v : List ℕ). IsReasonOfEdited h.asked lacks v reason) same why)
-  no_reason_for reason (inr (inr (inr (settled, is_settled, why)))) =
+  no_reason_for reason (inr (inr (inr (settled, edits, mark, is_settled, why)))) =
       of_settled reason
-      (subst (λ (v : List ℕ). IsReasonOfContent h.asked v reason) (same_settled settled is_settled) why)
+      (subst (λ (v : List ℕ). IsReasonOfContent h.asked v reason) (same_settled settled edits mark is_settled) why)
 
   pub mended_or_not : (reason : Unmended) → ¬ IsReason mends file reason
   mended_or_not reason (cut, is_cut, why) =

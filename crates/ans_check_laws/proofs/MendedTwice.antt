@@ -202,30 +202,30 @@ module _ (mends : Mends) (file : List ℕ) (mended : Mended) (draft : List ℕ) 
       (sym first ∙ ap (take 5) (sym its_record) ∙ h.accepts.laid.id)
 
   abbrev with_its_lines : List ℕ
-  with_its_lines = lined h.lines h.edited
+  with_its_lines = lined h.steps.lines h.steps.edited
 
   has_lined : has_record with_its_lines ≡ true
-  has_lined = mark_had with_its_lines (ap has_record (sym h.settled_is) ∙ has_by h.settled settled_long settled_id)
+  has_lined = mark_had with_its_lines (ap has_record (sym h.steps.settled_is) ∙ has_by h.settled settled_long settled_id)
 
-  had : (lines : Option ℕ) → has_record (lined lines h.edited) ≡ true → has_record h.edited ≡ true
+  had : (lines : Option ℕ) → has_record (lined lines h.steps.edited) ≡ true → has_record h.steps.edited ≡ true
   had None has = has
-  had (Some n) has = lines_had n h.edited has
+  had (Some n) has = lines_had n h.steps.edited has
 
-  kept : (lines : Option ℕ) → has_record h.edited ≡ true → content_in (lined lines h.edited) ≡ content_in h.edited
+  kept : (lines : Option ℕ) → has_record h.steps.edited ≡ true → content_in (lined lines h.steps.edited) ≡ content_in h.steps.edited
   kept None has = refl
-  kept (Some n) has = lines_kept n h.edited has
+  kept (Some n) has = lines_kept n h.steps.edited has
 
-  has_edited : has_record h.edited ≡ true
-  has_edited = had h.lines has_lined
+  has_edited : has_record h.steps.edited ≡ true
+  has_edited = had h.steps.lines has_lined
 
-  same_content : content_in h.settled ≡ content_in h.edited
-  same_content = ap content_in h.settled_is ∙ mark_kept with_its_lines has_lined ∙ kept h.lines has_edited
+  same_content : content_in h.settled ≡ content_in h.steps.edited
+  same_content = ap content_in h.steps.settled_is ∙ mark_kept with_its_lines has_lined ∙ kept h.steps.lines has_edited
 
   -- ---- its names
 
   -- the file before its colours are named
   abbrev ended : List ℕ
-  ended = h.is_edited.ended
+  ended = h.steps.is_edited.ended
 
   abbrev times : Option Times
   times = mended.edits.named_colours
@@ -234,21 +234,21 @@ module _ (mends : Mends) (file : List ℕ) (mended : Mended) (draft : List ℕ) 
   has_ended = go (has_record ended) refl
     where
       same : (names : Bool) → has_record ended ≡ false
-          → MatchBool names (HasNamedColours ended h.edited times) ((h.edited ≡ ended) × (times ≡ None))
-          → h.edited ≡ ended
+          → MatchBool names (HasNamedColours ended h.steps.edited times) ((h.steps.edited ≡ ended) × (times ≡ None))
+          → h.steps.edited ≡ ended
       same true is t = (off (has_record ended) _ is t).0
       same false is t = t.0
 
       go : (recorded : Bool) → has_record ended ≡ recorded → has_record ended ≡ true
       go true is = is
-      go false is = ap has_record (sym (same h.asked.name_colours is h.is_edited.named)) ∙ has_edited
+      go false is = ap has_record (sym (same h.asked.name_colours is h.steps.is_edited.named)) ∙ has_edited
 
   -- where names are asked for
   module _ (asks : mends.name_colours ≡ true) where
-    pub put : (left : List ℕ) × AreColoursNamed (content_in ended) left times × (h.edited ≡ with_content left ended)
+    pub put : (left : List ℕ) × AreColoursNamed (content_in ended) left times × (h.steps.edited ≡ with_content left ended)
     put =
         let names_on : h.asked.name_colours ≡ true = ap (λ (m : Mends). m.name_colours) h.asked_is ∙ asks in
-        on (has_record ended) _ has_ended (on h.asked.name_colours _ names_on h.is_edited.named)
+        on (has_record ended) _ has_ended (on h.asked.name_colours _ names_on h.steps.is_edited.named)
 
     pub left_is : content_in h.settled ≡ put.0
     left_is =
@@ -258,10 +258,10 @@ module _ (mends : Mends) (file : List ℕ) (mended : Mended) (draft : List ℕ) 
         (nothing_named (content_in ended) put.0 times put.1)
 
     -- where no lines are taken, the record is as it was
-    pub record_is : lined h.lines h.edited ≡ h.edited → record_in h.settled ≡ record_in ended
+    pub record_is : lined h.steps.lines h.steps.edited ≡ h.steps.edited → record_in h.settled ≡ record_in ended
     record_is same =
-        ap record_in h.settled_is ∙ ap (λ (v : List ℕ). record_in (with_end_mark v)) same
-        ∙ mark_record h.edited has_edited ∙ ap record_in put.2 ∙ record_stays ended has_ended put.0
+        ap record_in h.steps.settled_is ∙ ap (λ (v : List ℕ). record_in (with_end_mark v)) same
+        ∙ mark_record h.steps.edited has_edited ∙ ap record_in put.2 ∙ record_stays ended has_ended put.0
 
     -- what passes can be read
     pub was_named : NamesColours (content_in ended) put.0 times
@@ -306,9 +306,9 @@ module _ (mends : Mends) (file : List ℕ) (mended : Mended) (draft : List ℕ) 
         let rows_off : h.asked.full_rows ≡ false =
         ap (λ (m : Mends). m.full_rows) h.asked_is ∙ no_rows in
         let ends_on : h.asked.line_ends ≡ true = ap (λ (m : Mends). m.line_ends) h.asked_is ∙ puts in
-        (off h.asked.take_out _ keeps_all h.is_edited.ends).0
-        ∙ (off h.asked.full_rows _ rows_off h.is_edited.rows).0
-        ∙ (off h.asked.take_out _ keeps_all h.is_edited.sequences).0
+        (off h.asked.take_out _ keeps_all h.steps.is_edited.ends).0
+        ∙ (off h.asked.full_rows _ rows_off h.steps.is_edited.rows).0
+        ∙ (off h.asked.take_out _ keeps_all h.steps.is_edited.sequences).0
         ∙ ap (λ (b : Bool). if b then with_line_ends was else was) ends_on
 
     has_was : has_record was ≡ true
@@ -337,7 +337,7 @@ module _ (mends : Mends) (file : List ℕ) (mended : Mended) (draft : List ℕ) 
             let names_off : h.asked.name_colours ≡ false =
             ap (λ (m : Mends). m.name_colours) h.asked_is ∙ none in
             ap wants_returns (same_content
-            ∙ ap content_in (off h.asked.name_colours _ names_off h.is_edited.named).0)
+            ∙ ap content_in (off h.asked.name_colours _ names_off h.steps.is_edited.named).0)
             ∙ ended_wants_none
 
     shown_wants_none : wants_returns shown ≡ false
@@ -424,7 +424,7 @@ own_colours_gone laws none_own mends file draft mended asks h z s =
     subst (λ (v : List ℕ). (tokens : List TokenKind) (reads : Reads v tokens)
     → (mended.front ≡ false → begins_unnamed (spelled tokens reads.0) ≡ false)
     → NeverOwn z s (spelled tokens reads.0)) (sym is)
-    (own_gone laws (content_in h.is_edited.ended) was.tokens was.reads none_own z s mended.front) h.from_every.tokens
+    (own_gone laws (content_in h.steps.is_edited.ended) was.tokens was.reads none_own z s mended.front) h.from_every.tokens
     h.from_every.reads (begins mended.front h.front h.content_is)
   where
     begins : (front : Bool)

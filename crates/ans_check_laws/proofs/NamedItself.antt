@@ -44,17 +44,17 @@ module _ (cells : CellsStay) (file draft : List ℕ) (apart : FileParts) (pictur
   its_opened : opened h.asked h.based ≡ h.cut
   its_opened = ap₂ (λ (m : Mends) (v : List ℕ). opened m v) h.asked_is h.based_is ∙ not_opened h.cut
 
-  ended_is : h.is_edited.ended ≡ file
+  ended_is : h.steps.is_edited.ended ≡ file
   ended_is =
-      subst₂ (λ (m : Mends) (v : List ℕ). (e : IsEditedAsStated m v h.edited mended.edits) → e.ended ≡ v)
+      subst₂ (λ (m : Mends) (v : List ℕ). (e : IsEditedAsStated m v h.steps.edited mended.edits) → e.ended ≡ v)
       (sym h.asked_is) (sym its_opened)
-      (λ e. not_changed (stated_size (record_in h.cut)) h.cut h.edited mended.edits e) h.is_edited
+      (λ e. not_changed (stated_size (record_in h.cut)) h.cut h.steps.edited mended.edits e) h.steps.is_edited
       ∙ its_opened ∙ nothing_cut file apart passes.accepts h.cut h.is_cut
 
-  not_taken : lined h.lines h.edited ≡ h.edited
+  not_taken : lined h.steps.lines h.steps.edited ≡ h.steps.edited
   not_taken =
-      not_lined (lacks_lines h.asked h.based) h.edited h.lines
-      (subst (λ (m : Mends). AreLinesFor m (lacks_lines h.asked h.based) h.edited h.lines) h.asked_is h.are_lines)
+      not_lined (lacks_lines h.asked h.based) h.steps.edited h.steps.lines
+      (subst (λ (m : Mends). AreLinesFor m (lacks_lines h.asked h.based) h.steps.edited h.steps.lines) h.asked_is h.steps.are_lines)
 
   same_record : record_in h.settled ≡ apart.record_bytes
   same_record =
@@ -67,12 +67,12 @@ module _ (cells : CellsStay) (file draft : List ℕ) (apart : FileParts) (pictur
       ∙ ap (with_file_size mended.file_size.is) same_record)
       ∙ resized_size [] refl mended.file_size.is file apart passes.accepts
 
-  was : NamesColours (content_in h.is_edited.ended) (put names file mended draft h refl).0 mended.edits.named_colours
+  was : NamesColours (content_in h.steps.is_edited.ended) (put names file mended draft h refl).0 mended.edits.named_colours
   was = was_named names file mended draft h refl
 
   same_tokens : spelled was.tokens was.reads.0 ≡ spelled passes.good.tokens passes.good.reads.0
   same_tokens =
-      one_spelling (content_in h.is_edited.ended) was.tokens passes.good.tokens was.reads (
+      one_spelling (content_in h.steps.is_edited.ended) was.tokens passes.good.tokens was.reads (
         passes.good.reads.0,
         subst (λ (v : List ℕ). ReadsAs v passes.good.tokens passes.good.reads.0)
             (sym (ap content_in ended_is ∙ ap content (laid_body file apart passes.accepts.laid))) passes.good.reads.1,

@@ -1,6 +1,6 @@
 -- Why a file that passes from the cleared start is not mended by itself.
 use Rattle.std.proofs.Common.{◌≡◌, inl, inr, ℕ, suc, ◌+◌, ◌≤◌, ◌<◌, Bool, true, false, List, [], ◌∷◌, ◌++◌, length}
-use Rattle.std.proofs.Common.{take, drop, refl, sym, ap, ◌∙◌, arith, subst, subst₂, true≢false}
+use Rattle.std.proofs.Common.{take, drop, refl, sym, ap, ◌∙◌, arith, subst, subst₂, true≢false, Option}
 use Rattle.std.specs.Prelude.{if◌then◌else◌, IsTrue}
 use Rattle.std.specs.List.{list_all, list_any, position_or_len}
 use Rattle.std.proofs.Math.Seq.{drop-append_seam}
@@ -136,11 +136,12 @@ module _ (file : List ℕ) (apart : FileParts) (picture : Picture) (passes : Pas
       not_edited (stated_size (record_in file)) file edited edits
       (subst (λ (v : List ℕ). IsEditedAsStated no_mends.NONE v edited edits) stays h)
 
-  settled_is : (settled : List ℕ) → IsSettled no_mends.NONE file settled → settled ≡ with_end_mark file
-  settled_is settled h =
+  settled_is : (settled : List ℕ) (edits : Edits) (mark : Option ℕ) → IsSettled no_mends.NONE file edits mark settled
+      → settled ≡ with_end_mark file
+  settled_is settled edits mark h =
       h.settled_is
       ∙ ap with_end_mark (not_lined (lacks_lines no_mends.NONE file) h.edited h.lines h.are_lines
-      ∙ edited_is h.edited h.edits h.is_edited)
+      ∙ edited_is h.edited edits h.is_edited)
 
   reason_for : (reason : Unmended) → IsReasonFor no_mends.NONE file reason → IsTooLongItself reason
   reason_for reason (inl (is, inl long)) = (is, omega (arith, long, longer))
@@ -153,9 +154,9 @@ module _ (file : List ℕ) (apart : FileParts) (picture : Picture) (passes : Pas
       of_edited reason
       (subst (λ (v : List ℕ). IsReasonOfEdited no_mends.NONE (lacks_lines no_mends.NONE file) v reason)
       (edited_is edited edits is_edited) why)
-  reason_for reason (inr (inr (inr (settled, is_settled, why)))) =
+  reason_for reason (inr (inr (inr (settled, edits, mark, is_settled, why)))) =
       of_settled reason
-      (subst (λ (v : List ℕ). IsReasonOfContent no_mends.NONE v reason) (settled_is settled is_settled) why)
+      (subst (λ (v : List ℕ). IsReasonOfContent no_mends.NONE v reason) (settled_is settled edits mark is_settled) why)
 
   pub too_long_itself : (reason : Unmended) → IsReason no_mends.NONE file reason → IsTooLongItself reason
   too_long_itself reason (cut, is_cut, why) =

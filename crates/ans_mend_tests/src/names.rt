@@ -101,12 +101,13 @@ const BEHIND: usize = 129;
 #[test]
 fn colours_are_named(rt: HostRuntime) {
     for (content, named, unnamed) in &NAMED {
-        let mut memory = [0; 256];
+        let mut memory = [0; 1024];
         let count = content.len();
-        assert!(rt; count < memory.len());
+        assert!(rt; count < 64);
         memory[..count].copy_from_slice(content);
         let mut draft = Draft::new(&mut memory, count);
-        assert!(rt; draft.give_record(80).is_ok());
+        assert!(rt; draft.give_record(80).is_some());
+        assert!(rt; draft.file().len() <= 200 && draft.room() >= 288);
         assert!(rt; draft.name_colours().is_ok());
         let file = draft.file();
         assert!(rt;
@@ -116,15 +117,4 @@ fn colours_are_named(rt: HostRuntime) {
         );
         assert_eq!(rt; begins_unnamed(content), *unnamed);
     }
-}
-
-#[test]
-fn names_want_room(rt: HostRuntime) {
-    let content = b"\x1b[0mA";
-    let mut memory = [0; 139];
-    memory[..content.len()].copy_from_slice(content);
-    let mut draft = Draft::new(&mut memory, content.len());
-    assert!(rt; draft.give_record(80).is_ok());
-    assert!(rt; draft.name_colours().is_err());
-    assert_eq!(rt; draft.file().len(), content.len() + BEHIND);
 }

@@ -1,6 +1,6 @@
 //! Files that are mended, and why others are not.
 use ans_check::{Mends, NewScreens, mend_on};
-use ans_mend::{Draft, Unmended};
+use ans_mend::{Draft, MendError, Mended, Unmended, room_for};
 use ans_model::fault::{Cause, Fault};
 use ans_samples::sample_file;
 use ans_sauce::MAX_FILE;
@@ -621,25 +621,35 @@ fn bytes_of(rt: &impl AllocGlobal, (front, edits, behind): &Sample) -> Result<Ve
     Ok(file)
 }
 
-/// A file in memory that has room for three bytes more, and how long it is.
-fn with_room(rt: &impl AllocGlobal, sample: &Sample) -> Result<(Vec<u8>, usize), AllocError> {
-    let mut memory = bytes_of(rt, sample)?;
+/// What comes of a file in memory, for which that gets as much room as may be put into it, and what is then in the
+/// draft.
+fn mended(
+    rt: &(impl Abort + AllocGlobal),
+    mut memory: Vec<u8>,
+    mends: &Mends,
+) -> Result<(Result<Mended, Unmended>, Vec<u8>), AllocError> {
     let count = memory.len();
-    memory.extend_from_slice(b"???")?;
-    Ok((memory, count))
+    assert!(rt; count <= MAX_FILE);
+    memory.resize(count + room_for(memory.as_slice(), mends), b'?')?;
+    assert!(rt; count <= memory.len());
+    let mut draft = Draft::new(memory.as_mut_slice(), count);
+    let mut screens = NewScreens::<PlaneGrid>::new(rt.alloc());
+    let answer = match mend_on(&mut screens, &mut draft, mends) {
+        Ok(mended) => Ok(mended),
+        Err(MendError::NotMended(reason)) => Err(reason),
+        Err(MendError::Memory) => return Err(AllocError),
+    };
+    let file = draft.file().to_vec(rt.alloc())?;
+    Ok((answer, file))
 }
 
 /// Asserts what comes of files.
 fn expect_mended(rt: &(impl Abort + AllocGlobal), rows: &[Row]) -> Result<(), AllocError> {
     for (sample, mends, front, expected) in rows {
-        let (mut memory, count) = with_room(rt, sample)?;
-        assert!(rt; count <= memory.len() && count <= MAX_FILE);
-        let mut draft = Draft::new(memory.as_mut_slice(), count);
-        let mut screens = NewScreens::<PlaneGrid>::new(rt.alloc());
-        let answer = mend_on(&mut screens, &mut draft, mends)?;
+        let (answer, file) = mended(rt, bytes_of(rt, sample)?, mends)?;
         let put = answer.map(|mended| mended.front);
         let expected = bytes_of(rt, expected)?;
-        assert_eq!(rt; (put, draft.file()), (Ok(*front), expected.as_slice()));
+        assert_eq!(rt; (put, file.as_slice()), (Ok(*front), expected.as_slice()));
     }
     Ok(())
 }
@@ -661,37 +671,20 @@ fn full_rows_are_joined(rt: HostRuntime) -> Result<(), AllocError> {
 
 #[test]
 fn colours_are_named(rt: HostRuntime) -> Result<(), AllocError> {
-    for (sample, mends, front, expected) in &NAMED {
-        let mut memory = bytes_of(&rt, sample)?;
-        let count = memory.len();
-        memory.extend_from_slice(b"???????")?;
-        assert!(rt; count <= memory.len() && count <= MAX_FILE);
-        let mut draft = Draft::new(memory.as_mut_slice(), count);
-        let mut screens = NewScreens::<PlaneGrid>::new(rt.alloc());
-        let answer = mend_on(&mut screens, &mut draft, mends)?;
-        let put = answer.map(|mended| mended.front);
-        let expected = bytes_of(&rt, expected)?;
-        assert_eq!(rt; (put, draft.file()), (Ok(*front), expected.as_slice()));
-    }
-    Ok(())
+    expect_mended(&rt, &NAMED)
 }
 
 #[test]
 fn files_without_a_record_are_given_one(rt: HostRuntime) -> Result<(), AllocError> {
     for (file, mends, expected) in &GIVEN {
-        let mut memory = file.to_vec(rt.alloc())?;
-        memory.extend_from_slice(&[b'?'; 131])?;
-        assert!(rt; file.len() <= memory.len() && file.len() <= MAX_FILE);
-        let mut draft = Draft::new(memory.as_mut_slice(), file.len());
-        let mut screens = NewScreens::<PlaneGrid>::new(rt.alloc());
-        let answer = mend_on(&mut screens, &mut draft, mends)?;
+        let (answer, new) = mended(&rt, file.to_vec(rt.alloc())?, mends)?;
         let given = answer.map(|mended| (
             mended.front,
             mended.given_record.map(|given| given.width),
         ));
         let expected = bytes_of(&rt, expected)?;
         assert_eq!(rt;
-            (given, draft.file()),
+            (given, new.as_slice()),
             (Ok((true, mends.width)), expected.as_slice())
         );
     }
@@ -834,11 +827,7 @@ static REFUSED: [(Sample, Mends, Unmended); 23] = [
 #[test]
 fn others_are_not(rt: HostRuntime) -> Result<(), AllocError> {
     for (sample, mends, reason) in &REFUSED {
-        let (mut memory, count) = with_room(&rt, sample)?;
-        assert!(rt; count <= memory.len() && count <= MAX_FILE);
-        let mut draft = Draft::new(memory.as_mut_slice(), count);
-        let mut screens = NewScreens::<PlaneGrid>::new(rt.alloc());
-        let answer = mend_on(&mut screens, &mut draft, mends)?;
+        let (answer, _) = mended(&rt, bytes_of(&rt, sample)?, mends)?;
         assert_eq!(rt; answer.err(), Some(*reason));
     }
     Ok(())
