@@ -21,6 +21,7 @@ use Rattle.ans_mend.specs.NameSearch.{bytes_of}
 use Rattle.ans_mend.specs.declared.naming.Way.{Way}
 use Rattle.ans_mend.specs.declared.naming.Way.TheVariants.{Within, After, Between}
 use Rattle.ans_check_laws.proofs.ReturnsPut.{wants_by}
+use Rattle.ans_names_laws.proofs.NothingNamed.{spelled_bytes}
 
 -- none of the bytes with which names are put passes
 record IsQuiet (p : ℕ → Bool) : Type 0 where
@@ -128,13 +129,6 @@ module _ (p : ℕ → Bool) (quiet : IsQuiet p) where
       list_any-append p (named_sequence (names_behind_token x xs) x) (named_content xs)
       ∙ ap₂ (λ (a b : Bool). a || b) (sequence_same (names_behind_token x xs) x) (content_same xs)
       ∙ sym (list_any-append p x.text (bytes_of xs))
-
-spelled_bytes : (tokens : List TokenKind) (texts : List (List ℕ)) → AllZip SpellsToken tokens texts
-    → bytes_of (spelled tokens texts) ≡ concat texts
-spelled_bytes [] [] h = refl
-spelled_bytes [] (x ∷ texts) h = absurd h
-spelled_bytes (t ∷ tokens) [] h = absurd h
-spelled_bytes (t ∷ tokens) (x ∷ texts) h = ap (λ (v : List ℕ). x ++ v) (spelled_bytes tokens texts h.1)
 
 -- ---- a content
 

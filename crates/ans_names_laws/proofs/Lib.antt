@@ -1,4 +1,4 @@
-mod NothingNamed
+pub mod NothingNamed
 mod ColourTexts
 mod CutSequences
 mod NamedParts

@@ -72,7 +72,7 @@ stays z h (x ∷ xs) never =
         rw is (ap (λ (v : Names). are_both (names_at_print v xs)) same ∙ next) in
         rw both refl
 
-spelled_bytes : (tokens : List TokenKind) (texts : List (List ℕ)) → AllZip SpellsToken tokens texts
+pub spelled_bytes : (tokens : List TokenKind) (texts : List (List ℕ)) → AllZip SpellsToken tokens texts
     → bytes_of (spelled tokens texts) ≡ concat texts
 spelled_bytes [] [] h = refl
 spelled_bytes [] (x ∷ texts) h = absurd h

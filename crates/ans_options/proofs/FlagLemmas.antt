@@ -1,5 +1,6 @@
 -- An argument that a command does not take has no row in its matches. So without flags nothing is known of the start.
 use Rattle.std.proofs.Common.{◌≡◌, ◌≢◌, ◌∙◌, Bool, ◌&&◌, ◌||◌, true, false, true≢false, List, [], ◌∷◌, Option, Some}
+use Rattle.std.proofs.lemmas.Bool.{or_parts}
 use Rattle.std.proofs.Common.{String, Vec, None, refl, sym, subst, inl, inr, codes}
 use Rattle.std.specs.Global.{Global}
 use Rattle.std.specs.Prelude.{option_map, string_bytes, IsSomeAnd, if◌then◌else◌}
@@ -25,7 +26,7 @@ use Rattle.ans_options.specs.CommandLine.{command_name, mend_options, redraw_opt
 use Rattle.ans_options.specs.CommandLine.{words_meant}
 use Rattle.ans_options.specs.CommandLine.{holds_flag, named_start, part_flags, start_asked, takes_flags}
 use Rattle.ans_options.proofs.CommandLineLemmas.{MetIn, not_true, program_met}
-use Rattle.ans_options.proofs.RowLemmas.{Lacks, neither, never_has, unfound, unheld}
+use Rattle.ans_options.proofs.RowLemmas.{Lacks, never_has, unfound, unheld}
 
 -- whether one of the subcommands has this name and an argument of this id
 abbrev is_taken : Text → Text → List Shape → Bool
@@ -44,7 +45,7 @@ lacks_in : (id : Text) (w : List Text) (shapes : List Shape) (met : Text × List
     → is_taken id met.0 shapes ≡ false → Lacks id met.1
 lacks_in id w [] met never none = absurd never
 lacks_in id w (s ∷ shapes) met (inr behind) none =
-    lacks_in id w shapes met behind (neither _ (is_taken id met.0 shapes) none).1
+    lacks_in id w shapes met behind (or_parts _ (is_taken id met.0 shapes) none).1
 lacks_in id w (s ∷ shapes) met (inl here) none =
     subst (λ (m : Text × List Row). is_taken id m.0 (s ∷ shapes) ≡ false → Lacks id m.1) here own none
   where
@@ -52,7 +53,7 @@ lacks_in id w (s ∷ shapes) met (inl here) none =
     own free =
         never_has id s.rules [] w
         (second_false (bytes_eq s.name s.name) _ ((bytes_eq-Decides s.name s.name).1 refl)
-        (neither _ (is_taken id s.name shapes) free).0)
+        (or_parts _ (is_taken id s.name shapes) free).0)
 
 -- the subcommand that the words name: it is this command's, asks so, and lacks what the command does not take
 record Met (words : List Text) (c : Command) (Asks : Text × List Row → Type 0) : Type 0 where
@@ -110,7 +111,7 @@ none_held : (c : Command) (rows : List Row) (flags : List Text) → ((id : Text)
     → list_any (λ flag. takes flag c) flags ≡ false → list_any (λ flag. holds_flag flag rows) flags ≡ false
 none_held c rows [] lacks none = refl
 none_held c rows (flag ∷ flags) lacks none =
-    let parts = neither (takes flag c) _ none in
+    let parts = or_parts (takes flag c) _ none in
     rw (unheld flag rows (lacks flag parts.0)) (none_held c rows flags lacks parts.1)
 
 none_asked : (c : Command) (rows : List Row) → takes_flags c ≡ false

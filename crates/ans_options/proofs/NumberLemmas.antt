@@ -1,6 +1,7 @@
 -- Where words have no fault, each value of an option has passed the parser of the option. So a number of `mend` is in
 -- its range.
 use Rattle.std.proofs.Common.{◌≡◌, ℕ, zero, suc, Bool, true, false, true≢false, List, [], ◌∷◌, ◌++◌, Option, Some, None}
+use Rattle.std.proofs.lemmas.Bool.{or_parts}
 use Rattle.std.proofs.Common.{◌∙◌, ◌+◌, ◌&&◌, ◌==◌, not, cond, length, drop, min, is_some, ap, refl, sym, subst}
 use Rattle.std.proofs.Common.{arith, codes}
 use Rattle.std.specs.Prelude.{IfSome, find, fold, if◌then◌else◌, slice_get, encode_utf8, option_map, pos, ⊤}
@@ -51,7 +52,6 @@ use Rattle.clap.proofs.WalkLemmas.{one_text-rows}
 use Rattle.ans_options.specs.CommandLine.{HasNumberUpTo, HasNumbersOfMend, IsNumberUpTo, anscheck}
 use Rattle.ans_options.specs.CommandLine.{number_asked, number_written, numbers_up_to}
 use Rattle.ans_options.proofs.CommandLineLemmas.{some_same}
-use Rattle.ans_options.proofs.RowLemmas.{neither}
 
 -- the values of a row passed the parser, and are read as it says
 abbrev Passed : ValueParser → Row → Type 0
@@ -497,7 +497,7 @@ others : (id : Text) (p : ValueParser) (rules : List Rule) → list_any (λ a. b
     → AreParsedBy id p rules
 others id p [] none = tt
 others id p (a ∷ rest) none =
-    let parts = neither (bytes_eq a.id id) (list_any (λ r. bytes_eq r.id id) rest) none in
+    let parts = or_parts (bytes_eq a.id id) (list_any (λ r. bytes_eq r.id id) rest) none in
     ((λ e. absurd (true≢false (sym e ∙ parts.0))), others id p rest parts.1)
 
 -- what is false is not true
@@ -513,7 +513,7 @@ others_of : (id : Text) (p : ValueParser) (shapes : List Shape)
     → list_any (λ s. list_any (λ a. bytes_eq a.id id) s.rules) shapes ≡ false → AllParsedBy id p shapes
 others_of id p [] none = tt
 others_of id p (s ∷ rest) none =
-    let parts = neither (list_any (λ a. bytes_eq a.id id) s.rules)
+    let parts = or_parts (list_any (λ a. bytes_eq a.id id) s.rules)
     (list_any (λ x. list_any (λ a. bytes_eq a.id id) x.rules) rest) none in
     (others id p s.rules parts.0, others_of id p rest parts.1)
 

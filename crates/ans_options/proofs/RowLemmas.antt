@@ -37,11 +37,6 @@ IsOther id a = bytes_eq a.id id ≡ false
 abbrev NoneHas : Text → List Rule → Type 0
 NoneHas id rules = list_any (λ a. bytes_eq a.id id) rules ≡ false
 
--- both sides of an `or` that is false are
-pub neither : (a b : Bool) → (a || b) ≡ false → (a ≡ false) × (b ≡ false)
-neither true b e = cc
-neither false b e = (refl, e)
-
 -- and an `or` is false where both sides are
 pub nor : (a b : Bool) → a ≡ false → b ≡ false → (a || b) ≡ false
 nor true b e f = cc

@@ -21,7 +21,7 @@ use Rattle.ans_players.specs.Grips.{Firm, Stand, firmly}
 use Rattle.ans_players.specs.Mends.{mending_spelled}
 use Rattle.ans_players.specs.Players.{Behaviour, IsPlayer}
 use Rattle.ans_players.specs.Situations.{Spelled, AreAgreed, spelled, stand_behind}
-use Rattle.ans_players.proofs.Along.{kinds_of}
+use Rattle.ans_players.proofs.Along.{kinds_of, state_after}
 use Rattle.ans_players_laws.proofs.Everywhere.{shown_by}
 use Rattle.ans_players.proofs.MendedPlayers.{mending_leaves, named}
 use Rattle.ans_players.proofs.OneSpelling.{one_spelling}
@@ -151,12 +151,6 @@ module _ (agreed : Kind → Bool) (z : Size) (picture : Picture) (drawable : IsD
 
   form_goes : (s : State) → AllGoWell z agreed (firmly s) (form picture)
   form_goes s = (form_drawn s).leads.well
-
--- ---- the screen behind it
-state_after : (z : Size) (h : Stand) (xs : List Spelled)
-    → (fold (stand_behind z) h xs).state ≡ final z h.state (kinds_of xs)
-state_after z h [] = refl
-state_after z h (x ∷ xs) = state_after z (stand_behind z h x) xs
 
 -- all cells are drawn
 drawn_cell : (z : Size) (cells : List Cell) (k : ℕ) → k < length cells

@@ -8,18 +8,13 @@ use Rattle.ans_model.specs.Screen.StartClass.{all_but_saved, all_but_colours, al
 use Rattle.ans_model.specs.Verdict.Good.{IsGood}
 use Rattle.ans_model.specs.Verdict.Needs.{IsLeast, IsFoundByParts}
 use Rattle.ans_model.specs.declared.start.Start.{Start}
-use Rattle.ans_model.proofs.ClassLemmas.{covers_itself, covers_good, covers_all_but_screen, covers_all_but_cursor}
+use Rattle.ans_model.proofs.ClassLemmas.{covers_both_ways, covers_itself, covers_good, covers_all_but_screen}
+use Rattle.ans_model.proofs.ClassLemmas.{covers_all_but_cursor}
 use Rattle.ans_model.proofs.ClassLemmas.{covers_all_but_saved, covers_all_but_colours, covers_all_but_wrap}
 use Rattle.ans_play.proofs.GoodFromBoth.{good_from_both}
 use Rattle.ans_play.proofs.WholeBytes.{good_or_not}
 
 -- ---- classes
--- truths that say the same are the same
-same_truth : (p q : Bool) → (IsTrue p → IsTrue q) → (IsTrue q → IsTrue p) → p ≡ q
-same_truth true q there back = let e : q ≡ true = there refl in cc
-same_truth false true there back = back refl
-same_truth false false there back = refl
-
 class_of : Bool → Bool → Bool → Bool → Bool → Start
 class_of screen cursor saved colours wrap =
     record { screen = screen; cursor = cursor; saved = saved; colours = colours; wrap = wrap }
@@ -27,17 +22,6 @@ class_of screen cursor saved colours wrap =
 same_class : (a b c d e p q r s t : Bool) → a ≡ p → b ≡ q → c ≡ r → d ≡ s → e ≡ t →
     class_of a b c d e ≡ class_of p q r s t
 same_class a b c d e p q r s t f g h i j = cc
-
--- classes that cover each other are the same
-covers_both_ways : (a b : Start) → Covers a b → Covers b a → a ≡ b
-unfolding class_of
-covers_both_ways a b there back =
-    same_class _ _ _ _ _ _ _ _ _ _
-    (same_truth a.screen b.screen there.screen back.screen)
-    (same_truth a.cursor b.cursor there.cursor back.cursor)
-    (same_truth a.saved b.saved there.saved back.saved)
-    (same_truth a.colours b.colours there.colours back.colours)
-    (same_truth a.wrap b.wrap there.wrap back.wrap)
 
 -- what is good for a class is good for each class that it covers
 covered_is_good : (z : Size) (content : List ℕ) (a b : Start) → Covers a b → IsGood z a content → IsGood z b content

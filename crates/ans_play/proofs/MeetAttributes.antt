@@ -10,13 +10,9 @@ use Rattle.ans_model.specs.Screen.Attribute.{Rendition, renditions, rendition_of
 use Rattle.ans_model.specs.Screen.Attribute.{attribute_after_all}
 use Rattle.ans_model.proofs.AttributeBytes.{IsByteRendition, rendition_fits}
 use Rattle.ans_screen.specs.KnownBits.{KnownBits, known_bits, Agrees, known_by, known_after}
-use Rattle.ans_screen.proofs.KnownAfter.{agrees_after}
+use Rattle.ans_screen.proofs.KnownAfter.{agrees_after, and_is_byte}
 use Rattle.ans_play.specs.HalfStep.{known_after_all}
 use Rattle.ans_play.specs.Meet.{shared_bits, meet_bits}
-
--- the common bits with a byte are a byte
-byte_and : (a m : ℕ) → m < 2 ^ 8 → bit_and a m < 2 ^ 8
-byte_and a m h = omega (arith, and_le_r a m)
 
 -- known bits of the same mask and value are the same
 same_bits : (k l v w : ℕ) → k ≡ l → v ≡ w → known_bits k v ≡ known_bits l w
@@ -92,7 +88,7 @@ module _ (k l a b m s : ℕ) (lk : k < 2 ^ 8) (ll : l < 2 ^ 8) (la : a < 2 ^ 8) 
   shared_core : 0xff < 2 ^ 8 → shared_after k l a b m s ≡ mask_after (shared k l a b) m s
   shared_core o =
       same_from_bits_below 8 (shared_after k l a b m s) (mask_after (shared k l a b) m s)
-      (search (rules, xor_of_8, or_of_8, byte_and)) (search (rules, xor_of_8, or_of_8))
+      (search (rules, xor_of_8, or_of_8, and_is_byte)) (search (rules, xor_of_8, or_of_8))
       (λ i h. simp (bit_at_and, bit_at_or, bit_at_xor)
       (rw (bit_at_ones 8 i h) (eqb-true _ _ (at_each_bit shared_bit_same shared_bit i))))
 
@@ -102,7 +98,7 @@ module _ (k l a b m s : ℕ) (lk : k < 2 ^ 8) (ll : l < 2 ^ 8) (la : a < 2 ^ 8) 
   value_core o =
       same_from_bits_below 8 (bit_and (value_after a m s) (shared_after k l a b m s))
       (value_after (bit_and a (shared k l a b)) m s)
-      (search (rules, xor_of_8, or_of_8, byte_and)) (search (rules, or_of_8))
+      (search (rules, xor_of_8, or_of_8, and_is_byte)) (search (rules, or_of_8))
       (λ i h. simp (bit_at_and, bit_at_or, bit_at_xor)
       (rw (bit_at_ones 8 i h) (eqb-true _ _ (at_each_bit value_bit_same value_bit i))))
 
@@ -160,7 +156,7 @@ meet_bytes a b p q = record {
 every_bit_known : (m s : ℕ) → m < 2 ^ 8 → s < 2 ^ 8 → 0xff < 2 ^ 8 → mask_after 0xff m s ≡ 0xff
 every_bit_known m s p q o =
     same_from_bits_below 8 (mask_after 0xff m s) 0xff
-    (search (rules, xor_of_8, or_of_8, byte_and)) o
+    (search (rules, xor_of_8, or_of_8, and_is_byte)) o
     (λ i h. simp (bit_at_and, bit_at_or, bit_at_xor)
     (rw (bit_at_ones 8 i h) (each_bit (bit_at m i) (bit_at s i) (bit_at-lt m i) (bit_at-lt s i))))
   where

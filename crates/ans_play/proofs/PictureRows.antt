@@ -7,7 +7,7 @@ use Rattle.ans_model.specs.Verdict.Good.{Picture}
 use Rattle.ans_model.specs.Text.ReportText.{rows, rows_of}
 use Rattle.ans_play.specs.Shown.{cells_of_row}
 
-length-rows : (w l : ℕ) (cells : List Cell) → length (rows w l cells) ≡ l
+pub length-rows : (w l : ℕ) (cells : List Cell) → length (rows w l cells) ≡ l
 length-rows w zero cells = refl
 length-rows w (suc l) cells = ap suc (length-rows w l (drop w cells))
 

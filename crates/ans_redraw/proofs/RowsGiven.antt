@@ -19,7 +19,7 @@ use Rattle.ans_model.specs.Verdict.Good.{Picture, IsPictureOf}
 use Rattle.ans_players.specs.Situations.{Spelled}
 use Rattle.ans_players.specs.Mends.{mending_spelled}
 use Rattle.ans_play.specs.Shown.{attributes_of_row, bytes_of_row, cells_of_row}
-use Rattle.ans_play.proofs.PictureRows.{row_at, within_rows}
+use Rattle.ans_play.proofs.PictureRows.{row_at, within_rows, length-rows}
 use Rattle.ans_write.proofs.RowTexts.{cells_zipped}
 use Rattle.ans_redraw.specs.Form.{are_blank, are_some, is_blank, last_cell, opens_below, row_drawn, attribute_after_row}
 use Rattle.ans_redraw.specs.declared.pen.Gap.{Gap}
@@ -27,6 +27,7 @@ use Rattle.ans_redraw.specs.Form.{pen, pen_behind, drawn, is_coloured, at_row, b
 use Rattle.ans_redraw.specs.Form.{rows_drawn, texts, form_bytes}
 use Rattle.ans_redraw.proofs.WayTexts.{texts_both}
 
+-- ---- the rows of a picture
 -- one row more
 pub suc_rows : (n w : ℕ) → suc n * w ≡ w + n * w
 suc_rows n w =
@@ -55,11 +56,6 @@ last_zipped bytes attributes width is_bytes is_attributes some =
     sym (get_or-zip2 cell bytes attributes (width - 1) 0 0 (blank_cell 0x07) (omega arith) (omega arith))
     ∙ ap (λ (i : ℕ). get_or (zip2 cell bytes attributes) i (blank_cell 0x07)) index
 
--- ---- the rows of a picture
-rows_length : (w l : ℕ) (cells : List Cell) → length (rows w l cells) ≡ l
-rows_length w zero cells = refl
-rows_length w (suc l) cells = ap (λ (n : ℕ). suc n) (rows_length w l (drop w cells))
-
 -- the row, and those below it
 pub rows_from : (p : Picture) (i : ℕ) → i < p.size.lines
     → drop i (rows_of p) ≡ cells_of_row p i ∷ drop (i + 1) (rows_of p)
@@ -69,7 +65,7 @@ rows_from p i lt =
 
 pub no_rows_below : (p : Picture) → are_blank (drop p.size.lines (rows_of p)) ≡ true
 no_rows_below p =
-    ap are_blank (drop_all p.size.lines (rows_of p) (omega (arith, rows_length p.size.width p.size.lines p.cells)))
+    ap are_blank (drop_all p.size.lines (rows_of p) (omega (arith, length-rows p.size.width p.size.lines p.cells)))
 
 -- a row's bytes and attributes are its cells
 pub row_zipped : (p : Picture) (i : ℕ) (bytes attributes : List ℕ) → bytes ≡ bytes_of_row p i
@@ -141,7 +137,7 @@ there_is p i = elim (cases_lt (i + 1) p.size.lines) [
   | inl more ↦ lt-ltb (i + 1) p.size.lines more ∙ ap are_some (sym (rows_from p (i + 1) more))
   | inr last ↦ le-ltb (i + 1) p.size.lines last
       ∙ ap are_some (sym (drop_all (i + 1) (rows_of p)
-      (omega (arith, rows_length p.size.width p.size.lines p.cells))))
+      (omega (arith, length-rows p.size.width p.size.lines p.cells))))
 ]
 
 -- whether a row opens the one below, by the last of its bytes and of its attributes

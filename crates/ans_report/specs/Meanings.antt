@@ -2,7 +2,8 @@
 use Rattle.std.specs.Prelude.{ℕ, ◌-◌, nat_lt, List, [], get_or, map, if◌then◌else◌}
 use Rattle.ans_model.specs.Text.FaultText.{cause_number, note_number}
 use Rattle.ans_model.specs.declared.fault.Cause.{Cause}
-use Rattle.ans_model.specs.declared.fault.Cause.TheVariants.{BrokenSequence, EndInSequence, KeyReassigned, LinesUnstated}
+use Rattle.ans_model.specs.declared.fault.Cause.TheVariants.{BrokenSequence, EndInSequence, KeyReassigned}
+use Rattle.ans_model.specs.declared.fault.Cause.TheVariants.{LinesUnstated}
 use Rattle.ans_model.specs.declared.fault.Cause.TheVariants.{NoRecord, NumberTooLarge, OutsideScreen, PrintBelow}
 use Rattle.ans_model.specs.declared.fault.Cause.TheVariants.{ReportAsked, ScreenMode, Scrolls, TooManyParameters}
 use Rattle.ans_model.specs.declared.fault.Cause.TheVariants.{UnknownSequence, WrongParameters}

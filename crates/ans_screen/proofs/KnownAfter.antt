@@ -28,7 +28,7 @@ masked_bit a m s = max (min a m) s
 abbrev known_masked_bit : ℕ → ℕ → ℕ → ℕ → ℕ
 known_masked_bit k m s o = max (max (min k m) ((o + m) % 2)) s
 
-and_is_byte : (a m : ℕ) → m < 2 ^ 8 → bit_and a m < 2 ^ 8
+pub and_is_byte : (a m : ℕ) → m < 2 ^ 8 → bit_and a m < 2 ^ 8
 and_is_byte a m h = omega (arith, and_le_r a m)
 
 masked_is_byte : (a m s : ℕ) → m < 2 ^ 8 → s < 2 ^ 8 → masked a m s < 2 ^ 8

@@ -5,10 +5,7 @@ use Rattle.ans_model.specs.Text.Characters.{shown_bytes}
 use Rattle.ans_model.specs.Text.RecordText.{named_line}
 use Rattle.ans_why.specs.WhyText.{quoted, bytes_line}
 
-pub named_line_is : (name text : List ℕ) → name ++ (codes ": " ++ (text ++ codes "\n")) ≡ named_line name text
-named_line_is name text = simp append_assoc
-
--- the same with the key in one piece
+-- a line with its key in one piece
 pub keyed_line_is : (key name text : List ℕ) → key ≡ name ++ codes ": "
     → key ++ (text ++ codes "\n") ≡ named_line name text
 keyed_line_is key name text e = rw e (simp append_assoc)

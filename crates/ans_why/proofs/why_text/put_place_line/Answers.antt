@@ -1,6 +1,6 @@
 use Rattle.ans_write.proofs.PutsLemmas.{Puts-same, Puts-then}
 use Rattle.ans_why.specs.WhyText.{place_text}
-use Rattle.ans_why.proofs.WhyLines.{named_line_is}
+use Rattle.ans_report.proofs.LineTexts.{named_line_is}
 use Rattle.ans_why.proofs.why_text.put_place_line.Goals as goal
 
 pub returns : goal.returns
