@@ -133,7 +133,8 @@ module _ (mends : Mends) (no_rows : mends.full_rows ≡ false) (file : List ℕ)
   z = stated_size (record_in file)
 
   edited_again : IsEditedAsStated k.asked file k.steps.edited again.edits
-  edited_again = subst (λ (v : List ℕ). IsEditedAsStated k.asked v k.steps.edited again.edits) opened_stays k.steps.is_edited
+  edited_again =
+      subst (λ (v : List ℕ). IsEditedAsStated k.asked v k.steps.edited again.edits) opened_stays k.steps.is_edited
 
   returned_stays : returned k.asked file ≡ file
   returned_stays = go k.asked.line_ends (sym (ap (λ (m : Mends). m.line_ends) k.asked_is))

@@ -1,5 +1,6 @@
 -- The matches of a command's arguments hold what those are called: of no other id have they a row.
 use Rattle.std.proofs.Common.{◌≡◌, ℕ, zero, suc, Bool, true, false, List, [], ◌∷◌, ◌++◌, Option, Some, None, refl}
+use Rattle.std.proofs.lemmas.Bool.{or_parts}
 use Rattle.std.proofs.Common.{◌∙◌, ◌+◌, ◌&&◌, ◌||◌, not, cond, length, drop, min, is_some, ap}
 use Rattle.std.specs.Prelude.{IfSome, find, fold, if◌then◌else◌, option_and_then, slice_get, encode_utf8, codes}
 use Rattle.std.specs.List.{list_any}
@@ -37,7 +38,7 @@ IsOther id a = bytes_eq a.id id ≡ false
 abbrev NoneHas : Text → List Rule → Type 0
 NoneHas id rules = list_any (λ a. bytes_eq a.id id) rules ≡ false
 
--- and an `or` is false where both sides are
+-- an `or` is false where both sides are
 pub nor : (a b : Bool) → a ≡ false → b ≡ false → (a || b) ≡ false
 nor true b e f = cc
 nor false b e f = f
@@ -46,7 +47,7 @@ nor false b e f = f
 not_found : (id : Text) (rows : List Row) → Lacks id rows → find (λ x. bytes_eq x.id id) rows ≡ None
 not_found id [] lacks = refl
 not_found id (r ∷ rows) lacks =
-    let parts = neither (bytes_eq r.id id) (has_row id rows) lacks in
+    let parts = or_parts (bytes_eq r.id id) (has_row id rows) lacks in
     go (bytes_eq r.id id) parts.0 (not_found id rows parts.1)
   where
     go : (b : Bool) → b ≡ false → find (λ x. bytes_eq x.id id) rows ≡ None
@@ -73,7 +74,7 @@ at_row-lacks : (id own : Text) (change : Row → List Row) (missing rows : List 
     → Lacks id (at_row own change missing rows)
 at_row-lacks id own change missing [] keeps new lacks = new
 at_row-lacks id own change missing (r ∷ rows) keeps new lacks =
-    let parts = neither (bytes_eq r.id id) (has_row id rows) lacks in
+    let parts = or_parts (bytes_eq r.id id) (has_row id rows) lacks in
     go (bytes_eq r.id own) parts.0 parts.1 (at_row-lacks id own change missing rows keeps new parts.1)
   where
     go : (b : Bool) → bytes_eq r.id id ≡ false → Lacks id rows → Lacks id (at_row own change missing rows)
@@ -136,7 +137,7 @@ found_other : (id : Text) (p : Rule → Bool) (rules : List Rule) → NoneHas id
     → IfSome (find p rules) (λ a. IsOther id a)
 found_other id p [] none = tt
 found_other id p (a ∷ rest) none =
-    let parts = neither (bytes_eq a.id id) (list_any (λ r. bytes_eq r.id id) rest) none in
+    let parts = or_parts (bytes_eq a.id id) (list_any (λ r. bytes_eq r.id id) rest) none in
     go (p a) parts.0 (found_other id p rest parts.1)
   where
     go : (b : Bool) → IsOther id a → IfSome (find p rest) (λ r. IsOther id r)
@@ -338,7 +339,7 @@ defaults-lacks : (id : Text) (rules : List Rule) (rows : List Row) → NoneHas i
     → Lacks id (fold with_default rows rules)
 defaults-lacks id [] rows none lacks = lacks
 defaults-lacks id (a ∷ rest) rows none lacks =
-    let parts = neither (bytes_eq a.id id) (list_any (λ r. bytes_eq r.id id) rest) none in
+    let parts = or_parts (bytes_eq a.id id) (list_any (λ r. bytes_eq r.id id) rest) none in
     defaults-lacks id rest (with_default rows a) parts.1 (with_default-lacks id rows a parts.0 lacks)
 
 -- an id that no argument of a command has has no row in its matches

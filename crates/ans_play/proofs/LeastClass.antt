@@ -15,14 +15,6 @@ use Rattle.ans_play.proofs.GoodFromBoth.{good_from_both}
 use Rattle.ans_play.proofs.WholeBytes.{good_or_not}
 
 -- ---- classes
-class_of : Bool → Bool → Bool → Bool → Bool → Start
-class_of screen cursor saved colours wrap =
-    record { screen = screen; cursor = cursor; saved = saved; colours = colours; wrap = wrap }
-
-same_class : (a b c d e p q r s t : Bool) → a ≡ p → b ≡ q → c ≡ r → d ≡ s → e ≡ t →
-    class_of a b c d e ≡ class_of p q r s t
-same_class a b c d e p q r s t f g h i j = cc
-
 -- what is good for a class is good for each class that it covers
 covered_is_good : (z : Size) (content : List ℕ) (a b : Start) → Covers a b → IsGood z a content → IsGood z b content
 covered_is_good z content a b covers good = (good.0, covers_good z a b content good.0 covers good.1)
