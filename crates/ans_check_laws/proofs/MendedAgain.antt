@@ -209,7 +209,8 @@ module _ (mends : Mends) (no_rows : mends.full_rows ≡ false) (file : List ℕ)
   pub edited_stays : k.steps.edited ≡ file
   edited_stays =
       go k.asked.name_colours (sym (ap (λ (m : Mends). m.name_colours) k.asked_is))
-      (subst (λ (v : List ℕ). AreNamed k.asked v k.steps.edited again.edits.named_colours) ended_stays edited_again.named)
+      (subst (λ (v : List ℕ). AreNamed k.asked v k.steps.edited again.edits.named_colours) ended_stays
+      edited_again.named)
     where
       of_file : (recorded : Bool) → mends.name_colours ≡ true
           → MatchBool recorded ((left : List ℕ) × AreColoursNamed (content_in file) left again.edits.named_colours
@@ -236,7 +237,8 @@ module _ (mends : Mends) (no_rows : mends.full_rows ≡ false) (file : List ℕ)
   lined_stays = go k.steps.lines k.steps.are_lines
     where
       none_taken_for : (lines : ℕ)
-          → TakesLines k.asked (lacks_lines k.asked k.based) (record_in k.steps.edited) (content_in k.steps.edited) lines → ⊥
+          → TakesLines k.asked (lacks_lines k.asked k.based) (record_in k.steps.edited) (content_in k.steps.edited) lines
+          → ⊥
       none_taken_for lines (inl lacks, asked) = true≢false (sym lacks ∙ lacks_none)
       none_taken_for lines (inr bad, asked) = bad edited_good
 

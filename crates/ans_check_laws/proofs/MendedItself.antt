@@ -112,7 +112,8 @@ module _ (file : List ℕ) (mended : Mended) (draft : List ℕ) (h : IsMended no
   itself_lined : lined h.steps.lines h.steps.edited ≡ h.cut
   itself_lined =
       not_lined (lacks_lines h.asked h.based) h.steps.edited h.steps.lines
-      (subst (λ (m : Mends). AreLinesFor m (lacks_lines h.asked h.based) h.steps.edited h.steps.lines) h.asked_is h.steps.are_lines)
+      (subst (λ (m : Mends). AreLinesFor m (lacks_lines h.asked h.based) h.steps.edited h.steps.lines) h.asked_is
+      h.steps.are_lines)
       ∙ itself_edited
 
   -- what is written is the file without its tail, with an end mark, and with another FileSize

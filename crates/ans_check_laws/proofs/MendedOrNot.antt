@@ -74,13 +74,16 @@ module _ (mends : Mends) (file draft : List ℕ) (mended : Mended) (h : IsMended
   lines_or_reason : (lines : Option ℕ) (reason : Unmended) → AreLinesFor h.asked lacks h.steps.edited lines
       → IsReasonOfLines h.asked lacks (record_in h.steps.edited) (content_in h.steps.edited) reason → ⊥
   lines_or_reason None reason keeps (wants, asks, number) =
-      kept_without h.asked lacks (record_in h.steps.edited) (content_in h.steps.edited) reason reason keeps wants asks number
+      kept_without h.asked lacks (record_in h.steps.edited) (content_in h.steps.edited) reason reason keeps wants asks
+      number
   lines_or_reason (Some n) reason takes (wants, asks, number) =
-      without_number h.asked lacks (record_in h.steps.edited) (content_in h.steps.edited) reason reason n takes asks number
+      without_number h.asked lacks (record_in h.steps.edited) (content_in h.steps.edited) reason reason n takes asks
+      number
 
   of_edited : (reason : Unmended) → IsReasonOfEdited h.asked lacks h.steps.edited reason → ⊥
   of_edited reason (inl (is, long)) = let fits = h.steps.edited_sound.1 in omega (arith, long, fits)
-  of_edited reason (inr (inl (fault, is, refused))) = read_or_refused h.steps.edited fault h.steps.edited_sound.0 refused
+  of_edited reason (inr (inl (fault, is, refused))) =
+      read_or_refused h.steps.edited fault h.steps.edited_sound.0 refused
   of_edited reason (inr (inr why)) = lines_or_reason h.steps.lines reason h.steps.are_lines why
 
   -- the settled file states the size of the one that is written
@@ -139,11 +142,13 @@ module _ (mends : Mends) (file draft : List ℕ) (mended : Mended) (h : IsMended
       → settled ≡ h.settled
   same_settled settled edits mark g =
       let edited : g.edited ≡ h.steps.edited =
-      one_edited h.asked (stated_size (record_in (opened h.asked h.based))) (opened h.asked h.based) g.edited h.steps.edited
+      one_edited h.asked (stated_size (record_in (opened h.asked h.based))) (opened h.asked h.based) g.edited
+      h.steps.edited
       edits mended.edits g.is_edited h.steps.is_edited in
       let moved : AreLinesFor h.asked lacks h.steps.edited g.lines =
       subst (λ (v : List ℕ). AreLinesFor h.asked lacks v g.lines) edited g.are_lines in
-      let lines : g.lines ≡ h.steps.lines = one_lines h.asked lacks h.steps.edited g.lines h.steps.lines moved h.steps.are_lines in
+      let lines : g.lines ≡ h.steps.lines =
+      one_lines h.asked lacks h.steps.edited g.lines h.steps.lines moved h.steps.are_lines in
       g.settled_is ∙ ap₂ (λ (v : Option ℕ) (w : List ℕ). with_end_mark (lined v w)) lines edited
       ∙ sym h.steps.settled_is
 
@@ -154,7 +159,8 @@ module _ (mends : Mends) (file draft : List ℕ) (mended : Mended) (h : IsMended
       read_or_refused (opened h.asked h.based) fault h.steps.opened_read refused
   no_reason_for reason (inr (inr (inl (read, edited, edits, is_edited, why)))) =
       let same : edited ≡ h.steps.edited =
-      one_edited h.asked (stated_size (record_in (opened h.asked h.based))) (opened h.asked h.based) edited h.steps.edited
+      one_edited h.asked (stated_size (record_in (opened h.asked h.based))) (opened h.asked h.based) edited
+      h.steps.edited
       edits mended.edits is_edited h.steps.is_edited in
       of_edited reason (subst (λ (v : List ℕ). IsReasonOfEdited h.asked lacks v reason) same why)
   no_reason_for reason (inr (inr (inr (settled, edits, mark, is_settled, why)))) =

@@ -205,13 +205,15 @@ module _ (mends : Mends) (file : List ℕ) (mended : Mended) (draft : List ℕ) 
   with_its_lines = lined h.steps.lines h.steps.edited
 
   has_lined : has_record with_its_lines ≡ true
-  has_lined = mark_had with_its_lines (ap has_record (sym h.steps.settled_is) ∙ has_by h.settled settled_long settled_id)
+  has_lined =
+      mark_had with_its_lines (ap has_record (sym h.steps.settled_is) ∙ has_by h.settled settled_long settled_id)
 
   had : (lines : Option ℕ) → has_record (lined lines h.steps.edited) ≡ true → has_record h.steps.edited ≡ true
   had None has = has
   had (Some n) has = lines_had n h.steps.edited has
 
-  kept : (lines : Option ℕ) → has_record h.steps.edited ≡ true → content_in (lined lines h.steps.edited) ≡ content_in h.steps.edited
+  kept : (lines : Option ℕ) → has_record h.steps.edited ≡ true
+      → content_in (lined lines h.steps.edited) ≡ content_in h.steps.edited
   kept None has = refl
   kept (Some n) has = lines_kept n h.steps.edited has
 
@@ -245,7 +247,8 @@ module _ (mends : Mends) (file : List ℕ) (mended : Mended) (draft : List ℕ) 
 
   -- where names are asked for
   module _ (asks : mends.name_colours ≡ true) where
-    pub put : (left : List ℕ) × AreColoursNamed (content_in ended) left times × (h.steps.edited ≡ with_content left ended)
+    pub put : (left : List ℕ) × AreColoursNamed (content_in ended) left times
+        × (h.steps.edited ≡ with_content left ended)
     put =
         let names_on : h.asked.name_colours ≡ true = ap (λ (m : Mends). m.name_colours) h.asked_is ∙ asks in
         on (has_record ended) _ has_ended (on h.asked.name_colours _ names_on h.steps.is_edited.named)
@@ -424,7 +427,8 @@ own_colours_gone laws none_own mends file draft mended asks h z s =
     subst (λ (v : List ℕ). (tokens : List TokenKind) (reads : Reads v tokens)
     → (mended.front ≡ false → begins_unnamed (spelled tokens reads.0) ≡ false)
     → NeverOwn z s (spelled tokens reads.0)) (sym is)
-    (own_gone laws (content_in h.steps.is_edited.ended) was.tokens was.reads none_own z s mended.front) h.from_every.tokens
+    (own_gone laws (content_in h.steps.is_edited.ended) was.tokens was.reads none_own z s mended.front)
+    h.from_every.tokens
     h.from_every.reads (begins mended.front h.front h.content_is)
   where
     begins : (front : Bool)

@@ -54,7 +54,8 @@ module _ (cells : CellsStay) (file draft : List ℕ) (apart : FileParts) (pictur
   not_taken : lined h.steps.lines h.steps.edited ≡ h.steps.edited
   not_taken =
       not_lined (lacks_lines h.asked h.based) h.steps.edited h.steps.lines
-      (subst (λ (m : Mends). AreLinesFor m (lacks_lines h.asked h.based) h.steps.edited h.steps.lines) h.asked_is h.steps.are_lines)
+      (subst (λ (m : Mends). AreLinesFor m (lacks_lines h.asked h.based) h.steps.edited h.steps.lines) h.asked_is
+      h.steps.are_lines)
 
   same_record : record_in h.settled ≡ apart.record_bytes
   same_record =
@@ -67,7 +68,8 @@ module _ (cells : CellsStay) (file draft : List ℕ) (apart : FileParts) (pictur
       ∙ ap (with_file_size mended.file_size.is) same_record)
       ∙ resized_size [] refl mended.file_size.is file apart passes.accepts
 
-  was : NamesColours (content_in h.steps.is_edited.ended) (put names file mended draft h refl).0 mended.edits.named_colours
+  was : NamesColours (content_in h.steps.is_edited.ended) (put names file mended draft h refl).0
+      mended.edits.named_colours
   was = was_named names file mended draft h refl
 
   same_tokens : spelled was.tokens was.reads.0 ≡ spelled passes.good.tokens passes.good.reads.0
