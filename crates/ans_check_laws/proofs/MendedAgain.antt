@@ -237,8 +237,8 @@ module _ (mends : Mends) (no_rows : mends.full_rows ≡ false) (file : List ℕ)
   lined_stays = go k.steps.lines k.steps.are_lines
     where
       none_taken_for : (lines : ℕ)
-          → TakesLines k.asked (lacks_lines k.asked k.based) (record_in k.steps.edited) (content_in k.steps.edited) lines
-          → ⊥
+          → TakesLines k.asked (lacks_lines k.asked k.based) (record_in k.steps.edited) (content_in k.steps.edited)
+          lines → ⊥
       none_taken_for lines (inl lacks, asked) = true≢false (sym lacks ∙ lacks_none)
       none_taken_for lines (inr bad, asked) = bad edited_good
 
