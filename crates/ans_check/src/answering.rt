@@ -213,7 +213,7 @@ fn serve_listing<I: Inputs, W: Write>(
     };
     let ending = end_of_table(table(alloc, inputs, names.as_slice(), form, output));
     match ending {
-        Ending::Table(_) if !listing.is_whole() => Ending::UnreadNames,
+        Ending::Table(_) if !listing.was_read_whole() => Ending::UnreadNames,
         _ => ending,
     }
 }
