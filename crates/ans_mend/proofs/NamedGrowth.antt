@@ -13,9 +13,9 @@ use Rattle.ans_walks.specs.Counted.{count_of, counted}
 use Rattle.ans_walks.specs.declared.times.Times.{Times}
 use Rattle.ans_walks.proofs.KindsFound.{spelled_behind}
 use Rattle.ans_mend.specs.NamedColours.{named_content, times_named}
-use Rattle.ans_mend.specs.NameSearch.{IsNamedFirst, Grows, NoneGoes}
+use Rattle.ans_mend.specs.NameSearch.{IsNamedFirst, Grows, NoneIsNamed}
 use Rattle.ans_mend.specs.declared.name_colours.Growth.{Growth}
-use Rattle.ans_mend.specs.declared.name_search.Naming.{Naming}
+use Rattle.ans_mend.specs.declared.name_search.NamingPlace.{NamingPlace}
 use Rattle.ans_mend.proofs.RowEndsOut.{counted_within}
 use Rattle.ans_mend.proofs.SearchSteps.{texts_long}
 
@@ -49,7 +49,7 @@ grown_to_nothing content = record {
 
 module _ (content : List ℕ) (read : ℕ) (times : Option Times) (bytes : ℕ) (h : GrownTo content read times bytes) where
   -- one sequence more
-  pub grown_more : (g : Naming) → IsNamedFirst (drop read content) g
+  pub grown_more : (g : NamingPlace) → IsNamedFirst (drop read content) g
       → GrownTo content (read + g.end) (counted times true (read + g.start))
       (bytes + (length g.put.now - (g.rest - g.zero)))
   grown_more g f =
@@ -99,7 +99,7 @@ module _ (content : List ℕ) (read : ℕ) (times : Option Times) (bytes : ℕ) 
       }
 
   -- nothing more
-  pub grown_whole : (growth : Growth) → growth.times ≡ times → growth.bytes ≡ bytes → NoneGoes (drop read content)
+  pub grown_whole : (growth : Growth) → growth.times ≡ times → growth.bytes ≡ bytes → NoneIsNamed (drop read content)
       → Grows content growth
   grown_whole growth times_is bytes_is f =
       let both : spelled (h.tokens ++ f.tokens) (h.texts ++ f.texts)

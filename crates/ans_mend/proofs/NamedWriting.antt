@@ -12,8 +12,8 @@ use Rattle.ans_tokens.proofs.Scanning.{nothing_left, split_reading}
 use Rattle.ans_walks.proofs.KindsFound.{spelled_behind}
 use Rattle.ans_mend.specs.NamedColours.{left_by, missing_numbers, named_content, named_sequence, named_text}
 use Rattle.ans_mend.specs.NamedColours.{names_behind_token, put_by, to_zero, way_of}
-use Rattle.ans_mend.specs.NameSearch.{IsNamedFirst, NoneGoes, bytes_of}
-use Rattle.ans_mend.specs.declared.name_search.Naming.{Naming}
+use Rattle.ans_mend.specs.NameSearch.{IsNamedFirst, NoneIsNamed, bytes_of}
+use Rattle.ans_mend.specs.declared.name_search.NamingPlace.{NamingPlace}
 use Rattle.ans_mend.specs.declared.naming.Way.{Way}
 use Rattle.ans_mend.specs.declared.naming.Way.TheVariants.{Within, After, Between}
 use Rattle.ans_mend.proofs.SearchSteps.{spelled_bytes, texts_long}
@@ -83,7 +83,7 @@ pub record GoesOn (start memory : List ℕ) (end written read : ℕ) (named : Li
 
 module _ (start memory : List ℕ) (end written read : ℕ) (named : List ℕ)
     (h : GoesOn start memory end written read named)
-    (g : Naming) (f : IsNamedFirst (take (end - read) (drop read memory)) g) (order : read ≤ end)
+    (g : NamingPlace) (f : IsNamedFirst (take (end - read) (drop read memory)) g) (order : read ≤ end)
     (within : end ≤ length start) (same : drop read memory ≡ drop read start) (written_in : written ≤ length memory)
     (long : length named ≡ end) where
   abbrev bytes : List ℕ
@@ -211,11 +211,11 @@ module _ (start memory : List ℕ) (end written read : ℕ) (named : List ℕ)
     (order : read ≤ end) (within : end ≤ length start) (same : drop read memory ≡ drop read start)
     (written_in : written ≤ length memory) (long : length named ≡ end) where
   -- nothing is missing in what is left
-  pub stays_whole : NoneGoes (take (end - read) (drop read memory))
+  pub stays_whole : NoneIsNamed (take (end - read) (drop read memory))
       → take written memory ++ take (end - read) (drop read memory) ≡ named
   stays_whole f =
-      let none : NoneGoes (take (end - read) (drop read start)) =
-      subst (λ (v : List ℕ). NoneGoes (take (end - read) v)) same f in
+      let none : NoneIsNamed (take (end - read) (drop read start)) =
+      subst (λ (v : List ℕ). NoneIsNamed (take (end - read) v)) same f in
       ap (λ (v : List ℕ). take written memory ++ v)
       (ap (take (end - read)) same ∙ sym none.content
       ∙ ap named_content (sym (same_texts _ none.tokens h.tokens none.texts h.texts none.reads h.reads)))

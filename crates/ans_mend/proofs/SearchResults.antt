@@ -13,7 +13,7 @@ use Rattle.ans_players.specs.Situations.{spelled}
 use Rattle.ans_tokens.specs.Walk.{Front, Walks, WalksTo}
 use Rattle.ans_tokens.proofs.Walked.{never_refused}
 use Rattle.ans_walks.specs.NamesShown.{shown_names}
-use Rattle.ans_mend.specs.NameSearch.{HasSearched, IsSearched, NoneGoes, WaitsIn}
+use Rattle.ans_mend.specs.NameSearch.{HasSearched, IsSearched, NoneIsNamed, WaitsIn}
 use Rattle.ans_mend.specs.declared.name_search.NameSearch.{NameSearch}
 use Rattle.ans_mend.specs.declared.name_search.Taking.{Taking}
 use Rattle.ans_mend.proofs.SearchSteps.{none_goes, waiting_within}
@@ -32,21 +32,21 @@ module _ (bytes : List ℕ) (first now : NameSearch) where
   not_read fault h tokens reads =
       never_refused over_front bytes (length bytes) first now fault tokens h (rw (take-length bytes) reads)
 
-  found_none : Walks over_front bytes (length bytes) [] first now true → NoneGoes bytes
+  found_none : Walks over_front bytes (length bytes) [] first now true → NoneIsNamed bytes
   found_none h =
       let all : bytes ≡ h.read = sym (take-length bytes) ∙ h.whole ∙ append-nil h.read in
       none_goes bytes h.front.tokens h.front.texts now.taking (shown_names now.named)
       (subst (λ (v : List ℕ). ReadsAs v h.front.tokens h.front.texts) (sym all) h.reads) h.over.searched
 
   pub none_waits : (over : Bool) → WalksTo over_front bytes (length bytes) first now (Ok over) → now.taking ≡ None
-      → NoneGoes bytes
+      → NoneIsNamed bytes
   none_waits true h none = found_none h
   none_waits false (left, h) none =
       absurd (subst (λ (v : Option Taking). IsSearched false v (shown_names now.named)
       (spelled h.front.tokens h.front.texts)) none h.over.searched)
 
   pub none_waited : (over : Bool) → WalksTo over_front bytes (length bytes) first now (Ok over) → over ≡ true
-      → NoneGoes bytes
+      → NoneIsNamed bytes
   none_waited true h is = found_none h
   none_waited false h is = absurd (false≢true is)
 

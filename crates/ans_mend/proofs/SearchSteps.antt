@@ -22,9 +22,9 @@ use Rattle.ans_walks.proofs.KindsFound.{one, spelled_more}
 use Rattle.ans_walks.specs.NamesShown.{shown_names}
 use Rattle.ans_mend.specs.NamedColours.{missing_numbers, named_content, named_sequence, named_text}
 use Rattle.ans_mend.specs.NamedColours.{numbers_to_zero, takes_names, through_numbers, times_named}
-use Rattle.ans_mend.specs.NameSearch.{IsNamedFirst, HasSearched, IsSearched, NoneGoes}
+use Rattle.ans_mend.specs.NameSearch.{IsNamedFirst, HasSearched, IsSearched, NoneIsNamed}
 use Rattle.ans_mend.specs.NameSearch.{Waits, bytes_of, taking_after}
-use Rattle.ans_mend.specs.declared.name_search.Naming.{Naming}
+use Rattle.ans_mend.specs.declared.name_search.NamingPlace.{NamingPlace}
 use Rattle.ans_mend.specs.declared.name_search.NameSearch.{NameSearch}
 use Rattle.ans_mend.specs.declared.name_search.Taking.{Taking}
 use Rattle.ans_walks.specs.declared.names.Names as walked
@@ -150,7 +150,7 @@ times_stay xs (Some taking) n h offset times =
     ap (times_named offset times) (sym (append-nil xs)) ∙ h.times offset times []
 
 pub none_goes : (bytes : List ℕ) (tokens : List TokenKind) (texts : List (List ℕ)) (taking : Option Taking) (n : Names)
-    → ReadsAs bytes tokens texts → IsSearched true taking n (spelled tokens texts) → NoneGoes bytes
+    → ReadsAs bytes tokens texts → IsSearched true taking n (spelled tokens texts) → NoneIsNamed bytes
 none_goes bytes tokens texts taking n reads h = record {
   tokens = tokens;
   texts = texts;
@@ -234,7 +234,7 @@ module _ (bytes left : List ℕ) (tokens : List TokenKind) (texts : List (List �
       (length (bytes_of h.before ++ (h.waiting.text ++ bytes_of h.after))) whole_apart h.start (omega arith)
       (omega arith) refl taking.length h.long
 
-  pub goes_first : are_both n ≡ false → (g : Naming) (cut rest : ℕ) → g.start ≡ taking.start
+  pub goes_first : are_both n ≡ false → (g : NamingPlace) (cut rest : ℕ) → g.start ≡ taking.start
       → g.zero ≡ taking.start + cut → g.rest ≡ taking.start + rest → g.end ≡ length (concat texts)
       → cut ≤ rest → rest ≤ taking.length → length g.put.now ≤ 12 → rest < cut + length g.put.now
       → (named_text (missing_numbers n) (through_numbers taking.numbers h.waiting.text)

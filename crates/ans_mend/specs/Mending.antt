@@ -191,7 +191,7 @@ AreLinesFor mends lacks file lines = MatchOption lines (KeepsLines mends lacks (
     (TakesLines mends lacks (record_in file) (content_in file))
 
 -- The file with its content changed, its lines settled, and with an end mark after its content, and what is told of
--- that. On the way it was not too long, and each was read.
+-- that. After each step the file was not too long, and could be read.
 pub record IsSettled (asked : Mends) (based : List ℕ) (edits : Edits) (mark : Option ℕ) (settled : List ℕ)
     : Type 0 where
   pub opened_read : IsRead (opened asked based)

@@ -17,7 +17,7 @@ use Rattle.ans_mend.specs.NamedColours.{begins_unnamed, named_content, named_seq
 use Rattle.ans_mend.specs.NamedColours.{takes_names, times_named}
 use Rattle.ans_mend.specs.declared.name_colours.Growth.{Growth}
 use Rattle.ans_mend.specs.declared.name_search.First.{First}
-use Rattle.ans_mend.specs.declared.name_search.Naming.{Naming}
+use Rattle.ans_mend.specs.declared.name_search.NamingPlace.{NamingPlace}
 use Rattle.ans_mend.specs.declared.name_search.NameSearch.{NameSearch}
 use Rattle.ans_mend.specs.declared.name_search.Taking.{Taking}
 use Rattle.ans_mend.specs.declared.name_search.Waiting.{Waiting}
@@ -70,7 +70,7 @@ pub record HasSearched (first : NameSearch) (front : Front) (goes_on : Bool) (no
   pub searched : IsSearched goes_on now.taking (shown_names now.named) (spelled front.tokens front.texts)
 
 -- the bytes are read, and no sequence gets names
-pub record NoneGoes (bytes : List ℕ) : Type 0 where
+pub record NoneIsNamed (bytes : List ℕ) : Type 0 where
   pub tokens : List TokenKind
   pub texts : List (List ℕ)
   pub reads : ReadsAs bytes tokens texts
@@ -90,7 +90,7 @@ pub record WaitsIn (bytes : List ℕ) (w : Waiting) : Type 0 where
   pub within : w.taking.start + w.taking.length ≤ length bytes
 
 -- the first bytes are read, whatever comes: one sequence in them gets names, and the others stay
-pub record IsNamedFirst (bytes : List ℕ) (g : Naming) : Type 0 where
+pub record IsNamedFirst (bytes : List ℕ) (g : NamingPlace) : Type 0 where
   pub tokens : List TokenKind
   pub texts : List (List ℕ)
   pub reads : ReadsAs (take g.end bytes) tokens texts

@@ -25,7 +25,7 @@ use ans_verdict::Screens;
 use ans_walks::is_same_where_cleared;
 use std::alloc::AllocError;
 
-/// What is read of a file: what its record states that is told or set anew, and of its content.
+/// What is read of a file that is told or set anew later, of its record and of its content.
 #[derive(Clone, Copy)]
 pub(crate) struct Reading {
     pub(crate) size: Size,
@@ -54,7 +54,7 @@ fn reading_of(parts: &Parts<'_>, lacks: bool) -> Reading
     }
 }
 
-/// What is read of a file, of which lines are stated by now.
+/// Reads a file. `lacks` says that its number of lines is still to be settled.
 pub(crate) fn read(file: &[u8], lacks: bool) -> Result<Reading, Unmended>
     ensures read { OnOk result (IsRead file.now) }
     ensures reading { IfOk result (λ reading. reading ≡ reading_in lacks file.now) }

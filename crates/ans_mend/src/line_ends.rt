@@ -75,7 +75,7 @@ fn put_returns_in(memory: &mut [u8], used: usize, count: usize, gap: usize)
     requires within { count ≤ used }
     requires gap { gap ≡ line_feeds (take count memory.old) }
     ensures same_length { length memory.new ≡ length memory.old }
-    ensures byte_returned { take (used + gap) memory.new
+    ensures returned { take (used + gap) memory.new
         ≡ with_returns (take count memory.old) ++ drop count (take used memory.old) }
 {
     memory.copy_within(0..used, gap);
@@ -121,7 +121,7 @@ pub(crate) fn content_of(file: &[u8]) -> Option<&[u8]>
 impl<'a> Draft<'a> {
     /// Puts a return before each line feed of the content of a file that has a record, where it has line
     /// feeds and no return. Returns how many, and the place of the first line feed, in bytes from the
-    /// file's start.
+    /// file's start. The draft needs room for as many bytes as the content has line feeds.
     pub fn put_returns(&mut self) -> Option<Times>
         requires { line_feeds (content_in self.old.file) ≤ self.old.room }
         ensures file { self.new.file ≡ with_line_ends self.old.file }

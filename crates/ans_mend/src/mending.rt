@@ -110,9 +110,8 @@ fn set_file_size(
 /// mending where `front` says so: that is for the caller to write first.
 ///
 /// `NotMended` says why the file cannot be mended so. The draft then holds a file that is half changed.
-/// `Memory` says that there is no room for the screen; it comes, too, where the draft has room for
-/// fewer than 130 bytes, with line ends for fewer than one more for each line feed, and with names of colours
-/// for fewer than eight more for each byte and eight, up to the longest file.
+/// `Memory` says that the draft has room for fewer bytes than [`room_for`] says, or that there is none for the
+/// screen.
 pub fn mend_on<S: Screens>(
     screens: &mut S,
     draft: &mut Draft<'_>,

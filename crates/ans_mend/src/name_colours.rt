@@ -9,13 +9,13 @@ ghost use Rattle.ans_model.specs.Sequence.Reads.{Reads, ReadsAs};
 ghost use Rattle.ans_players.specs.Situations.{spelled};
 ghost use Rattle.ans_mend.specs.Drafts.{memory_of};
 ghost use Rattle.ans_mend.specs.NamedColours.{HasNamedColours, IsTooLongNamed, named_content, names_room};
-ghost use Rattle.ans_mend.specs.NameSearch.{IsNamedFirst, Grows, HaveNamedLength, NoneGoes};
+ghost use Rattle.ans_mend.specs.NameSearch.{IsNamedFirst, Grows, HaveNamedLength, NoneIsNamed};
 
 use crate::draft::Draft;
 use crate::full_rows::once_more;
 use crate::keeping::keep;
 use crate::line_ends::content_of;
-use crate::name_search::{Naming, next_going};
+use crate::name_search::{NamingPlace, next_naming};
 use crate::outcome::Unmended;
 use ans_model::limits::MAX_FILE;
 use ans_sauce::overwrite;
@@ -38,7 +38,7 @@ fn growth_of(content: &[u8]) -> Option<Growth>
     let mut times = None;
     let mut bytes = 0;
     'sequences: loop {
-        let Ok(next) = next_going(&content[read..]) else {
+        let Ok(next) = next_naming(&content[read..]) else {
             return None;
         };
         let Some(going) = next else {
@@ -63,12 +63,12 @@ fn write_behind(memory: &mut [u8], count: usize, bytes: &[u8]) -> usize
 }
 
 /// The first sequence that is to name colours, in bytes that can be read.
-fn going_in(bytes: &[u8]) -> Option<Naming>
+fn naming_in(bytes: &[u8]) -> Option<NamingPlace>
     requires limit { length bytes.now ≤ longest_file }
     requires reads { (tokens : List TokenKind) × Reads bytes.now tokens }
-    ensures { MatchOption result (NoneGoes bytes.now) (IsNamedFirst bytes.now) }
+    ensures { MatchOption result (NoneIsNamed bytes.now) (IsNamedFirst bytes.now) }
 {
-    match next_going(bytes) {
+    match next_naming(bytes) {
         Ok(going) => going,
         Err(_) => None,
     }
@@ -89,7 +89,7 @@ fn write_named(memory: &mut [u8], gap: usize, end: usize)
 {
     let mut written = 0;
     let mut read = gap;
-    'sequences: while let Some(going) = going_in(&memory[read..end]) {
+    'sequences: while let Some(going) = naming_in(&memory[read..end]) {
         written = keep(memory, written, read, read + going.zero);
         written = write_behind(memory, written, going.put);
         written = keep(memory, written, read + going.rest, read + going.end);
@@ -118,7 +118,8 @@ impl<'a> Draft<'a> {
     /// white or black after it. Where it would be too long for ansilove, or has an omitted number, the names stand
     /// in a sequence of their own. A content that cannot be read stays. Returns how many sequences, and the
     /// offset of the first, in bytes from the file's start, as it was before. `Err` says that the file would be too
-    /// long; the draft is then as it was.
+    /// long; the draft is then as it was. The draft needs room for four bytes for each byte before the record, up to
+    /// the longest file.
     pub fn name_colours(&mut self) -> Result<Option<Times>, Unmended>
         requires length { length self.old.file ≤ longest_file }
         requires room { names_room self.old.file ≤ self.old.room }

@@ -8,7 +8,7 @@ ghost use Rattle.ans_players.specs.Situations.{spelled};
 ghost use Rattle.ans_mend.specs.NamedColours.{begins_unnamed};
 ghost use Rattle.ans_players.specs.Names.{are_both};
 ghost use Rattle.ans_walks.specs.NamesShown.{shown_names};
-ghost use Rattle.ans_mend.specs.NameSearch.{IsNamedFirst, NoneGoes, WaitsIn, taking_after};
+ghost use Rattle.ans_mend.specs.NameSearch.{IsNamedFirst, NoneIsNamed, WaitsIn, taking_after};
 
 use crate::names::{has_zero, takes_names};
 use crate::naming::{count_to_zero, naming_of};
@@ -28,7 +28,7 @@ struct Taking {
 
 /// A colour sequence that is to name colours. Its places are offsets in bytes.
 #[derive(Clone, Copy)]
-pub(crate) struct Naming {
+pub(crate) struct NamingPlace {
     pub(crate) start: usize,
     /// How many bytes stand before the names.
     pub(crate) zero: usize,
@@ -102,7 +102,7 @@ struct Waiting {
 /// says that the bytes cannot be read to their end.
 fn waiting_in(bytes: &[u8]) -> Result<Option<Waiting>, Fault>
     requires { length bytes.now ≤ longest_file }
-    ensures waiting { IfOk result (λ waiting. MatchOption waiting (NoneGoes bytes.now) (WaitsIn bytes.now)) }
+    ensures waiting { IfOk result (λ waiting. MatchOption waiting (NoneIsNamed bytes.now) (WaitsIn bytes.now)) }
     ensures unread { OnErr result ((tokens : List TokenKind) → ¬ Reads bytes.now tokens) }
 {
     let mut search = NameSearch {
@@ -125,7 +125,7 @@ fn waiting_in(bytes: &[u8]) -> Result<Option<Waiting>, Fault>
 }
 
 /// Where the sequence that waits gets its names.
-fn going_of(bytes: &[u8], waiting: Waiting) -> Naming
+fn naming_place(bytes: &[u8], waiting: Waiting) -> NamingPlace
     requires limit { length bytes.now ≤ longest_file }
     requires waits { WaitsIn bytes.now waiting }
     ensures { IsNamedFirst bytes.now result }
@@ -133,7 +133,7 @@ fn going_of(bytes: &[u8], waiting: Waiting) -> Naming
     let start = waiting.taking.start;
     let text = &bytes[start..start + waiting.taking.length];
     let naming = naming_of(text, waiting.taking.numbers, waiting.named);
-    Naming {
+    NamingPlace {
         start,
         zero: start + naming.zero,
         rest: start + naming.rest,
@@ -143,13 +143,13 @@ fn going_of(bytes: &[u8], waiting: Waiting) -> Naming
 }
 
 /// The first sequence that is to name colours. `Err` says that the bytes cannot be read to their end.
-pub(crate) fn next_going(bytes: &[u8]) -> Result<Option<Naming>, Fault>
+pub(crate) fn next_naming(bytes: &[u8]) -> Result<Option<NamingPlace>, Fault>
     requires { length bytes.now ≤ longest_file }
-    ensures going { IfOk result (λ going. MatchOption going (NoneGoes bytes.now) (IsNamedFirst bytes.now)) }
+    ensures going { IfOk result (λ going. MatchOption going (NoneIsNamed bytes.now) (IsNamedFirst bytes.now)) }
     ensures unread { OnErr result ((tokens : List TokenKind) → ¬ Reads bytes.now tokens) }
 {
     match waiting_in(bytes)? {
-        Some(waiting) => Ok(Some(going_of(bytes, waiting))),
+        Some(waiting) => Ok(Some(naming_place(bytes, waiting))),
         None => Ok(None),
     }
 }

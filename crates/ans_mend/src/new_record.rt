@@ -79,7 +79,8 @@ pub fn refusal_of(file: &[u8], fault: Fault) -> Unmended
 impl<'a> Draft<'a> {
     /// Puts an end mark and a record of this width, in columns, behind the content of a file that has no
     /// record, in the place of what stands there, where that is only end marks, zero bytes, line feeds and
-    /// returns, and `SAUCE00` stands nowhere in the file. Returns what was put.
+    /// returns, and `SAUCE00` stands nowhere in the file. Returns what was put. The draft needs room for 129
+    /// bytes.
     pub fn give_record(&mut self, width: u16) -> Option<GivenRecord>
         requires { 129 ≤ self.old.room }
         ensures file { self.new.file ≡ with_new_record width self.old.file }

@@ -1,7 +1,7 @@
 use Rattle.std.proofs.Common.{ℕ, ◌+◌, ◌-◌, List, length, drop, refl, sym, subst, Option}
 use Rattle.ans_model.specs.Sequence.Reads.{Reads}
 use Rattle.ans_walks.specs.declared.times.Times.{Times}
-use Rattle.ans_mend.specs.NameSearch.{IsNamedFirst, NoneGoes}
+use Rattle.ans_mend.specs.NameSearch.{IsNamedFirst, NoneIsNamed}
 use Rattle.ans_mend.proofs.NamedGrowth.{GrownTo, grown_more, grown_to_nothing, grown_whole, rest_of, unread}
 use Rattle.ans_mend.proofs.name_colours.growth_of.Goals as goal
 
@@ -32,4 +32,4 @@ returns-in_default-next-clause-some c =
     let content : List ℕ = c.args.content.now in
     let read : ℕ = c.sequences.read in
     grown_whole content read c.sequences.times c.sequences.bytes c.sequences.invariant _ refl refl
-    (subst NoneGoes (rest_of content read) (rw c.in_default-next.is at c.in-Ok.ensures.going))
+    (subst NoneIsNamed (rest_of content read) (rw c.in_default-next.is at c.in-Ok.ensures.going))

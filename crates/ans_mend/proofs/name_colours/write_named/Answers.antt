@@ -16,8 +16,8 @@ sequences-init c = record {
   goes_on = λ tokens texts reads. record { tokens = tokens; texts = texts; reads = reads; content = refl };
 }
 
-pub going_in-requires-clause-reads : goal.going_in-requires-clause-reads
-going_in-requires-clause-reads c =
+pub naming_in-requires-clause-reads : goal.naming_in-requires-clause-reads
+naming_in-requires-clause-reads c =
     let i = c.sequences.invariant in
     let r = c.requires.room in
     let h = i.goes_on r.tokens r.texts r.reads in (

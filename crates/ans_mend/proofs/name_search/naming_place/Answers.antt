@@ -1,6 +1,6 @@
 use Rattle.std.proofs.Common.{◌≡◌, ℕ, ◌+◌, ◌-◌, ◌≤◌, List, length, take, drop, refl, ap, ◌∙◌, arith}
 use Rattle.ans_mend.proofs.SearchSteps.{goes_first, waiting_text}
-use Rattle.ans_mend.proofs.name_search.going_of.Goals as goal
+use Rattle.ans_mend.proofs.name_search.naming_place.Goals as goal
 
 pub returns : goal.returns
 returns c =
