@@ -20,6 +20,13 @@ COMMAND = {
 }
 
 
+# The files that are named in prose, each with its lines, and their crates.
+PROSE = {
+    "CommandLine": "ans_options", "Topics": "ans_options", "MendFlags": "ans_model", "Message": "ans_report",
+    "RecordReports": "ans_report", "Meanings": "ans_report",
+}
+
+
 def path_of(crate, name):
     return TOP / "crates" / crate / "specs" / f"{name}.antt"
 
@@ -54,8 +61,8 @@ def rows(text):
                     place, part = named[1], named[2]
                 files += [path_of(place, name) for name in re.findall(r"`([\w/]+)`", part)]
             yield row[1], int(row[2].replace(",", "")), files
-    for name, count in re.findall(r"`(CommandLine|Topics)` \((\d+)(?: lines)?\)", text):
-        yield f"`{name}`", int(count), [path_of("ans_options", name)]
+    for name, count in re.findall(r"`(\w+)` \((\d+)(?: lines)?\)", text):
+        yield f"`{name}`", int(count), [path_of(PROSE[name], name)]
 
 
 def main():

@@ -9,7 +9,7 @@ use Rattle.ans_report.specs.declared.meanings.Help.TheVariants as help
 use Rattle.ans_walks.specs.declared.times.Times.{Times}
 use Rattle.ans_report.specs.Changes.{end_mark_line}
 use Rattle.ans_mend.specs.MendedText.{flag_line, front_line, help_text, helped, mended_text, record_line}
-use Rattle.ans_mend.specs.MendedText.{tail_line, taken_line, told_line, unmended_text}
+use Rattle.ans_mend.specs.MendedText.{tail_line, taken_line, times_line, unmended_text}
 use Rattle.ans_mend.specs.declared.outcome.Mended.{Mended}
 use Rattle.ans_mend.specs.declared.outcome.Unmended.{Unmended}
 use Rattle.ans_mend.specs.declared.outcome.Unmended.TheVariants as unmended
@@ -25,7 +25,7 @@ use Rattle.ans_check_laws.proofs.CleanPieces.{AreBytes, clean_append, clean_bool
 abbrev pub QuotesBytes : Option TakenOut → Type 0
 QuotesBytes taken = IfSome taken (λ t. All IsByte t.text.bytes)
 
-times_line_clean : (what : List ℕ) (times : Option Times) → IsCleanText what → IsCleanText (told_line what times)
+times_line_clean : (what : List ℕ) (times : Option Times) → IsCleanText what → IsCleanText (times_line what times)
 times_line_clean what None h = clean_nil
 times_line_clean what (Some times) h = search clean_lines depth 20
 

@@ -27,9 +27,9 @@ at_text times =
     if times.count == 1 then codes " at " ++ decimal times.first
     else codes ", " ++ times_text times.count times.first
 
-abbrev pub told_line : List ℕ → Option Times → List ℕ
-told_line what None = []
-told_line what (Some times) = what ++ (at_text times ++ codes "\n")
+abbrev pub times_line : List ℕ → Option Times → List ℕ
+times_line what None = []
+times_line what (Some times) = what ++ (at_text times ++ codes "\n")
 
 -- the text is quoted, or its first 32 bytes
 abbrev pub quoted_excerpt : Excerpt → List ℕ
@@ -81,12 +81,12 @@ abbrev pub mended_text : Mended → List ℕ
 mended_text m =
     tail_line m.tail
     ++ (record_line m.given_record
-    ++ (told_line (codes "put a return before a line feed") m.edits.returns
+    ++ (times_line (codes "put a return before a line feed") m.edits.returns
     ++ (flat_map taken_line m.edits.told.kinds
     ++ (flag_line m.non_blink.was m.non_blink.is
-    ++ (told_line (codes "took out a line end behind a full row") m.edits.row_ends
-    ++ (told_line (codes "took out a line end at the end") m.edits.last_ends
-    ++ (told_line (codes "named the colours of a sequence") m.edits.named_colours
+    ++ (times_line (codes "took out a line end behind a full row") m.edits.row_ends
+    ++ (times_line (codes "took out a line end at the end") m.edits.last_ends
+    ++ (times_line (codes "named the colours of a sequence") m.edits.named_colours
     ++ (reset_line (codes "lines ") m.lines
     ++ (end_mark_line m.end_mark
     ++ (front_line m.front ++ reset_line (codes "file size ") m.file_size))))))))))

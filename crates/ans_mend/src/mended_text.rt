@@ -5,7 +5,7 @@ ghost use Rattle.ans_mend.specs.MendedText.{all_given, at_text, flag_line, front
 ghost use Rattle.ans_mend.specs.MendedText.{help_text, lines_offered, mended_text, no_lines_help, offered};
 ghost use Rattle.ans_mend.specs.MendedText.{others_text, place_help, quoted_excerpt, record_line};
 ghost use Rattle.ans_mend.specs.MendedText.{replaced_text, rows_help, sequence_help, tail_line};
-ghost use Rattle.ans_mend.specs.MendedText.{taken_line, told_line, torn_help, unmended_text};
+ghost use Rattle.ans_mend.specs.MendedText.{taken_line, times_line, torn_help, unmended_text};
 ghost use Rattle.ans_write.specs.Puts.{Puts};
 
 use crate::outcome::{GivenRecord, Mended, NonBlink, Unmended};
@@ -33,7 +33,7 @@ fn put_at<W: Write>(out: &mut Outbox<'_, W>, times: &Times)
 }
 
 fn put_times_line<W: Write>(out: &mut Outbox<'_, W>, what: &[u8], times: &Option<Times>)
-    ensures { Puts W.contents out.old out.new (told_line what.now times.now) }
+    ensures { Puts W.contents out.old out.new (times_line what.now times.now) }
 {
     if let Some(times) = times {
         out.put(what);

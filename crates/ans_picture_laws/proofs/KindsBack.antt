@@ -21,7 +21,7 @@ use Rattle.ans_players.specs.Mends.{mending_spelled}
 use Rattle.ans_players.specs.Situations.{Spelled, AreAgreed, is_agreed, name_kinds, spelling_kinds, stand_of}
 use Rattle.ans_redraw.specs.Colours.{colours_to}
 use Rattle.ans_picture_laws.specs.Drawable.{IsDrawable, BytesAreAgreed, shown_kinds}
-use Rattle.ans_redraw.specs.declared.pen.Gap.{Gap}
+use Rattle.ans_redraw.specs.declared.pen.RowPen.{RowPen}
 use Rattle.ans_redraw.specs.Form.{pen, is_blank, glyph, over, drawn, pen_behind, opens_below, are_some, before_row}
 use Rattle.ans_redraw.specs.Form.{at_row, after_row, row_drawn, attribute_after_row, set_back, are_blank, rows_drawn}
 use Rattle.ans_redraw.specs.Form.{form}
@@ -98,7 +98,7 @@ module _ (agreed : Kind → Bool) where
       let both = and_parts (list_all is_blank row) (are_blank rs) h in
       (blanks_agreed row both.0, all_blank_agreed rs both.1)
 
-  row_agreed : (p : Gap) (row : List Cell) → AllGlyphs (drawn p row) → AllByRecursion CellAgreed row
+  row_agreed : (p : RowPen) (row : List Cell) → AllGlyphs (drawn p row) → AllByRecursion CellAgreed row
   row_agreed p [] h = tt
   row_agreed p (c ∷ row) h =
       by_test (is_blank c) refl (row_agreed (pen p.attribute (p.passed + 1)) row) (row_agreed (pen c.attribute 0) row) h
@@ -123,7 +123,7 @@ module _ (agreed : Kind → Bool) where
   whole_row_agreed : (opens follows : Bool) (r a : ℕ) (row : List Cell) → AllGlyphs (row_drawn opens follows r a row)
       → AllByRecursion CellAgreed row
   whole_row_agreed opens follows r a row h =
-      let p : Gap = pen (at_row opens a) 0 in
+      let p : RowPen = pen (at_row opens a) 0 in
       let after : List Spelled = after_row opens follows r (pen_behind p row).attribute in
       row_agreed p row
       (glyphs_before (drawn p row) after (glyphs_behind (before_row opens a) (drawn p row ++ after) h))

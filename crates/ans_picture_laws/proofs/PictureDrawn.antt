@@ -17,7 +17,7 @@ use Rattle.ans_model.specs.Screen.Step.{blank_cell}
 use Rattle.ans_players.specs.declared.kind.Kind.{Kind}
 use Rattle.ans_players.specs.Grips.{Firm, Wrapped, Stand}
 use Rattle.ans_players.specs.Situations.{Spelled}
-use Rattle.ans_redraw.specs.declared.pen.Gap.{Gap}
+use Rattle.ans_redraw.specs.declared.pen.RowPen.{RowPen}
 use Rattle.ans_redraw.specs.Form.{pen, is_blank, drawn, pen_behind, is_coloured, last_cell, line_end, set_back}
 use Rattle.ans_redraw.specs.Form.{are_blank, are_some, opens_below, black, blackened, down_and_up, row_place}
 use Rattle.ans_redraw.specs.Form.{before_row, at_row, after_row, below_row, row_drawn, attribute_after_row, rows_drawn}
@@ -78,7 +78,7 @@ record IsAtRow (z : Size) (cells : List Cell) (agreed : Kind → Bool) (n r a : 
   attribute : IsByte a
 
 -- after the cells of row r, if the row below is open or others follow
-record IsAfter (z : Size) (cells : List Cell) (opens follows : Bool) (r : ℕ) (p : Gap) (k c : ℕ) (below : List Cell)
+record IsAfter (z : Size) (cells : List Cell) (opens follows : Bool) (r : ℕ) (p : RowPen) (k c : ℕ) (below : List Cell)
     : Type 0 where
   index_is : k ≡ r * z.width + c
   whole : c + p.passed ≡ z.width
@@ -90,7 +90,7 @@ record IsAfter (z : Size) (cells : List Cell) (opens follows : Bool) (r : ℕ) (
   some : (opens || follows) ≡ true
 
 -- ---- which rows open the one below
-full_of : (p : Gap) (row : List Cell) → 0 < length row
+full_of : (p : RowPen) (row : List Cell) → 0 < length row
     → ((pen_behind p row).passed == 0) ≡ not (is_blank (last_cell row))
 full_of p [] some = absurd (let no : ⊥ = omega arith in no)
 full_of p (c ∷ row) some = full_is p c row
@@ -166,7 +166,7 @@ module _ (z : Size) (cells : List Cell) (agreed : Kind → Bool) where
       (black_leads z cells agreed k a (at r 0) h) (down_and_up_leads z cells agreed k r (blackened a) (on refl))
   before_leads false k r a h on = stays z agreed _ _ refl
 
-  after_leads : (opens follows : Bool) (r : ℕ) (p : Gap) (k c : ℕ) (below : List Cell) → 0 < z.width
+  after_leads : (opens follows : Bool) (r : ℕ) (p : RowPen) (k c : ℕ) (below : List Cell) → 0 < z.width
       → IsAfter z cells opens follows r p k c below
       → Leads z agreed (place z cells k r c p.attribute) (after_row opens follows r p.attribute)
       (stand z cells Firm ((r + 1) * z.width) (at (r + 1) 0) (below_row opens follows p.attribute))
@@ -294,7 +294,7 @@ module _ (z : Size) (cells : List Cell) (agreed : Kind → Bool) where
         (stand z cells Firm ((r + 1) * z.width) (at (r + 1) 0) (attribute_after_row opens follows a row))
     row_goes opens follows is_opened is_followed on more =
         let b : ℕ = at_row opens a in
-        let p : Gap = pen_behind (pen b 0) row in
+        let p : RowPen = pen_behind (pen b 0) row in
         let full : (p.passed == 0) ≡ not (is_blank (last_cell row)) =
         full_of (pen b 0) row (omega (arith, row_width, some)) in
         let lines = h.rows_left in
@@ -340,7 +340,7 @@ module _ (z : Size) (cells : List Cell) (agreed : Kind → Bool) where
         → IsAllDrawn z cells agreed (stand z cells Firm (r * z.width) (at r 0) a)
         (row_drawn false false r a row ++ rows_drawn (r + 1) (attribute_after_row false false a row) below)
     last_row total blank =
-        let p : Gap = pen_behind (pen a 0) row in
+        let p : RowPen = pen_behind (pen a 0) row in
         let one = cells_drawn n r a a rest some h.attribute h in
         let more : length rest ≡ z.width + n * z.width = h.count ∙ suc_rows n z.width in
         let back : length (drop z.width rest) ≡ n * z.width = simp length-drop (omega arith) in

@@ -14,7 +14,7 @@ use Rattle.ans_players.specs.declared.kind.Kind.{Kind}
 use Rattle.ans_players.specs.Grips.{Firm, Stand}
 use Rattle.ans_players.specs.Situations.{Spelled}
 use Rattle.ans_redraw.specs.Colours.{colours_to}
-use Rattle.ans_redraw.specs.declared.pen.Gap.{Gap}
+use Rattle.ans_redraw.specs.declared.pen.RowPen.{RowPen}
 use Rattle.ans_redraw.specs.Form.{pen, pen_after, is_blank, last_cell, glyph, over, drawn, pen_behind}
 use Rattle.ans_picture_laws.specs.Drawable.{IsPrinted, shown_kinds}
 use Rattle.ans_picture_laws.proofs.Going.{Leads, stays, both_lead}
@@ -43,7 +43,7 @@ one_more_blank n x rest e =
 
 -- Behind a row that is drawn: k cells are, those of row r before column c, and those from there on are blanks.
 pub record IsRowDrawn (z : Size) (cells : List Cell) (agreed : Kind → Bool) (r : ℕ) (h : Stand) (xs : List Spelled)
-    (p : Gap) (rest : List Cell) : Type 0 where
+    (p : RowPen) (rest : List Cell) : Type 0 where
   pub k : ℕ
   pub c : ℕ
   pub index_is : k ≡ r * z.width + c
@@ -53,7 +53,7 @@ pub record IsRowDrawn (z : Size) (cells : List Cell) (agreed : Kind → Bool) (r
   pub leads : Leads z agreed h xs (place z cells k r c p.attribute)
 
 -- where a pen stands in a row, before cells that are shown
-pub record IsBefore (z : Size) (cells : List Cell) (agreed : Kind → Bool) (row : List Cell) (p : Gap) (k r c : ℕ)
+pub record IsBefore (z : Size) (cells : List Cell) (agreed : Kind → Bool) (row : List Cell) (p : RowPen) (k r c : ℕ)
     (rest : List Cell) : Type 0 where
   pub index_is : k ≡ r * z.width + c
   pub row_stated : r < z.lines
@@ -65,7 +65,7 @@ pub record IsBefore (z : Size) (cells : List Cell) (agreed : Kind → Bool) (row
 module _ (z : Size) (cells : List Cell) (agreed : Kind → Bool) where
   -- the cells of the row lead to its end
   abbrev pub RowLeads : List Cell → Type 0
-  RowLeads row = (p : Gap) (k r c : ℕ) (rest : List Cell) → IsBefore z cells agreed row p k r c rest
+  RowLeads row = (p : RowPen) (k r c : ℕ) (rest : List Cell) → IsBefore z cells agreed row p k r c rest
       → IsRowDrawn z cells agreed r (place z cells k r c p.attribute) (drawn p row) (pen_behind p row) rest
 
   no_cells : RowLeads []
@@ -80,7 +80,7 @@ module _ (z : Size) (cells : List Cell) (agreed : Kind → Bool) where
   }
 
   -- a cell is printed: the way, the colours and the byte
-  printed_leads : (p : Gap) (x : Cell) (row : List Cell) (k r c : ℕ) (rest : List Cell)
+  printed_leads : (p : RowPen) (x : Cell) (row : List Cell) (k r c : ℕ) (rest : List Cell)
       → IsBefore z cells agreed (x ∷ row) p k r c rest
       → Leads z agreed (place z cells k r c p.attribute)
       (over p.attribute p.passed ++ (colours_to p.attribute x.attribute ++ glyph x.byte ∷ []))
@@ -110,7 +110,7 @@ module _ (z : Size) (cells : List Cell) (agreed : Kind → Bool) where
       blanks.left shown.printed shown.kinds)))
 
   -- and then the others
-  printed_first : (x : Cell) (row : List Cell) → RowLeads row → (p : Gap) (k r c : ℕ) (rest : List Cell)
+  printed_first : (x : Cell) (row : List Cell) → RowLeads row → (p : RowPen) (k r c : ℕ) (rest : List Cell)
       → IsBefore z cells agreed (x ∷ row) p k r c rest
       → IsRowDrawn z cells agreed r (place z cells k r c p.attribute)
       ((over p.attribute p.passed ++ (colours_to p.attribute x.attribute ++ glyph x.byte ∷ []))
@@ -151,7 +151,7 @@ module _ (z : Size) (cells : List Cell) (agreed : Kind → Bool) where
       }
 
   -- a blank is passed over
-  passed_first : (x : Cell) (row : List Cell) → RowLeads row → (p : Gap) (k r c : ℕ) (rest : List Cell)
+  passed_first : (x : Cell) (row : List Cell) → RowLeads row → (p : RowPen) (k r c : ℕ) (rest : List Cell)
       → IsBefore z cells agreed (x ∷ row) p k r c rest → is_blank x ≡ true
       → IsRowDrawn z cells agreed r (place z cells k r c p.attribute)
       (drawn (pen p.attribute (p.passed + 1)) row)
@@ -185,7 +185,7 @@ module _ (z : Size) (cells : List Cell) (agreed : Kind → Bool) where
 
 -- ---- which rows are full
 -- after a row the pen has passed nothing exactly if the last cell is no blank
-pub full_is : (p : Gap) (c : Cell) (row : List Cell)
+pub full_is : (p : RowPen) (c : Cell) (row : List Cell)
     → ((pen_behind p (c ∷ row)).passed == 0) ≡ not (is_blank (last_cell (c ∷ row)))
 full_is p c [] = by_test (is_blank c)
   where

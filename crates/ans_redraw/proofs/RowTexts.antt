@@ -5,7 +5,7 @@ use Rattle.std.specs.Simd.Lanes.{zip2}
 use Rattle.std.proofs.lemmas.List.{drop_more}
 use Rattle.ans_model.specs.declared.cell.Cell.{Cell}
 use Rattle.ans_model.specs.Screen.State.{cell}
-use Rattle.ans_redraw.specs.declared.pen.Gap.{Gap}
+use Rattle.ans_redraw.specs.declared.pen.RowPen.{RowPen}
 use Rattle.ans_redraw.specs.Colours.{colours_to}
 use Rattle.ans_redraw.specs.Form.{drawn, cell_drawn, glyph, is_blank, over, pen, pen_after, pen_behind, texts}
 use Rattle.ans_redraw.proofs.WayTexts.{texts_both}
@@ -21,7 +21,7 @@ next_cell bytes attributes i lt same =
     ap₂ (λ (u v : List ℕ). zip2 cell u v) (drop_more bytes i 0 lt)
     (drop_more attributes i 0 (omega (arith, lt, same)))
 
-module _ (p : Gap) (c : Cell) (row : List Cell) where
+module _ (p : RowPen) (c : Cell) (row : List Cell) where
   -- the first cell is passed over
   pub one_passed : is_blank c ≡ true
       → texts (drawn p (c ∷ row)) ≡ texts (drawn (pen p.attribute (p.passed + 1)) row)

@@ -22,7 +22,7 @@ use Rattle.ans_play.specs.Shown.{attributes_of_row, bytes_of_row, cells_of_row}
 use Rattle.ans_play.proofs.PictureRows.{row_at, within_rows, length-rows}
 use Rattle.ans_write.proofs.RowTexts.{cells_zipped}
 use Rattle.ans_redraw.specs.Form.{are_blank, are_some, is_blank, last_cell, opens_below, row_drawn, attribute_after_row}
-use Rattle.ans_redraw.specs.declared.pen.Gap.{Gap}
+use Rattle.ans_redraw.specs.declared.pen.RowPen.{RowPen}
 use Rattle.ans_redraw.specs.Form.{pen, pen_behind, drawn, is_coloured, at_row, below_row, before_row, after_row}
 use Rattle.ans_redraw.specs.Form.{rows_drawn, texts, form_bytes}
 use Rattle.ans_redraw.proofs.WayTexts.{texts_both}
@@ -157,7 +157,7 @@ module _ (opens follows : Bool) (i a b e : ℕ) (row cells : List Cell) (is_b : 
   pub row_given : texts (before_row opens a) ++ (texts (drawn (pen b 0) cells) ++ texts (after_row opens follows i e))
       ≡ texts (row_drawn opens follows i a row)
   row_given =
-      let p : Gap = pen (at_row opens a) 0 in
+      let p : RowPen = pen (at_row opens a) 0 in
       let before : List Spelled = before_row opens a in
       let after : List Spelled = after_row opens follows i (pen_behind p row).attribute in
       ap (λ (v : ℕ). texts before ++ (texts (drawn (pen b 0) cells) ++ texts (after_row opens follows i v))) is_e

@@ -10,7 +10,7 @@ use Rattle.ans_model.specs.Text.ReportText.{rows_of}
 use Rattle.ans_model.specs.Verdict.Good.{Picture}
 use Rattle.ans_players.specs.Situations.{Spelled}
 use Rattle.ans_players.specs.Mends.{sequence, mending_spelled}
-use Rattle.ans_redraw.specs.declared.pen.Gap.{Gap}
+use Rattle.ans_redraw.specs.declared.pen.RowPen.{RowPen}
 use Rattle.ans_redraw.specs.Colours.{colour_token, colours_to}
 
 -- the bytes of spelled tokens
@@ -45,25 +45,25 @@ abbrev pub over : ℕ → ℕ → List Spelled
 over attribute n = replicate (n / 255) (skip 255) ++ over_few attribute (n % 255)
 
 -- where the drawing of a row stands: the current attribute, and how many cells it has passed over since the last byte
-abbrev pub pen : ℕ → ℕ → Gap
+abbrev pub pen : ℕ → ℕ → RowPen
 pen attribute passed = record { attribute = attribute; passed = passed }
 
 -- a cell: nothing if it is a blank; else the way to it, its colours and its byte
-abbrev pub cell_drawn : Gap → Cell → List Spelled
+abbrev pub cell_drawn : RowPen → Cell → List Spelled
 cell_drawn p c =
     if is_blank c then [] else over p.attribute p.passed ++ (colours_to p.attribute c.attribute ++ glyph c.byte ∷ [])
 
 -- the pen after the cell
-abbrev pub pen_after : Gap → Cell → Gap
+abbrev pub pen_after : RowPen → Cell → RowPen
 pen_after p c = if is_blank c then pen p.attribute (p.passed + 1) else pen c.attribute 0
 
 -- the cells of a row
-abbrev pub drawn : Gap → List Cell → List Spelled
+abbrev pub drawn : RowPen → List Cell → List Spelled
 drawn p [] = []
 drawn p (c ∷ row) = cell_drawn p c ++ drawn (pen_after p c) row
 
 -- the pen after them
-abbrev pub pen_behind : Gap → List Cell → Gap
+abbrev pub pen_behind : RowPen → List Cell → RowPen
 pen_behind p [] = p
 pen_behind p (c ∷ row) = pen_behind (pen_after p c) row
 

@@ -13,7 +13,7 @@ ghost use Rattle.ans_write.specs.Puts.{Puts};
 
 use crate::colours::GREY;
 use crate::ends::{give_after, give_before, opens_below};
-use crate::pen::Gap;
+use crate::pen::RowPen;
 use crate::row::{are_blank, write_row};
 use crate::sink::{Count, Sink};
 use ans_model::beginning::SAFE_BEGINNING;
@@ -41,7 +41,7 @@ fn give_cells<S: Sink>(
     ensures attribute { result ≡ (pen_behind (pen attribute 0) (zip2 cell bytes.now attributes.now)).attribute }
     ensures length { length text.new ≡ length text.old }
 {
-    let mut pen = Gap {
+    let mut pen = RowPen {
         attribute,
         passed: 0,
     };

@@ -32,5 +32,5 @@ mod way;
 pub use form::{form_length, put_form};
 pub use new_file::{copy_redrawn_file, put_redrawn_file, redrawn_with};
 pub use outcome::{Redrawn, Unredrawn};
-pub use pen::Gap;
+pub use pen::RowPen;
 pub use redrawn_text::{put_redrawn, put_unredrawn};

@@ -1,9 +1,9 @@
 //! Where the drawing of a row stands.
 
-/// The current attribute, and how many cells it has passed over since the last byte. The definition of the form
+/// The current attribute, and how many cells were passed over since the last byte. The definition of the form
 /// names it, so it is public.
 #[derive(Clone, Copy)]
-pub struct Gap {
+pub struct RowPen {
     pub attribute: u8,
     pub passed: usize,
 }

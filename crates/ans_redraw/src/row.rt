@@ -7,7 +7,7 @@ ghost use Rattle.ans_redraw.specs.Colours.{colours_to};
 ghost use Rattle.ans_redraw.specs.Form.{drawn, glyph, is_blank, over, pen, pen_behind, texts};
 
 use crate::colours::{GREY, write_colours};
-use crate::pen::Gap;
+use crate::pen::RowPen;
 use crate::piece::write;
 use crate::way::write_over;
 
@@ -33,7 +33,7 @@ pub(crate) fn are_blank(bytes: &[u8], attributes: &[u8]) -> bool
 /// Writes the way to a cell, its colours and its byte to a text from `end` on, and returns where they end. The
 /// pen is behind the cell then.
 #[inline(always)]
-fn write_cell(text: &mut [u8], end: usize, from: &mut Gap, byte: u8, attribute: u8) -> usize
+fn write_cell(text: &mut [u8], end: usize, from: &mut RowPen, byte: u8, attribute: u8) -> usize
     requires { end + 6 * from.old.passed + 16 ≤ length text.old }
     ensures within { result ≤ end + 6 * from.old.passed + 13 }
     ensures length { length text.new ≡ length text.old }
@@ -50,7 +50,7 @@ fn write_cell(text: &mut [u8], end: usize, from: &mut Gap, byte: u8, attribute: 
 }
 
 /// Writes the cells of a row to the start of a text, and returns where they end. The pen is after them then.
-pub(crate) fn write_row(text: &mut [u8], pen: &mut Gap, bytes: &[u8], attributes: &[u8]) -> usize
+pub(crate) fn write_row(text: &mut [u8], pen: &mut RowPen, bytes: &[u8], attributes: &[u8]) -> usize
     requires begins { pen.old.passed ≡ 0 }
     requires same { length attributes.now ≡ length bytes.now }
     requires room { 13 * length bytes.now + 16 ≤ length text.old }
