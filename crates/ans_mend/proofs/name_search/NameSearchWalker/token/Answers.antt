@@ -3,7 +3,7 @@ use Rattle.ans_model.specs.Inside.ShownKind.{shown_kind}
 use Rattle.ans_model.specs.declared.kind.Kind.{Kind}
 use Rattle.ans_players.specs.Names.{paints}
 use Rattle.ans_mend.proofs.SearchSteps.{passed, printed}
-use Rattle.ans_mend.proofs.name_search.SearchWalker.token.Goals as goal
+use Rattle.ans_mend.proofs.name_search.NameSearchWalker.token.Goals as goal
 
 pub returns-then-paints-clause-walked : goal.returns-then-paints-clause-walked
 returns-then-paints-clause-walked c first front text next h =
