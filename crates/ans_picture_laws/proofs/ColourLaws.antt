@@ -131,25 +131,25 @@ numbers_are_common from to = by_test (only_adds from to)
 -- ---- names
 -- both colours are named
 abbrev pub named : Names
-named = record { foreground_of = true; background_of = true }
+named = record { foreground = true; background = true }
 
 both_named : (n : Names) → are_both n ≡ true → n ≡ named
 both_named n h = by_parts n.foreground n.background refl refl
   where
     by_parts : (a b : Bool) → n.foreground ≡ a → n.background ≡ b → n ≡ named
-    by_parts true true e f = ap₂ (λ (x y : Bool). record { foreground_of = x; background_of = y }) e f
+    by_parts true true e f = ap₂ (λ (x y : Bool). record { foreground = x; background = y }) e f
     by_parts true false e f = absurd (let no : ⊥ = cc in no)
     by_parts false b e f = absurd (let no : ⊥ = cc in no)
 
 module _ (m : Names) where
-  names_front : (f : ℕ) → f < 8 → names_behind m (30 + ansi_number f) ≡ record m { foreground_of = true }
+  names_front : (f : ℕ) → f < 8 → names_behind m (30 + ansi_number f) ≡ record m { foreground = true }
   names_front f lt =
       let some : (30 + ansi_number f == 0) ≡ false = ne_eqb (30 + ansi_number f) 0 (λ e. omega arith) in
       let within : is_within 30 37 (30 + ansi_number f) ≡ true =
       agree_below_at (λ f. is_within 30 37 (30 + ansi_number f)) (λ n. true) 8 f refl lt in
       rw (some, within) refl
 
-  names_back : (g : ℕ) → g < 8 → names_behind m (40 + ansi_number g) ≡ record m { background_of = true }
+  names_back : (g : ℕ) → g < 8 → names_behind m (40 + ansi_number g) ≡ record m { background = true }
   names_back g lt =
       let some : (40 + ansi_number g == 0) ≡ false = ne_eqb (40 + ansi_number g) 0 (λ e. omega arith) in
       let other : is_within 30 37 (40 + ansi_number g) ≡ false =
@@ -179,7 +179,7 @@ changes_keep from to =
 
 anew_names : (m : Names) (to : ℕ) → fold names_behind m (anew to) ≡ named
 anew_names m to =
-    let front : Names = record unnamed { foreground_of = true } in
+    let front : Names = record unnamed { foreground = true } in
     fold-append names_behind unnamed (bright_set to) (blink_set to ++ colours_set to)
     ∙ ap (λ (v : Names). fold names_behind v (blink_set to ++ colours_set to)) (kept_if (is_bright to) unnamed 1 refl)
     ∙ fold-append names_behind unnamed (blink_set to) (colours_set to)
