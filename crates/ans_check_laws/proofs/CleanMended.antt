@@ -2,6 +2,7 @@
 use Rattle.std.proofs.Common.{ℕ, Bool, true, false, List, Option, Some, None, All}
 use Rattle.std.specs.Prelude.{flat_map, IfSome}
 use Rattle.ans_model.specs.Bytes.{IsByte}
+use Rattle.ans_model.specs.Text.FaultText.{fault_line}
 use Rattle.ans_model.specs.declared.fault.Cause.{Cause}
 use Rattle.ans_report.specs.Meanings.{fault_help}
 use Rattle.ans_report.specs.declared.meanings.Help.{Help}
@@ -64,5 +65,7 @@ help_clean : (asked : Mends) (cause : Cause) → IsCleanText (help_text asked ca
 help_clean asked cause = helped_clean asked (fault_help cause)
 
 pub unmended_clean : (asked : Mends) (reason : Unmended) → IsCleanText (unmended_text asked reason)
-unmended_clean asked (unmended.Refused fault) = search (clean_lines, help_clean asked fault.cause) depth 20
+unmended_clean asked (unmended.Refused fault) =
+    clean_append (fault_line fault) (help_text asked fault.cause) (search clean_lines depth 20)
+    (help_clean asked fault.cause)
 unmended_clean asked reason = search clean_lines depth 20
