@@ -13,11 +13,11 @@ ghost use Rattle.ans_c.specs.Told.{HandsReport, LacksMendingRoom, ReportsMending
 use crate::numbers::{NO_ROOM, TOO_LONG, WRONG_NUMBER, mends_of};
 use crate::texts::{Nowhere, hand_over};
 use ans_mend::{Draft, MendError, Mended, Unmended, mend_on, put_mended, put_unmended};
+use ans_model::beginning::SAFE_BEGINNING;
 use ans_model::limits::{MAX_FILE, MAX_LINES, MAX_WIDTH};
 use ans_model::mends::Mends;
 use ans_screen::LentRow;
 use ans_verdict::LentScreens;
-use ans_walks::SAFE_BEGINNING;
 use ans_write::{Outbox, Tried};
 use std::io::Write;
 

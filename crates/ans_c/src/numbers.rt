@@ -106,7 +106,7 @@ fn with_bits(mends: Mends, bits: u32, flags: &[MendFlag]) -> Mends
 {
     let mut mends = mends;
     for flag in flags {
-        mends = mends.with(flag.change, bits & flag.bit != 0);
+        mends = mends.with(flag.step, bits & flag.bit != 0);
     }
     mends
 }

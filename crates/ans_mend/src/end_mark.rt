@@ -34,7 +34,7 @@ impl<'a> Draft<'a> {
     /// Puts an end mark behind the content of a file that has a record, before the comments that the
     /// record counts, where there is none (SAUCE 00.5, file layout). Returns its offset, in bytes from the
     /// file's start. The draft needs room for a byte.
-    pub fn put_end_mark(&mut self) -> Option<usize>
+    pub(crate) fn put_end_mark(&mut self) -> Option<usize>
         requires { 1 ≤ self.old.room }
         ensures file { self.new.file ≡ with_end_mark self.old.file }
         ensures offset { result ≡ end_mark_put self.old.file }

@@ -9,7 +9,7 @@ use crate::draft::Draft;
 
 impl<'a> Draft<'a> {
     /// States this number of lines in the record (TInfo2).
-    pub fn state_lines(&mut self, lines: u16)
+    pub(crate) fn state_lines(&mut self, lines: u16)
         requires { 128 ≤ length self.old.file }
         ensures { self.new
             ≡ draft_of (with_record (with_lines lines (record_in self.old.file)) self.old.file) self.old.room }
@@ -18,7 +18,7 @@ impl<'a> Draft<'a> {
     }
 
     /// Sets the non-blink flag of the record, or clears it (TFlags, bit 0).
-    pub fn state_non_blink(&mut self, on: bool)
+    pub(crate) fn state_non_blink(&mut self, on: bool)
         requires { 128 ≤ length self.old.file }
         ensures { self.new
             ≡ draft_of (with_record (with_non_blink on (record_in self.old.file)) self.old.file) self.old.room }
@@ -27,7 +27,7 @@ impl<'a> Draft<'a> {
     }
 
     /// States this size of the file without its comments and its record, in bytes (FileSize).
-    pub fn state_file_size(&mut self, size: u32)
+    pub(crate) fn state_file_size(&mut self, size: u32)
         requires { 128 ≤ length self.old.file }
         ensures { self.new
             ≡ draft_of (with_record (with_file_size size (record_in self.old.file)) self.old.file) self.old.room }

@@ -98,7 +98,7 @@ impl<'a> Draft<'a> {
     /// something is printed behind, and there are two of these. Behind a full row the cursor stands in the
     /// next row already, so a line end there makes an empty one. Returns how many line ends, and the offset of
     /// the first, in bytes from the file's start.
-    pub fn take_out_row_ends(&mut self, size: Size) -> Option<Times>
+    pub(crate) fn take_out_row_ends(&mut self, size: Size) -> Option<Times>
         requires { length self.old.file ≤ longest_file }
         ensures file { HasFullRows size self.old.file self.new.file result }
         ensures no_longer { length self.new.file ≤ length self.old.file }

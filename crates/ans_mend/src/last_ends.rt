@@ -124,7 +124,7 @@ impl<'a> Draft<'a> {
     /// Takes as few line ends at the very end out of the content of a file that has a record as must go for
     /// it to pass from the cleared start on a screen of this size, where it then does. Returns how many, and
     /// the offset of the first, in bytes from the file's start.
-    pub fn take_out_last_ends(&mut self, size: Size) -> Option<Times>
+    pub(crate) fn take_out_last_ends(&mut self, size: Size) -> Option<Times>
         requires { length self.old.file ≤ longest_file }
         ensures file { HasFewerEnds size self.old.file self.new.file result }
         ensures no_longer { length self.new.file ≤ length self.old.file }

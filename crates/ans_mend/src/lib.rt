@@ -29,11 +29,9 @@ mod taking_out;
 
 pub use draft::Draft;
 pub use last_ends::{count_line_ends, count_passing};
-pub use line_ends::count_line_feeds;
 pub use mended_text::{put_mended, put_unmended};
 pub use mending::mend_on;
 pub use name_search::begins_unnamed;
-pub use new_record::refusal_of;
 pub use outcome::{Edits, GivenRecord, MendError, Mended, NonBlink, Reset, Unmended};
 pub use room::room_for;
 pub use taking_out::{Excerpt, TakenOut, Told};

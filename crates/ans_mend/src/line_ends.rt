@@ -20,7 +20,7 @@ fn is_line_feed(byte: u8) -> bool
 }
 
 /// How many line feeds there are.
-pub fn count_line_feeds(bytes: &[u8]) -> usize
+pub(crate) fn count_line_feeds(bytes: &[u8]) -> usize
     ensures count { result ≡ line_feeds bytes.now }
     ensures within { result ≤ length bytes.now }
 {
@@ -122,7 +122,7 @@ impl<'a> Draft<'a> {
     /// Puts a return before each line feed of the content of a file that has a record, where it has line
     /// feeds and no return. Returns how many, and the place of the first line feed, in bytes from the
     /// file's start. The draft needs room for as many bytes as the content has line feeds.
-    pub fn put_returns(&mut self) -> Option<Times>
+    pub(crate) fn put_returns(&mut self) -> Option<Times>
         requires { line_feeds (content_in self.old.file) ≤ self.old.room }
         ensures file { self.new.file ≡ with_line_ends self.old.file }
         ensures times { ArePut self.old.file result }

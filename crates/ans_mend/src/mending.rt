@@ -14,10 +14,10 @@ use crate::judging::{Reading, judge, read};
 use crate::lines::{lines_for, open_lines, take_lines};
 use crate::outcome::{Edits, GivenRecord, MendError, Mended, NonBlink, Reset, Unmended};
 use crate::room::room_for;
+use ans_model::beginning::SAFE_BEGINNING;
 use ans_model::limits::MAX_FILE;
 use ans_model::mends::Mends;
 use ans_verdict::Screens;
-use ans_walks::SAFE_BEGINNING;
 
 /// Gives the file a record of the width that is asked for, where it takes one. Returns what was put.
 fn give_record(draft: &mut Draft<'_>, mends: &Mends) -> Option<GivenRecord>

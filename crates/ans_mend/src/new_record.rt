@@ -67,7 +67,7 @@ fn cut_for_record(file: &[u8]) -> Option<(&[u8], &[u8])>
 
 /// Why a file is not mended whose record or layout has this fault: whether a record could be put is part of
 /// it where there is none.
-pub fn refusal_of(file: &[u8], fault: Fault) -> Unmended
+pub(crate) fn refusal_of(file: &[u8], fault: Fault) -> Unmended
     ensures { result ≡ refusal_of file.now fault }
 {
     match fault.cause {

@@ -37,7 +37,7 @@ impl<'a> Draft<'a> {
     /// Cuts off what follows the last record of version 00, if that is nothing but zero bytes, line feeds,
     /// returns and end marks; but nothing of a file that ends in a record of type Character/ANSi. Returns how
     /// many bytes were cut, and where the first of them was, in bytes from the file's start.
-    pub fn cut_tail(&mut self) -> Option<Times>
+    pub(crate) fn cut_tail(&mut self) -> Option<Times>
         ensures cut { IsTailCut self.old.file self.new.file }
         ensures times { result
             ≡ times_at (length self.old.file - length self.new.file) (length self.new.file) }

@@ -181,7 +181,7 @@ impl<'a> Draft<'a> {
     /// they are refused: the content is read token by token up to what is refused, and goes on behind it if
     /// it is one of these. What the last switch for bright backgrounds says becomes the record's non-blink
     /// flag. Returns what is told of them; offsets are in bytes from the file's start, as it was before.
-    pub fn take_out(&mut self) -> Told
+    pub(crate) fn take_out(&mut self) -> Told
         requires { length self.old.file ≤ longest_file }
         ensures file { AreTakenOut self.old.file self.new.file result }
         ensures no_longer { length self.new.file ≤ length self.old.file }

@@ -1,18 +1,18 @@
 -- The flags of mend: what each is called, and what it asks for.
 use Rattle.std.specs.Prelude.{ℕ, Bool, List, [], ◌∷◌, codes}
-use Rattle.ans_model.specs.declared.mends.Change.{Change}
-use Rattle.ans_model.specs.declared.mends.Change.TheVariants.{TakeOut, LineEnds, FullRows, NameColours, LeastLines}
+use Rattle.ans_model.specs.declared.mends.MendStep.{MendStep}
+use Rattle.ans_model.specs.declared.mends.MendStep.TheVariants.{TakeOut, LineEnds, FullRows, NameColours, LeastLines}
 use Rattle.ans_model.specs.declared.mends.MendFlag.{MendFlag}
 use Rattle.ans_model.specs.declared.mends.Mends.{Mends}
 
 -- a flag without its help
 pub record FlagRow : Type 0 where
-  pub change : Change
+  pub step : MendStep
   pub name : List ℕ
   pub bit : ℕ
 
-abbrev pub flag_row : Change → List ℕ → ℕ → FlagRow
-flag_row change name bit = record { change = change; name = name; bit = bit }
+abbrev pub flag_row : MendStep → List ℕ → ℕ → FlagRow
+flag_row step name bit = record { step = step; name = name; bit = bit }
 
 -- the flags, in the order of the help
 abbrev pub mend_flags : List FlagRow
@@ -26,17 +26,17 @@ mend_flags =
 
 -- what the program's table has of one
 abbrev pub row_of_flag : MendFlag → FlagRow
-row_of_flag f = flag_row f.change f.name.now f.bit
+row_of_flag f = flag_row f.step f.name.now f.bit
 
--- with this change asked for, or not
-abbrev pub with_change : Change → Bool → Mends → Mends
-with_change TakeOut asked mends = record mends { take_out = asked }
-with_change LineEnds asked mends = record mends { line_ends = asked }
-with_change FullRows asked mends = record mends { full_rows = asked }
-with_change NameColours asked mends = record mends { name_colours = asked }
-with_change LeastLines asked mends = record mends { least_lines = asked }
+-- with this step asked for, or not
+abbrev pub with_step : MendStep → Bool → Mends → Mends
+with_step TakeOut asked mends = record mends { take_out = asked }
+with_step LineEnds asked mends = record mends { line_ends = asked }
+with_step FullRows asked mends = record mends { full_rows = asked }
+with_step NameColours asked mends = record mends { name_colours = asked }
+with_step LeastLines asked mends = record mends { least_lines = asked }
 
--- with each change asked for whose flag is given
+-- with each step asked for whose flag is given
 abbrev pub with_given : (FlagRow → Bool) → Mends → List FlagRow → Mends
 with_given is_given mends [] = mends
-with_given is_given mends (f ∷ more) = with_given is_given (with_change f.change (is_given f) mends) more
+with_given is_given mends (f ∷ more) = with_given is_given (with_step f.step (is_given f) mends) more

@@ -10,7 +10,8 @@ use crate::kind::Kind;
 use crate::size::Size;
 
 /// Where a token takes a cursor, by row and column from 0, if that is all that it does. A move stops at the
-/// screen's edge, also one to a row and a column (ANSI.SYS). Any other token leaves the cursor where it is.
+/// screen's edge, also one to a row and a column (ANSI.SYS). For any other token it is the place
+/// given, though a printed byte moves a cursor on.
 #[inline(always)]
 pub fn destination(position: Position, kind: &Kind, size: Size) -> Position
     requires { IsOnScreen size position }

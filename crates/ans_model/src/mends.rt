@@ -1,9 +1,9 @@
 //! What is asked for of a file that is mended.
 
 ghost use Rattle.std.specs.Prelude.{◌≡◌, map};
-ghost use Rattle.ans_model.specs.MendFlags.{mend_flags, row_of_flag, with_change};
+ghost use Rattle.ans_model.specs.MendFlags.{mend_flags, row_of_flag, with_step};
 
-/// What may be changed of a file that is mended, besides what is mended by itself.
+/// What may be asked for of a file that is mended, besides what is mended by itself.
 #[derive(Debug, Clone, Copy, PartialEq, Eq)]
 pub struct Mends {
     /// The width of the record that a file without one is given, in columns: 1 to 1024. Its lines are
@@ -15,7 +15,7 @@ pub struct Mends {
     /// The sequences are screen modes, font selections, music, 24-bit colours, reports that are asked for,
     /// reassigned keys, and an unfinished one at the end.
     pub take_out: bool,
-    /// Whether the line ends behind full rows are taken out, where each full row has one.
+    /// Whether the line ends after full rows are taken out, where each full row has one.
     pub full_rows: bool,
     /// Whether colour sequences with a 0 or an omitted number name the foreground and the background after
     /// it, 37 and 40, where something is printed or cleared in a player's own colours.
@@ -40,28 +40,28 @@ impl Mends {
         lines: None,
     };
 
-    /// The same, with this change asked for or not.
-    pub fn with(self, change: Change, asked: bool) -> Mends
-        ensures { result ≡ with_change change asked self }
+    /// The same, with this step asked for or not.
+    pub fn with(self, step: MendStep, asked: bool) -> Mends
+        ensures { result ≡ with_step step asked self }
     {
-        match change {
-            Change::TakeOut => Mends {
+        match step {
+            MendStep::TakeOut => Mends {
                 take_out: asked,
                 ..self
             },
-            Change::LineEnds => Mends {
+            MendStep::LineEnds => Mends {
                 line_ends: asked,
                 ..self
             },
-            Change::FullRows => Mends {
+            MendStep::FullRows => Mends {
                 full_rows: asked,
                 ..self
             },
-            Change::NameColours => Mends {
+            MendStep::NameColours => Mends {
                 name_colours: asked,
                 ..self
             },
-            Change::LeastLines => Mends {
+            MendStep::LeastLines => Mends {
                 least_lines: asked,
                 ..self
             },
@@ -69,9 +69,9 @@ impl Mends {
     }
 }
 
-/// A change that a flag asks for, and no number: a field of [`Mends`] each.
+/// A step of mending that a flag without a value asks for: a field of [`Mends`] each.
 #[derive(Debug, Clone, Copy, PartialEq, Eq)]
-pub enum Change {
+pub enum MendStep {
     TakeOut,
     LineEnds,
     FullRows,
@@ -79,10 +79,10 @@ pub enum Change {
     LeastLines,
 }
 
-/// How a change is asked for.
+/// How a step is asked for.
 #[derive(Debug, Clone, Copy)]
 pub struct MendFlag {
-    pub change: Change,
+    pub step: MendStep,
     /// The flag's name, without `--`.
     pub name: &'static str,
     /// The bit that stands for it in a number.
@@ -93,31 +93,31 @@ pub struct MendFlag {
 
 const MEND_FLAGS: [MendFlag; 5] = [
     MendFlag {
-        change: Change::TakeOut,
+        step: MendStep::TakeOut,
         name: "take-out",
         bit: 1,
         help: "Take out refused sequences, such as screen modes",
     },
     MendFlag {
-        change: Change::LineEnds,
+        step: MendStep::LineEnds,
         name: "line-ends",
         bit: 2,
         help: "Put a return before each line feed, where there is none",
     },
     MendFlag {
-        change: Change::FullRows,
+        step: MendStep::FullRows,
         name: "full-rows",
         bit: 4,
         help: "Take out the line ends behind full rows, if each has one",
     },
     MendFlag {
-        change: Change::NameColours,
+        step: MendStep::NameColours,
         name: "name-colours",
         bit: 16,
         help: "Put 37 and 40 after a 0 that something is printed in",
     },
     MendFlag {
-        change: Change::LeastLines,
+        step: MendStep::LeastLines,
         name: "least-lines",
         bit: 8,
         help: "State the least number of lines that is enough",

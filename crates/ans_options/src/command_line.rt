@@ -461,7 +461,7 @@ fn with_given(matches: &ArgMatches<'_>, mends: Mends, flags: &[MendFlag]) -> Men
 {
     let mut mends = mends;
     for flag in flags {
-        mends = mends.with(flag.change, holds(matches, flag.name));
+        mends = mends.with(flag.step, holds(matches, flag.name));
     }
     mends
 }

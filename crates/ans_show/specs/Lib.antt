@@ -2,6 +2,6 @@ pub mod Looks
 pub mod Runs
 pub mod TerminalText
 pub mod PageText
-pub mod Forms
+pub mod Markups
 pub mod ShortTexts
-pub mod FormTables
+pub mod MarkupTables

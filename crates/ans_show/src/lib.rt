@@ -5,8 +5,8 @@
 //! What a reader sees of them is the picture: the laws of `ans_picture_laws` say so.
 #![tactic(auto)]
 
-mod form;
-mod form_tables;
+mod markup;
+mod markup_tables;
 mod look;
 mod page;
 mod rows;

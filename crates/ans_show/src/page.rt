@@ -1,13 +1,13 @@
 //! The picture as a page.
 ghost use Rattle.std.specs.Prelude.{◌≡◌, ◌<◌, [], ◌++◌, codes, decimal, if◌then◌else◌};
 ghost use Rattle.ans_write.specs.Puts.{Puts};
-ghost use Rattle.ans_show.specs.Forms.{IsPage};
+ghost use Rattle.ans_show.specs.Markups.{IsPage};
 ghost use Rattle.ans_show.specs.Looks.{look_of};
 ghost use Rattle.ans_show.specs.ShortTexts.{short_bytes};
 ghost use Rattle.ans_show.specs.PageText.{span_text, page_title, page_style, page_text};
 
-use crate::form::Markup;
-use crate::form_tables::{Break, FormTables};
+use crate::markup::Markup;
+use crate::markup_tables::{Break, MarkupTables};
 use crate::look::{background, blinks, foreground};
 use crate::rows::put_rows;
 use ans_play::Picture;
@@ -96,8 +96,8 @@ const STYLE: &[u8] = b"</title>\n<style>\nbody{background:#000}\n\
 const END: &[u8] = b"</pre>\n</body>\n</html>\n";
 
 /// Puts the title, by the tables of a page.
-fn put_title<W: Write>(out: &mut Outbox<'_, W>, title: &[u8], tables: &FormTables)
-    requires { IsPage tables.now.form }
+fn put_title<W: Write>(out: &mut Outbox<'_, W>, title: &[u8], tables: &MarkupTables)
+    requires { IsPage tables.now.markup }
     ensures { Puts W.contents out.old out.new (page_title title.now) }
 {
     if title.is_empty() {
@@ -121,7 +121,7 @@ pub fn put_page<W: Write, G: Screen>(
 )
     ensures { Puts W.contents out.old out.new (page_text non_blink title.now picture.now) }
 {
-    let tables = FormTables::new(Markup::Page { non_blink });
+    let tables = MarkupTables::new(Markup::Page { non_blink });
     out.put(START);
     put_title(out, title, &tables);
     out.put(STYLE);

@@ -4,10 +4,10 @@ ghost use Rattle.std.specs.List.{flat_map};
 ghost use Rattle.ans_model.specs.Text.ReportText.{rows_of};
 ghost use Rattle.ans_play.specs.Shown.{cells_of_row};
 ghost use Rattle.ans_write.specs.Puts.{Puts};
-ghost use Rattle.ans_show.specs.Forms.{end_in, line_in, run_end_in};
+ghost use Rattle.ans_show.specs.Markups.{end_in, line_in, run_end_in};
 
-use crate::form::{Markup, line_end, run_end};
-use crate::form_tables::{CELL, FormTables};
+use crate::markup::{Markup, line_end, run_end};
+use crate::markup_tables::{CELL, MarkupTables};
 use ans_model::limits::MAX_WIDTH;
 use ans_play::Picture;
 use ans_screen::Screen;
@@ -18,13 +18,13 @@ use std::io::Write;
 const ROW: usize = CELL * MAX_WIDTH;
 
 /// Puts cells that were written as if a run stood before them, and ends their line.
-fn put_cells<W: Write>(out: &mut Outbox<'_, W>, cells: &[u8], form: Markup)
-    requires { length (run_end_in form) ≤ length cells.now }
+fn put_cells<W: Write>(out: &mut Outbox<'_, W>, cells: &[u8], markup: Markup)
+    requires { length (run_end_in markup) ≤ length cells.now }
     ensures { Puts W.contents out.old out.new
-        (drop (length (run_end_in form)) cells.now ++ (run_end_in form ++ end_in form)) }
+        (drop (length (run_end_in markup)) cells.now ++ (run_end_in markup ++ end_in markup)) }
 {
-    out.put(&cells[run_end(form).len()..]);
-    out.put(line_end(form));
+    out.put(&cells[run_end(markup).len()..]);
+    out.put(line_end(markup));
 }
 
 /// Puts the line of a row. `text` is room for its cells.
@@ -32,13 +32,13 @@ fn put_row<W: Write, G: Screen>(
     out: &mut Outbox<'_, W>,
     picture: &Picture<G>,
     row: usize,
-    tables: &FormTables,
+    tables: &MarkupTables,
     text: &mut [u8],
 )
     requires row { row < picture.now.size.lines }
     requires room { 57344 ≤ length text.old }
     ensures puts { Puts W.contents out.old out.new
-        (line_in tables.now.form (cells_of_row picture.now row)) }
+        (line_in tables.now.markup (cells_of_row picture.now row)) }
     ensures length { length text.new ≡ length text.old }
 {
     let width = picture.width();
@@ -49,16 +49,16 @@ fn put_row<W: Write, G: Screen>(
     let attributes = &mut attributes[..width];
     picture.copy_attributes(row, attributes);
     let end = tables.write_row(bytes, attributes, text);
-    put_cells(out, &text[..end], tables.form);
+    put_cells(out, &text[..end], tables.markup);
 }
 
 pub(crate) fn put_rows<W: Write, G: Screen>(
     out: &mut Outbox<'_, W>,
     picture: &Picture<G>,
-    tables: &FormTables,
+    tables: &MarkupTables,
 )
     ensures { Puts W.contents out.old out.new
-        (flat_map (line_in tables.now.form) (rows_of picture.now)) }
+        (flat_map (line_in tables.now.markup) (rows_of picture.now)) }
 {
     let mut text = [0; ROW];
     for row in 0..picture.lines() {

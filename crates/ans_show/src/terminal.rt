@@ -6,8 +6,8 @@ ghost use Rattle.ans_show.specs.Looks.{look_of};
 ghost use Rattle.ans_show.specs.ShortTexts.{short_bytes};
 ghost use Rattle.ans_show.specs.TerminalText.{parameter, foreground_text, background_text, colours_text, terminal_text};
 
-use crate::form::Markup;
-use crate::form_tables::{Break, FormTables};
+use crate::markup::Markup;
+use crate::markup_tables::{Break, MarkupTables};
 use crate::look::{background, blinks, foreground};
 use crate::rows::put_rows;
 use ans_play::Picture;
@@ -115,6 +115,6 @@ pub fn put_terminal<W: Write, G: Screen>(
 )
     ensures { Puts W.contents out.old out.new (terminal_text vga non_blink picture.now) }
 {
-    let tables = FormTables::new(Markup::Terminal { vga, non_blink });
+    let tables = MarkupTables::new(Markup::Terminal { vga, non_blink });
     put_rows(out, picture, &tables);
 }

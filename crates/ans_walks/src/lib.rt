@@ -1,15 +1,13 @@
-//! What walks over a content tell: plays of the cursors, the colours and wrap alone, without a screen.
+//! What walks over a content report: plays of the cursors, the colours and wrap alone, without a screen.
 //!
 //! Of a fault that is deserved, [`cursors_before`] and [`cells_of_fault`] give what the plays from the
 //! low and the high start of a class show. [`least_lines`] says with how many lines a content passes
-//! from the cleared start, [`count_passing`] how few line ends at its end have to go for it to pass, and
-//! [`is_taller`] whether it plays on taller screens as on the stated one. [`ends_full_rows`] says whether
-//! all full rows end in line ends, and [`RowPlay`] finds these one by one. [`Hints::of`] counts what is
-//! worth a look in a drawing, though it changes no verdict. [`kinds_used`] counts the kinds in which
-//! players part that a drawing makes use of, [`Players::of`] says on which players and from which starts
-//! it shows its picture, and [`is_same_where_cleared`] whether from every start as from the cleared one.
-//! [`SAFE_BEGINNING`] stands in front of a drawing that is mended. Each law is the contract of a function
-//! without a body. Nothing here takes memory.
+//! from the cleared start, and [`is_taller`] whether it plays on taller screens as on the stated one.
+//! [`ends_full_rows`] says whether all full rows end in line ends, and [`RowPlay`] finds these one by one.
+//! [`Hints::of`] counts what is worth a look in a drawing, though it changes no verdict. [`kinds_used`]
+//! counts the kinds in which players part that a drawing makes use of, [`Players::of`] says on which
+//! players and from which starts it shows its picture, and [`is_same_where_cleared`] whether from every start as from the cleared one.
+//! Nothing here takes memory. What is proved of these walks is in `ans_play_laws`.
 //!
 //! A `Pen` is all of a state but its cells. No cell tells where a token takes it, so it goes on without
 //! them, also where the screen scrolls (`specs/Pens.antt`). What each hint is about stands in
@@ -38,7 +36,6 @@ mod two_watches;
 mod walk;
 mod watch;
 
-pub use ans_model::beginning::SAFE_BEGINNING;
 pub use calm::least_class_for_players;
 pub use evidence::{cells_of_fault, cursors_before};
 pub use full_row_ends::{FullRowEnd, ends_full_rows};

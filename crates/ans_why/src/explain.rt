@@ -21,15 +21,14 @@ ghost use Rattle.ans_why.specs.Explained.{IsRecordRefusal, IsRefusal};
 use crate::blamed::bytes_to_blame;
 use crate::known_bytes::known_sequence;
 use crate::why::{Enough, Pass, Place, RecordRefusal, Refusal, Reliance, Shown};
+use ans_model::beginning::SAFE_BEGINNING;
 use ans_model::cell::Position;
 use ans_model::fault::{Cause, Fault};
 use ans_model::limits::MAX_FILE;
 use ans_model::size::Size;
 use ans_model::start::Start;
 use ans_sauce::{Parts, WithoutLines, find, without_lines};
-use ans_walks::{
-    Hints, Players, SAFE_BEGINNING, cells_of_fault, cursors_before, is_taller, least_lines,
-};
+use ans_walks::{Hints, Players, cells_of_fault, cursors_before, is_taller, least_lines};
 
 fn place(size: Size, position: Position) -> Place
     requires { IsOnScreen size position }

@@ -2,8 +2,8 @@ use Rattle.std.proofs.Common.{ap}
 use Rattle.std.specs.List.{flat_map}
 use Rattle.ans_model.specs.Text.ReportText.{rows_of}
 use Rattle.ans_write.proofs.PutsLemmas.{Puts-same, Puts-then}
-use Rattle.ans_show.specs.declared.form.Markup.{Markup}
-use Rattle.ans_show.specs.Forms.{line_in}
+use Rattle.ans_show.specs.declared.markup.Markup.{Markup}
+use Rattle.ans_show.specs.Markups.{line_in}
 use Rattle.ans_show.specs.PageText.{page_start, page_style, page_end}
 use Rattle.ans_show.proofs.page.put_page.Goals as goal
 

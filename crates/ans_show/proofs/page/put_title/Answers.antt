@@ -13,5 +13,5 @@ returns-then-is_empty g c =
 pub returns-else-is_empty : goal.returns-else-is_empty
 returns-else-is_empty g c =
     let some : 0 < length c.args.title.now = search rules in
-    Puts-same (page_characters c.args.tables.now.form c.requires c.args.title.now
+    Puts-same (page_characters c.args.tables.now.markup c.requires c.args.title.now
     ∙ title_of_some c.args.title.now some) c.put_characters.ensures

@@ -2,7 +2,7 @@ use Rattle.std.proofs.Common.{rules, arith, ◌≡◌, ◌<◌, [], true, sym, a
 use Rattle.ans_model.specs.Text.ReportText.{rows_of}
 use Rattle.ans_write.specs.Puts.{device_failed}
 use Rattle.ans_write.proofs.PutsLemmas.{Puts-nothing, Puts-same, Puts-next, Puts-all}
-use Rattle.ans_show.specs.Forms.{line_in}
+use Rattle.ans_show.specs.Markups.{line_in}
 use Rattle.ans_play.proofs.PictureRows.{row_at, within_rows, all_rows}
 use Rattle.ans_show.proofs.rows.put_rows.Goals as goal
 
@@ -12,14 +12,14 @@ loop-row-init g c = record { room = search rules; puts = Puts-nothing c.args.out
 pub returns-then-has_failed : goal.returns-then-has_failed
 returns-then-has_failed g c =
     let failed : device_failed c.loop-row.out ≡ true = search rules in
-    Puts-all (line_in c.args.tables.now.form) (rows_of c.args.picture.now) c.loop-row.row failed
+    Puts-all (line_in c.args.tables.now.markup) (rows_of c.args.picture.now) c.loop-row.row failed
     c.loop-row.invariant.puts
 
 pub loop-row-preserved : goal.loop-row-preserved
 loop-row-preserved g c =
     let p = c.args.picture.now in
     let i = c.loop-row.row in
-    let line = line_in c.args.tables.now.form in
+    let line = line_in c.args.tables.now.markup in
     let lt : i < p.size.lines = omega arith in
     record {
       room = c.put_row.ensures.length ∙ c.loop-row.invariant.room;

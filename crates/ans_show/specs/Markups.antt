@@ -1,15 +1,15 @@
--- How the lines of a picture are written in each form.
+-- How the lines of a picture are written in each markup.
 use Rattle.std.specs.Prelude.{ℕ, List, [], ◌++◌, codes, encode_utf8, flat_map, ⊤}
 use Rattle.ans_model.specs.declared.cell.Cell.{Cell}
 use Rattle.ans_model.specs.Text.Characters.{glyph_text}
-use Rattle.ans_show.specs.declared.form.Markup.{Markup}
-use Rattle.ans_show.specs.declared.form.Markup.TheVariants.{Terminal, Page}
+use Rattle.ans_show.specs.declared.markup.Markup.{Markup}
+use Rattle.ans_show.specs.declared.markup.Markup.TheVariants.{Terminal, Page}
 use Rattle.ans_show.specs.Looks.{look_of}
 use Rattle.ans_show.specs.PageText.{page_character, run_span, span_text}
 use Rattle.ans_show.specs.Runs.{Run, runs}
 use Rattle.ans_show.specs.TerminalText.{colours_text, run_text, terminal_line_end}
 
--- the form is a page
+-- the markup is a page
 abbrev pub IsPage : Markup → Type 0
 IsPage (Terminal vga non_blink) = ⊥
 IsPage (Page non_blink) = ⊤
@@ -26,7 +26,7 @@ end_in (Page non_blink) = codes "\n"
 
 -- the line of a row
 abbrev pub line_in : Markup → List Cell → List ℕ
-line_in form row = flat_map (run_in form) (runs row) ++ end_in form
+line_in markup row = flat_map (run_in markup) (runs row) ++ end_in markup
 
 -- where a run begins, by its attribute
 abbrev pub start_in : Markup → ℕ → List ℕ
@@ -45,4 +45,4 @@ run_end_in (Page non_blink) = codes "</span>"
 
 -- between two runs: the first one ends, and one of this attribute begins
 abbrev pub break_in : Markup → ℕ → List ℕ
-break_in form attribute = run_end_in form ++ start_in form attribute
+break_in markup attribute = run_end_in markup ++ start_in markup attribute

@@ -1,16 +1,16 @@
-//! How runs begin and bytes are shown in a form, in tables.
+//! How runs begin and bytes are shown in a markup, in tables.
 ghost use Rattle.std.specs.Prelude.{◌≡◌, ◌==◌, ◌+◌, ◌*◌, ◌≤◌, ◌<◌, [], ◌++◌, length, take, if◌then◌else◌};
 ghost use Rattle.std.specs.List.{flat_map};
 ghost use Rattle.std.specs.Simd.Lanes.{zip2};
 ghost use Rattle.ans_model.specs.Screen.State.{cell};
 ghost use Rattle.ans_write.specs.Puts.{Puts};
 ghost use Rattle.ans_write.specs.Tables.{byte_text};
-ghost use Rattle.ans_show.specs.FormTables.{IsTableOf, cells_shown};
-ghost use Rattle.ans_show.specs.Forms.{break_in, character_in};
+ghost use Rattle.ans_show.specs.MarkupTables.{IsTableOf, cells_shown};
+ghost use Rattle.ans_show.specs.Markups.{break_in, character_in};
 ghost use Rattle.ans_show.specs.PageText.{page_character};
 ghost use Rattle.ans_show.specs.ShortTexts.{short_bytes};
 
-use crate::form::Markup;
+use crate::markup::Markup;
 use crate::page::span_break;
 use crate::short_text::ShortText;
 use crate::terminal::colours;
@@ -32,26 +32,26 @@ const NO_ATTRIBUTE: usize = 256;
 /// What is written where a run begins behind another, by its attribute, and the character of each
 /// byte.
 #[derive(Drop)]
-pub(crate) struct FormTables {
-    pub(crate) form: Markup,
+pub(crate) struct MarkupTables {
+    pub(crate) markup: Markup,
     pub(crate) breaks: [Break; 256],
     pub(crate) characters: [Character; 256],
-    ghost broken: { IsTableOf (break_in form) breaks },
-    ghost shown: { IsTableOf (character_in form) characters },
+    ghost broken: { IsTableOf (break_in markup) breaks },
+    ghost shown: { IsTableOf (character_in markup) characters },
 }
 
-impl FormTables {
-    pub(crate) fn new(form: Markup) -> FormTables
-        ensures { result.form ≡ form }
+impl MarkupTables {
+    pub(crate) fn new(markup: Markup) -> MarkupTables
+        ensures { result.markup ≡ markup }
     {
-        let mut breaks = [run_break(form, 0); 256];
-        let mut characters = [character(form, 0); 256];
+        let mut breaks = [run_break(markup, 0); 256];
+        let mut characters = [character(markup, 0); 256];
         for byte in 0..256 {
-            breaks[byte] = run_break(form, byte as u8);
-            characters[byte] = character(form, byte as u8);
+            breaks[byte] = run_break(markup, byte as u8);
+            characters[byte] = character(markup, byte as u8);
         }
-        FormTables {
-            form,
+        MarkupTables {
+            markup,
             breaks,
             characters,
         }
@@ -65,7 +65,7 @@ impl FormTables {
         ensures within { result ≤ end + 48 }
         ensures length { length text.new ≡ length text.old }
         ensures text { take result text.new
-            ≡ take end text.old ++ (if last == attribute then [] else break_in self.now.form attribute) }
+            ≡ take end text.old ++ (if last == attribute then [] else break_in self.now.markup attribute) }
     {
         if last == attribute as usize {
             return end;
@@ -79,7 +79,7 @@ impl FormTables {
         requires { end + 8 ≤ length text.old }
         ensures within { result ≤ end + 8 }
         ensures length { length text.new ≡ length text.old }
-        ensures text { take result text.new ≡ take end text.old ++ character_in self.now.form byte }
+        ensures text { take result text.new ≡ take end text.old ++ character_in self.now.markup byte }
     {
         self.characters[byte as usize].write_to(text, end)
     }
@@ -92,7 +92,7 @@ impl FormTables {
         ensures within { result ≤ length text.new }
         ensures length { length text.new ≡ length text.old }
         ensures text { take result text.new
-            ≡ cells_shown self.now.form 256 (zip2 cell bytes.now attributes.now) }
+            ≡ cells_shown self.now.markup 256 (zip2 cell bytes.now attributes.now) }
     {
         let mut end = 0;
         let mut last = NO_ATTRIBUTE;
@@ -106,7 +106,7 @@ impl FormTables {
 
     /// Puts the characters of bytes.
     pub(crate) fn put_characters<W: Write>(&self, out: &mut Outbox<'_, W>, bytes: &[u8])
-        ensures { Puts W.contents out.old out.new (flat_map (character_in self.now.form) bytes.now) }
+        ensures { Puts W.contents out.old out.new (flat_map (character_in self.now.markup) bytes.now) }
     {
         for byte in bytes {
             let character = &self.characters[*byte as usize];
@@ -142,19 +142,19 @@ fn page_character(byte: u8) -> Character
     }
 }
 
-fn character(form: Markup, byte: u8) -> Character
-    ensures { short_bytes result ≡ character_in form byte }
+fn character(markup: Markup, byte: u8) -> Character
+    ensures { short_bytes result ≡ character_in markup byte }
 {
-    match form {
+    match markup {
         Markup::Terminal { .. } => utf8_character(byte),
         Markup::Page { .. } => page_character(byte),
     }
 }
 
-fn run_break(form: Markup, attribute: u8) -> Break
-    ensures { short_bytes result ≡ break_in form attribute }
+fn run_break(markup: Markup, attribute: u8) -> Break
+    ensures { short_bytes result ≡ break_in markup attribute }
 {
-    match form {
+    match markup {
         Markup::Terminal { vga, non_blink } => colours(attribute, non_blink, vga),
         Markup::Page { non_blink } => span_break(attribute, non_blink),
     }

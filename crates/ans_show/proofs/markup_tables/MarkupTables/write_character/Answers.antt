@@ -1,5 +1,5 @@
 use Rattle.std.proofs.Common.{arith, ◌<◌, ◌++◌, List, ℕ, take, ap, ◌∙◌}
-use Rattle.ans_show.proofs.form_tables.FormTables.write_character.Goals as goal
+use Rattle.ans_show.proofs.markup_tables.MarkupTables.write_character.Goals as goal
 
 pub returns-clause-text : goal.returns-clause-text
 returns-clause-text c =

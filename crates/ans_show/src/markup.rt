@@ -1,8 +1,8 @@
 //! The forms in which a picture is written.
 ghost use Rattle.std.specs.Prelude.{◌≡◌, ◌++◌};
-ghost use Rattle.ans_show.specs.Forms.{end_in, run_end_in};
+ghost use Rattle.ans_show.specs.Markups.{end_in, run_end_in};
 
-/// A form. Where `non_blink` is set, an attribute's bit 7 is a bright background.
+/// A markup. Where `non_blink` is set, an attribute's bit 7 is a bright background.
 #[derive(Clone, Copy)]
 pub(crate) enum Markup {
     Terminal { vga: bool, non_blink: bool },
@@ -10,20 +10,20 @@ pub(crate) enum Markup {
 }
 
 /// What stands behind each run.
-pub(crate) fn run_end(form: Markup) -> &'static [u8]
-    ensures { result.now ≡ run_end_in form }
+pub(crate) fn run_end(markup: Markup) -> &'static [u8]
+    ensures { result.now ≡ run_end_in markup }
 {
-    match form {
+    match markup {
         Markup::Terminal { .. } => b"",
         Markup::Page { .. } => b"</span>",
     }
 }
 
 /// What stands behind the characters of a line's last run.
-pub(crate) fn line_end(form: Markup) -> &'static [u8]
-    ensures { result.now ≡ run_end_in form ++ end_in form }
+pub(crate) fn line_end(markup: Markup) -> &'static [u8]
+    ensures { result.now ≡ run_end_in markup ++ end_in markup }
 {
-    match form {
+    match markup {
         Markup::Terminal { .. } => b"\x1b[0m\n",
         Markup::Page { .. } => b"</span>\n",
     }

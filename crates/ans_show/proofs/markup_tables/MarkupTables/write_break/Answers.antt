@@ -1,7 +1,7 @@
 use Rattle.std.proofs.Common.{arith, false, ◌≡◌, ◌<◌, ◌++◌, List, ℕ, take, ap, ◌∙◌}
 use Rattle.std.specs.Prelude.{◌==◌}
 use Rattle.std.proofs.lemmas.Bool.{ne_eqb}
-use Rattle.ans_show.proofs.form_tables.FormTables.write_break.Goals as goal
+use Rattle.ans_show.proofs.markup_tables.MarkupTables.write_break.Goals as goal
 
 pub returns-clause-text : goal.returns-clause-text
 returns-clause-text c =
