@@ -7,7 +7,7 @@ Run it in `crates/anscheck`, after `rt run -- check --cleared data/hi.ans` has b
 
 Each row states what is to come: the status, the whole text on standard output and on standard error. They
 are written down from the README and the definitions, and never from what the program printed. The pictures
-of the slow files are worked out here. What `runs/table.py` has already stands there: a folder as FILE,
+of the slow files are worked out here. What `runs/run_all.py` has already is there: a folder as FILE,
 `/dev/full` and a closed output for small files, and the longest file without a record.
 
 A check of a slow file has a limit of 1 second, and `needs` of 6, since it plays up to six times. The other commands
@@ -38,13 +38,14 @@ ABOVE = os.path.dirname(os.path.dirname(os.path.abspath(__file__)))
 sys.path[:0] = [os.path.join(ABOVE, "runs"), os.path.join(ABOVE, "bench")]
 
 from speed import CLEAR, LARGEST_FILE, LINES, WIDTH, repeated, slow_files
-from table import HI_PASSES, file_of, plain_record
+from rows import file_of, plain_record
 
 MIB = 1_048_576
 LARGEST_SCREEN = 33_697_809
 ALLOWANCE = 8 * MIB
 CHECK_SECONDS, NEEDS_SECONDS, OTHER_SECONDS, CLOCK_SECONDS = 1.0, 6.0, 10.0, 60
 
+HI_PASSES = b"size: 2 x 1\nstart: cleared\ncontent: 2 bytes\nverdict: pass\npicture:\nHi\n"
 NOT_READ = b"anscheck: cannot read the file\n"
 NOT_WRITTEN = b"anscheck: cannot write the report\n"
 TOO_LONG = b"anscheck: file above 16777216 bytes\n"

@@ -51,7 +51,7 @@ ABOVE = os.path.dirname(os.path.dirname(os.path.abspath(__file__)))
 sys.path[:0] = [os.path.join(ABOVE, "runs"), os.path.join(ABOVE, "compare")]
 
 from second_machine import FAULTS, PARTS, a_content, a_piece
-from table import file_of, plain_record
+from rows import file_of, plain_record
 
 MEMORY = 96 * 1024 * 1024
 SECONDS, LONG_SECONDS, CLOCK_SECONDS = 1.0, 4.0, 30

@@ -1,6 +1,8 @@
 #!/usr/bin/env python3
 """Refuses each call of `anscheck`, and each allocation of the crates' tests, one after the other.
 
+What the program is asked is each command on some files, and the rows of `crates/anscheck_rows`.
+
 Run it in `crates/anscheck`, after `rt run -- check --cleared data/hi.ans` has built the program and
 `rt test` the tests of the crates that allocate (each leaves `out/NAME_tests` in its crate):
 
@@ -54,7 +56,7 @@ HERE = os.path.dirname(os.path.abspath(__file__))
 CRATES = os.path.join(os.path.dirname(os.path.dirname(HERE)), "crates")
 sys.path.insert(0, os.path.join(os.path.dirname(HERE), "runs"))
 
-from table import file_of
+from rows import file_bytes, file_of, input_of, tables, words_of
 
 TESTED = ["ans_screen", "ans_play_tests", "ans_report_tests", "ans_options_tests", "ans_check_tests"]
 AT_ONCE, WORKERS, SECONDS = 16, 4, 120
@@ -74,13 +76,12 @@ IN_ROWS = {
 }
 TEST_ERRORS = (b"error: AllocError\n", b"error: AllocFailed", b"Error: AllocError\n")
 OF_REJECTED_WORDS = {
-    "tests::answers::rejected_words_are_told_on_the_errors",
+    "tests::cut_off::rejected_words_end_alike_where_nothing_can_be_said",
     "tests::endings::words_without_options_have_their_endings",
     "tests::faults::help_takes_one_command",
     "tests::faults::mistakes_have_their_kinds",
     "tests::mends::wrong_words_of_mending_have_their_kind",
     "tests::tables::wrong_words_of_a_table_have_their_kind",
-    "tests::texts::rejected_words_have_their_texts",
     "tests::topics::other_words_ask_for_no_topic",
 }
 KINDS = ["alloc", "alloc-from", "open", "read", "write", "short-read", "short-write"]
@@ -101,7 +102,8 @@ COMMANDS = [
     ["sauce"], ["tokens"], ["table"], ["table", "--json"], ["mend"], ["redraw"],
     ["mend", "--take-out", "--line-ends", "--full-rows", "--name-colours", "--least-lines", "--width", "80"],
 ]
-OTHER_WORDS = [["--help"], ["check", "--help"], ["check", "--bogus"], []]
+# Rows of files near the limit, and of 10,000 files, take an hour.
+TOO_LONG = ("largest.toml", "long_tables.toml")
 
 Ran = collections.namedtuple("Ran", "status out err refused")
 
@@ -218,8 +220,23 @@ def runs_of_the_program(room):
             yield [*words, path], os.devnull
             yield words, listed if words[0] == "table" else path
     yield from ((words, every_name) for words in COMMANDS if words[0] == "table")
-    yield ["check", os.path.join(room, "none")], os.devnull
-    yield from ((words, os.devnull) for words in OTHER_WORDS)
+
+
+def runs_of_rows(room):
+    """What the rows of the tables ask, and their standard input, in a folder with the files of each table."""
+    for number, (name, table) in enumerate(tables()):
+        if name in TOO_LONG:
+            continue
+        folder = os.path.join(room, str(number))
+        os.mkdir(folder)
+        os.chdir(folder)
+        for file, has in table.get("files", {}).items():
+            with open(file, "wb") as to:
+                to.write(file_bytes(has))
+        for row in table["row"]:
+            with open(os.path.join(room, "input"), "wb") as to:
+                to.write(file_bytes(input_of(row)))
+            yield words_of(table, row)[0], os.path.join(room, "input")
 
 
 def try_run(pool, words, stdin, library, refusals):
@@ -237,7 +254,7 @@ def try_run(pool, words, stdin, library, refusals):
 def try_program(pool, program, library, room):
     """How many refused calls of the program came out otherwise; a kind that was never met is one more."""
     refusals, wrong, runs = collections.Counter(), 0, 0
-    for words, stdin in runs_of_the_program(room):
+    for words, stdin in itertools.chain(runs_of_the_program(room), runs_of_rows(room)):
         runs += 1
         wrong += try_run(pool, [program, *words], stdin, library, refusals)
     counts = ", ".join(f"{refusals[kind]} {kind}" for kind in KINDS)

@@ -1,12 +1,14 @@
 #!/usr/bin/env python3
-"""Runs a built `anscheck` on each row of `table.py`, and says which come out otherwise.
+"""Tries a built `anscheck` on real files, pipes and devices, and says what comes out otherwise.
 
 Run it in `crates/anscheck`, after `rt run -- check --cleared data/hi.ans` has built the program:
 
     python3 ../../tools/runs/run_all.py out/anscheck
 
-No contract reaches what is shown here: that the program prints to the right stream, opens the file
-that the words name, and returns the status that its functions choose. It is outside the gate.
+First it tries the rows of `rows.py`, which the gate tries over files in memory: that the program prints to the right
+stream, opens the file that the words name, and returns the status that its functions choose, no contract reaches. A
+file whose reading fails after some bytes cannot be had here, so its rows are left out. Then it tries what only a system
+has: a folder as FILE, a full device, an output that is closed, and a word that is not text. It is outside the gate.
 """
 import os
 import subprocess
@@ -15,41 +17,107 @@ import tempfile
 
 sys.dont_write_bytecode = True
 
-from table import CLOSED, RUNS
+from rows import file_bytes, input_of, printed_of, tables, words_of
+
+HI = "data/hi.ans"
+UNWRITTEN = b"anscheck: cannot write the report\n"
+UNREAD = b"anscheck: cannot read the file\n"
+
+# Words on a full device. Nothing is told of the file but that.
+ON_A_FULL_DEVICE = [
+    ["check", "--cleared", HI], ["check", HI], ["show", HI], ["show", "--html", HI], ["sauce", HI], ["tokens", HI],
+    ["why", HI], ["needs", HI], ["table", HI], ["mend", HI], ["redraw", HI], ["--help"], ["help", "F17"],
+]
+# Words that name a folder.
+OF_A_FOLDER = [[command, "data"] for command in ("check", "needs", "show", "sauce", "tokens", "why", "mend", "redraw")]
 
 
-def input_of(run):
-    """The run's standard input as an open file: no pipe, so that no order of writes matters."""
-    if isinstance(run.stdin, str):
-        return open(run.stdin, "rb")
-    file = tempfile.TemporaryFile()
-    file.write(run.stdin)
-    file.seek(0)
-    return file
+def in_a_folder_with(files, run):
+    """Calls `run` in a folder that has these files."""
+    here = os.getcwd()
+    with tempfile.TemporaryDirectory() as room:
+        os.chdir(room)
+        for name, file in files.items():
+            with open(name, "wb") as f:
+                f.write(file_bytes(file))
+        found = run()
+        os.chdir(here)
+    return found
 
 
-def came_of(program, run):
+def is_real(table, row):
+    """Whether no file of a row fails to be read."""
+    words = [word for one in words_of(table, row) for word in one]
+    named = [file for name, file in table.get("files", {}).items() if name in words or name in str(row.get("input"))]
+    return not any(file.get("torn") for file in named + [input_of(row)])
+
+
+def came_of(program, words, **streams):
     """The status, the standard output and the standard error of a run."""
-    closes = (lambda: os.close(1)) if run.output == CLOSED else None
-    to_device = run.output and run.output != CLOSED
-    with input_of(run) as stdin, open(run.output if to_device else os.devnull, "wb") as device:
-        done = subprocess.run(
-            [program, *run.words], stdin=stdin, stdout=device if run.output else subprocess.PIPE,
-            stderr=subprocess.PIPE, preexec_fn=closes, timeout=60,
-        )
-    return done.returncode, done.stdout or b"", done.stderr
+    streams = {"stdout": subprocess.PIPE, "stderr": subprocess.PIPE, "timeout": 60} | streams
+    done = subprocess.run([program, *words], **streams)
+    return done.returncode, done.stdout or b"", done.stderr or b""
+
+
+def is_as_expected(row, came):
+    """Whether the status and both streams are those of a row."""
+    status, printed, said = came
+    expected, told = printed_of(row), row.get("says", "").encode()
+    prints = printed.startswith(expected) if row.get("prints_more") else printed == expected
+    says = said.startswith(told) if row.get("says_more") else said == told
+    return prints and says and printed.endswith(row.get("prints_last", "").encode()) and status == row.get("status", 0)
+
+
+def try_row(program, table, row):
+    """What comes of the words of a row that come out otherwise."""
+    file = file_bytes(input_of(row))
+    came = [(words, came_of(program, words, input=file)) for words in words_of(table, row)]
+    return [(words, what) for words, what in came if not is_as_expected(row, what)]
+
+
+def try_table(program, name, table):
+    """How many rows were tried, and how many came out otherwise."""
+    rows = [row for row in table["row"] if is_real(table, row)]
+    wrong = in_a_folder_with(table.get("files", {}), lambda: [w for row in rows for w in try_row(program, table, row)])
+    for words, came in wrong:
+        print(f"{name}: {words}\n  got {str(came)[:2000]}")
+    return len(rows), len(wrong)
+
+
+def try_system(program):
+    """Tries what only a system has. Answers how many runs came out otherwise."""
+    with open(HI, "rb") as f:
+        hi = f.read()
+    tried = []
+    for words in ON_A_FULL_DEVICE:
+        with open("/dev/full", "wb") as full:
+            tried.append((words, (2, b"", UNWRITTEN), came_of(program, words, input=b"", stdout=full)))
+    with open("/dev/full", "wb") as full:
+        refused = b"at 0: F1 no SAUCE record\nhelp: --width N gives a drawing without a record one for N columns\n"
+        tried.append((["mend"], (1, b"", refused), came_of(program, ["mend"], input=b"", stdout=full)))
+    for words in OF_A_FOLDER:
+        tried.append((words, (2, b"", UNREAD), came_of(program, words, input=hi)))
+    words = ["table", "--no-header", "data", "data/none.ans"]
+    rows = b"".join(b"error\t\t\t\t\t" + why + b"\t" * 16 + name + b"\n" for why, name in (
+        (b"cannot read the file", b"data"), (b"cannot open the file", b"data/none.ans")))
+    said = b"anscheck: 2 files: 0 pass, 0 refused, 2 not read\n"
+    tried.append((words, (2, rows, said), came_of(program, words, input=b"")))
+    closed = came_of(program, ["check", "--cleared"], input=hi, stdout=None, preexec_fn=lambda: os.close(1))
+    tried.append((["an output that is closed"], (2, b"", UNWRITTEN), closed))
+    words = ["check", b"\xff"]
+    tried.append((words, (2, b"", b"anscheck: cannot read the command line\n"), came_of(program, words, input=b"")))
+    wrong = [(words, expected, came) for words, expected, came in tried if came != expected]
+    for words, expected, came in wrong:
+        print(f"{words}\n  wanted {expected}\n  got    {came}")
+    return len(tried), len(wrong)
 
 
 def main(program):
     program = os.path.abspath(program)
-    failed = 0
-    for run in RUNS:
-        got, wanted = came_of(program, run), (run.status, run.stdout, run.stderr)
-        if got != wanted:
-            failed += 1
-            print(f"{run.name}: {run.words}\n  wanted {wanted}\n  got    {got}")
-    print(f"{len(RUNS) - failed} of {len(RUNS)} runs came out as stored")
-    return 1 if failed else 0
+    counts = [try_table(program, name, table) for name, table in tables()] + [try_system(program)]
+    tried, wrong = (sum(numbers) for numbers in zip(*counts))
+    print(f"{tried - wrong} of {tried} runs came out as they are to")
+    return 1 if wrong else 0
 
 
 if __name__ == "__main__":

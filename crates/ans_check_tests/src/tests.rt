@@ -2,30 +2,6 @@
 ghost use Rattle.std.specs.Prelude.{◌≡◌, false};
 ghost use Rattle.ans_write.specs.Tried.{has_failed};
 
-/// A table: files by their size and their content, and what is expected of each.
-macro_rules! files {
-    ($(file($width:literal x $lines:literal, $content:literal) => $($expected:expr),+;)*) => {
-        [$(($content, $width, $lines, $($expected),+)),*]
-    };
-}
-
-/// Whether files of this verdict pass.
-macro_rules! passes {
-    (pass) => {
-        true
-    };
-    (refused) => {
-        false
-    };
-}
-
-/// A table: files by their size and their content, their verdict, and the text that is written.
-macro_rules! texts {
-    ($(file($width:literal x $lines:literal, $content:literal) => $verdict:ident($text:literal);)*) => {
-        files! { $(file($width x $lines, $content) => passes!($verdict), $text;)* }
-    };
-}
-
 /// A table: the words behind `anscheck`, and what is expected of them.
 macro_rules! words {
     ($($($word:literal)* => $($expected:expr),+;)*) => {
@@ -33,24 +9,15 @@ macro_rules! words {
     };
 }
 
-mod answers;
+mod cut_off;
 mod devices;
 mod endings;
 mod large;
-mod long_tables;
 mod meanings;
 mod mended_files;
-mod mends;
-mod needs;
-mod pictures;
-mod records;
 mod redrawn_files;
-mod reports;
 mod shelf;
-mod tables;
-mod token_lists;
 mod verdicts;
-mod why;
 
 use ans_check::{Command, Form, Options, RunError, Start, run};
 use ans_report::Tried;
@@ -128,33 +95,6 @@ fn file_of_size(
     sample_file(rt.alloc(), front, &[(96, &width), (98, &lines)])
 }
 
-/// The content, one end mark, and the plain record with this size, these flags and this title.
-fn drawing(
-    rt: &(impl Abort + AllocGlobal),
-    content: &[u8],
-    (width, lines): (u16, u16),
-    flags: u8,
-    title: &[u8],
-) -> Result<Vec<u8>, AllocError> {
-    let mut front = [0x1a; 64];
-    assert!(rt; content.len() < 64);
-    front[..content.len()].copy_from_slice(content);
-    let file_size = u32::try_from(content.len()).unwrap_or(0).to_le_bytes();
-    let width = width.to_le_bytes();
-    let lines = lines.to_le_bytes();
-    sample_file(
-        rt.alloc(),
-        &front[..content.len() + 1],
-        &[
-            (7, title),
-            (90, &file_size),
-            (96, &width),
-            (98, &lines),
-            (105, &[flags]),
-        ],
-    )
-}
-
 /// The content, one end mark and the plain record of this size.
 fn plain_file(
     rt: &(impl Abort + AllocGlobal),
@@ -162,7 +102,19 @@ fn plain_file(
     width: u16,
     lines: u16,
 ) -> Result<Vec<u8>, AllocError> {
-    drawing(rt, content, (width, lines), 0, b"")
+    let mut front = [0x1a; 64];
+    assert!(rt; content.len() < 64);
+    front[..content.len()].copy_from_slice(content);
+    let file_size = u32::try_from(content.len()).unwrap_or(0).to_le_bytes();
+    sample_file(
+        rt.alloc(),
+        &front[..content.len() + 1],
+        &[
+            (90, &file_size),
+            (96, &width.to_le_bytes()),
+            (98, &lines.to_le_bytes()),
+        ],
+    )
 }
 
 fn room_for(room: usize) -> Tried<Narrow>
@@ -231,20 +183,4 @@ fn behind<'a>(rt: &impl Abort, bytes: &'a [u8], front: &[u8]) -> &'a [u8] {
         Some(rest) => rest,
         None => panic!(rt; "another front"),
     }
-}
-
-/// A content, its width and lines, whether the file passes, and the text.
-type Text = (&'static [u8], u16, u16, bool, &'static [u8]);
-
-/// Asserts what is written of each file where one thing is asked.
-fn expect_texts(
-    rt: &(impl Abort + AllocGlobal),
-    asked: &Options,
-    rows: &[Text],
-) -> Result<(), AllocError> {
-    for (content, width, lines, passes, text) in rows {
-        let file = plain_file(rt, content, *width, *lines)?;
-        expect_run(rt, file.as_slice(), asked, 256, Ok(*passes), text)?;
-    }
-    Ok(())
 }

@@ -19,7 +19,6 @@ mod faults;
 mod mends;
 mod redraws;
 mod tables;
-mod texts;
 mod topics;
 
 use ans_options::{Options, WordsError, options};

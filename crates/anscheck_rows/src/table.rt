@@ -1,0 +1,77 @@
+//! Tables of rows, as they are written in TOML.
+//!
+//! Where bytes are meant, a character stands for the byte of its number, as `\u001b` for ESC.
+
+use serde::Deserialize;
+use std::collections::BTreeMap;
+
+/// A table of rows.
+#[derive(Drop, Deserialize)]
+#[serde(deny_unknown_fields)]
+pub(crate) struct Table {
+    /// The files that each row can name.
+    #[serde(default)]
+    pub files: BTreeMap<String, File>,
+    /// The words of the rows that have none of their own.
+    #[serde(default)]
+    pub words: Vec<String>,
+    pub row: Vec<Row>,
+}
+
+/// A file: a drawing, or pieces. What is put has one end mark and a record behind the content; a field that
+/// is not there is empty.
+#[derive(Drop, Deserialize)]
+#[serde(deny_unknown_fields)]
+pub(crate) struct File {
+    /// A content, and its record's columns and lines: the content, an end mark, and the plain record of
+    /// this size, which states the content's length.
+    pub drawing: Option<(String, u16, u16)>,
+    /// Pieces before the record, each with how often it comes.
+    #[serde(default)]
+    pub times: Vec<(usize, String)>,
+    /// What stands before the record, after the pieces.
+    #[serde(default)]
+    pub front: String,
+    /// The plain record with these bytes from these offsets on.
+    pub record: Option<Vec<(usize, String)>>,
+    /// What stands after the record.
+    #[serde(default)]
+    pub after: String,
+    /// Whether reading fails after these bytes.
+    #[serde(default)]
+    pub torn: bool,
+}
+
+/// A row.
+#[derive(Drop, Deserialize)]
+#[serde(deny_unknown_fields)]
+pub(crate) struct Row {
+    /// The words after the program's name.
+    pub words: Option<Vec<String>>,
+    /// Other words that come to the same.
+    #[serde(default)]
+    pub also: Vec<Vec<String>>,
+    /// Standard input.
+    pub input: Option<File>,
+    /// Standard input, where it is a drawing alone.
+    pub drawing: Option<(String, u16, u16)>,
+    /// The text that is printed.
+    #[serde(default)]
+    pub prints: String,
+    /// The file that is written, where it is no text.
+    pub writes: Option<File>,
+    /// Whether what is printed goes on after that.
+    #[serde(default)]
+    pub prints_more: bool,
+    /// The text with which what is printed ends.
+    #[serde(default)]
+    pub prints_last: String,
+    /// The text on standard error.
+    #[serde(default)]
+    pub says: String,
+    /// Whether the text on standard error goes on after that.
+    #[serde(default)]
+    pub says_more: bool,
+    #[serde(default)]
+    pub status: u8,
+}
