@@ -1,23 +1,21 @@
 # Completion for bash: source this file, or install it as
-# /usr/share/bash-completion/completions/anscheck.
+# /usr/share/bash-completion/completions/anscheck. It is made by tools/completions.py.
 _anscheck() {
     local word=${COMP_WORDS[COMP_CWORD]} command=${COMP_WORDS[1]} before=${COMP_WORDS[COMP_CWORD - 1]}
-    local commands="why mend redraw needs check show sauce tokens table"
+    local commands="why mend redraw needs check show sauce tokens table" flags="--help"
     COMPREPLY=()
     if [ "$COMP_CWORD" -eq 1 ]; then
         mapfile -t COMPREPLY < <(compgen -W "$commands help --help --version" -- "$word")
     elif [ "$command" = help ]; then
-        mapfile -t COMPREPLY < <(compgen -W "$commands $(echo F{1..17} F{19..25} N{1..6})" -- "$word")
-    elif [ "$command" = mend ] && { [ "$before" = --lines ] || [ "$before" = --width ]; }; then
+        mapfile -t COMPREPLY < <(compgen -W "$commands F1 F2 F3 F4 F5 F6 F7 F8 F9 F10 F11 F12 F13 F14 F15 F16 F17 F19 F20 F21 F22 F23 F24 F25 N1 N2 N3 N4 N5 N6" -- "$word")
+    elif [[ " --lines --width " == *" $before "* ]]; then
         # a number, which nothing can complete
         return
     elif [ "${word#-}" != "$word" ]; then
-        local flags="--help"
-        local parts="--known-screen --known-cursor --known-saved --known-colours --known-wrap"
         case $command in
             mend) flags="--take-out --line-ends --full-rows --name-colours --least-lines --lines --width --help" ;;
-            check) flags="--cleared --any --cells $parts --help" ;;
-            show) flags="--html --vga --cleared --any $parts --help" ;;
+            check) flags="--known-screen --known-cursor --known-saved --known-colours --known-wrap --cleared --any --cells --help" ;;
+            show) flags="--html --vga --cleared --any --known-screen --known-cursor --known-saved --known-colours --known-wrap --help" ;;
             table) flags="--json --no-header --help" ;;
         esac
         mapfile -t COMPREPLY < <(compgen -W "$flags" -- "$word")
