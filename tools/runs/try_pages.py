@@ -10,7 +10,7 @@ Run it in `crates/anscheck`, after `rt run -- check --cleared data/hi.ans` has b
 - The page has one heading for each fault and each note of ans_model, and none more; it opens with
   the text that the examples below it print; and its table of contents leads to it.
 - What the page quotes below each heading is what `anscheck help` prints of that fault or note.
-- The examples of the page are those that the tests of ans_judge try, and the tests try none more.
+- The examples of the page are the rows of `fault_page.toml` of anscheck_rows, which the gate tries.
 - The program sets each of the 256 colour numbers as the table of docs/PROFILE.md says.
 - The worked example of docs/CHANGING.md names each file that `git grep -lw EraseLine` finds.
 - docs/MANUAL.md is what tools/manual.py makes of the manual page, if `mandoc` is there.
@@ -20,7 +20,6 @@ Run it in `crates/anscheck`, after `rt run -- check --cleared data/hi.ans` has b
 
 It prints each difference, and ends with status 1 where there is one. It is outside the gate.
 """
-import ast
 import os
 import pathlib
 import re
@@ -32,6 +31,7 @@ import tempfile
 sys.dont_write_bytecode = True
 
 from meanings import quoted, quotes_of
+from rows import file_bytes, input_of, tables, words_of
 
 TOP = pathlib.Path(__file__).resolve().parent.parent.parent
 HERE = TOP / "crates" / "anscheck"
@@ -39,7 +39,6 @@ PAGE = TOP / "docs" / "FAULTS.md"
 PROFILE = TOP / "docs" / "PROFILE.md"
 CHANGING = TOP / "docs" / "CHANGING.md"
 MODEL = TOP / "crates" / "ans_model" / "src"
-TESTS = TOP / "crates" / "ans_judge" / "src" / "tests" / "fault_page.rt"
 DRAWINGS = "/usr/share/doc/ansilove/examples"
 
 BLOCK = re.compile(r"^```(\w*)\n(.*?)^```$", re.DOTALL | re.MULTILINE)
@@ -97,7 +96,7 @@ class Example:
         self.shown = values.get("content", values.get("file"))
 
     def key(self):
-        return self.heading, self.command, self.file, self.text
+        return self.command, self.file, self.text
 
 
 # What is compared.
@@ -179,39 +178,13 @@ def try_meanings(tried, text, program):
 
 # The table of the tests.
 
-LITERAL = r'(b"(?:[^"\\]|\\.)*")'
-ASKED = r'"([FN]\d+)" (check|needs|why) (cleared|any) '
-CONTENT_ROW = re.compile(ASKED + rf"(\d+) x (\d+), {LITERAL}\s*=> \w+\s*{LITERAL};", re.DOTALL)
-FILE_ROW = re.compile(
-    ASKED + rf"{LITERAL},\s*\[((?:\d+ => {LITERAL}(?:, )?)*)\], {LITERAL}\s*=> \w+\s*{LITERAL};", re.DOTALL
-)
-SHORT_ROW = re.compile(rf'"(F1)",\s*{LITERAL},\s*asked!\((check) (cleared), refused, {LITERAL}\)')
-
-
-def literal(text):
-    """The bytes of a literal of Rust; a line that ends in a backslash goes on at the next one's text."""
-    return ast.literal_eval(re.sub(r"\\\n\s*", "", text))
-
 
 def tested():
-    """The examples that the tests try, as the keys of those of the page."""
-    def key(heading, command, start, file, text):
-        words = f"{command} --cleared" if start == "cleared" else command
-        return heading, words, file, literal(text).decode()
-
-    text = TESTS.read_text()
-    for heading, command, start, width, lines, content, report in CONTENT_ROW.findall(text):
-        content = literal(content)
-        record = record_of({"width": width, "lines": lines}, len(content))
-        yield key(heading, command, start, content + b"\x1a" + record, report)
-    for heading, command, start, front, edits, _, after, report in FILE_ROW.findall(text):
-        record = bytearray(record_of({"width": 2, "lines": 1}, 2))
-        for at, changed in re.findall(rf"(\d+) => {LITERAL}", edits):
-            changed = literal(changed)
-            record[int(at):int(at) + len(changed)] = changed
-        yield key(heading, command, start, literal(front) + record + literal(after), report)
-    for heading, file, command, start, report in SHORT_ROW.findall(text):
-        yield key(heading, command, start, literal(file), report)
+    """The examples that the gate tries, as the keys of those of the page."""
+    for name, table in tables():
+        if name == "fault_page.toml":
+            for row in table["row"]:
+                yield " ".join(words_of(table, row)[0]), file_bytes(input_of(row)), row["prints"]
 
 
 def try_tests(tried, examples):

@@ -1,6 +1,5 @@
 //! What the slow machine finds, and what the checker has to find too.
 
-mod fault_page;
 mod long_contents;
 mod machine;
 mod needs;

@@ -28,9 +28,9 @@ pub(crate) fn put_drawing(
     bytes: &mut Vec<u8>,
     (content, columns, lines): &(String, u16, u16),
 ) -> Result<(), AllocError> {
-    let from = bytes.len();
-    put_bytes(bytes, content.as_str())?;
-    let length = u32::try_from(bytes.len() - from).unwrap_or(0);
+    let content = bytes_of(alloc, content.as_str())?;
+    let length = u32::try_from(content.len()).unwrap_or(0);
+    bytes.extend_from_slice(content.as_slice())?;
     bytes.push(0x1a)?;
     let record = sample_file(
         alloc,
@@ -44,15 +44,21 @@ pub(crate) fn put_drawing(
     bytes.extend_from_slice(record.as_slice())
 }
 
+/// Appends a piece so many times.
+fn put_times(bytes: &mut Vec<u8>, count: usize, piece: &[u8]) -> Result<(), AllocError> {
+    for _ in 0..count {
+        bytes.extend_from_slice(piece)?;
+    }
+    Ok(())
+}
+
 impl File {
     /// The file's bytes.
     pub(crate) fn bytes(&self, alloc: Global) -> Result<Vec<u8>, AllocError> {
         let mut bytes = Vec::new(alloc);
         for (count, text) in &self.times {
             let piece = bytes_of(alloc, text.as_str())?;
-            for _ in 0..*count {
-                bytes.extend_from_slice(piece.as_slice())?;
-            }
+            put_times(&mut bytes, *count, piece.as_slice())?;
         }
         put_bytes(&mut bytes, self.front.as_str())?;
         if let Some(drawing) = &self.drawing {
