@@ -5,9 +5,9 @@
 //! What a reader sees of them is the picture: the laws of `ans_picture_laws` say so.
 #![tactic(auto)]
 
+mod look;
 mod markup;
 mod markup_tables;
-mod look;
 mod page;
 mod rows;
 mod short_text;

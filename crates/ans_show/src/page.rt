@@ -6,9 +6,9 @@ ghost use Rattle.ans_show.specs.Looks.{look_of};
 ghost use Rattle.ans_show.specs.ShortTexts.{short_bytes};
 ghost use Rattle.ans_show.specs.PageText.{span_text, page_title, page_style, page_text};
 
+use crate::look::{background, blinks, foreground};
 use crate::markup::Markup;
 use crate::markup_tables::{Break, MarkupTables};
-use crate::look::{background, blinks, foreground};
 use crate::rows::put_rows;
 use ans_play::Picture;
 use ans_screen::Screen;
