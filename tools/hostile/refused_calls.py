@@ -58,7 +58,7 @@ sys.path.insert(0, os.path.join(os.path.dirname(HERE), "runs"))
 
 from rows import file_bytes, file_of, input_of, tables, words_of
 
-TESTED = ["ans_screen", "ans_play_tests", "ans_report_tests", "ans_options_tests", "ans_check_tests"]
+TESTED = ["ans_screen", "ans_play_tests", "ans_report_tests", "ans_options_tests", "ans_check_tests", "ans_answer_tests"]
 AT_ONCE, WORKERS, SECONDS = 16, 4, 120
 
 OUT_OF_MEMORY = b"anscheck: out of memory\n"

@@ -9,14 +9,9 @@ macro_rules! words {
     };
 }
 
-mod cut_off;
 mod devices;
 mod endings;
 mod large;
-mod meanings;
-mod mended_files;
-mod redrawn_files;
-mod shelf;
 mod verdicts;
 
 use ans_check::{Command, Form, Options, RunError, Start, run};

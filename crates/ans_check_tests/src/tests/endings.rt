@@ -156,14 +156,6 @@ impl Output {
             flushes: true,
         }
     }
-
-    /// A device with this much room that hands on nothing.
-    pub(super) fn unflushed(room: usize) -> Output {
-        Output {
-            room,
-            flushes: false,
-        }
-    }
 }
 
 impl Write for Output {

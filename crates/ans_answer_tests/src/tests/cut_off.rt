@@ -1,11 +1,11 @@
 //! Devices that take a part of what the program prints and says, or hand nothing on.
 
-use super::endings::Output;
 use super::shelf::{Answered, Drawings, Shelf, Stored, answer_in, answer_on};
 use ans_check::{Ending, RunError, answer};
 use ans_report::Tried;
 use ans_samples::{FailingOnce, Failure, Narrow};
 use std::alloc::AllocError;
+use std::io::{self, Write};
 use std::process::Abort;
 
 /// What is said where the output fails.
@@ -38,6 +38,20 @@ static SAYING: [&[&str]; 6] = [
 
 /// Names on standard input.
 const NAMES: Stored<'_> = Stored::Bytes(b"hi.ans\0gone\0abc");
+
+/// A device that takes all, and hands nothing on.
+#[derive(Clone, Copy)]
+struct Unflushed;
+
+impl Write for Unflushed {
+    fn write(&mut self, buf: &[u8]) -> io::Result<usize> {
+        Ok(buf.len())
+    }
+
+    fn flush(&mut self) -> io::Result<()> {
+        Err(io::Error::from(io::ErrorKind::Other))
+    }
+}
 
 /// Answers words on devices that take all.
 fn answer_whole(
@@ -90,7 +104,7 @@ fn an_output_that_hands_nothing_on_is_an_error(rt: HostRuntime) -> Result<(), Al
     let files = drawings.files();
     for words in &PRINTING {
         let shelf = Shelf::new(&files, NAMES);
-        let answered = answer_on(&rt, words, shelf, Output::unflushed(4096), 4096)?;
+        let answered = answer_on(&rt, words, shelf, Unflushed, 4096)?;
         assert!(rt; answered.ending == Ending::Run(Err(RunError::Write)));
         assert_eq!(rt; answered.errors.held(), UNWRITTEN);
     }

@@ -1,6 +1,5 @@
-//! Readers and writers that fail while a file is redrawn.
+//! Readers that fail while a file is redrawn, and a file that is too long.
 
-use super::endings::Output;
 use super::plain_file;
 use super::shelf::Stored;
 use ans_check::{Redrawn, RunError, Unredrawn, redraw};
@@ -40,31 +39,6 @@ fn a_reader_that_fails_leaves_nothing_redrawn(rt: HostRuntime) -> Result<(), All
                 assert_eq!(rt; (came, writer.calls()), (Err(RunError::Read), 0));
             }
         }
-    }
-    Ok(())
-}
-
-/// The room, whether the device flushes, and what comes of a redrawn file of 160 bytes.
-static OUTPUTS: [(usize, bool, Came); 4] = [
-    (160, true, Ok(Ok(160))),
-    (159, true, Err(RunError::Write)),
-    (0, true, Err(RunError::Write)),
-    (160, false, Err(RunError::Write)),
-];
-
-#[test]
-fn a_redrawn_file_is_flushed(rt: HostRuntime) -> Result<(), AllocError> {
-    let file = plain_file(&rt, b"Hi", 2, 1)?;
-    for (room, flushes, expected) in &OUTPUTS {
-        let output = if *flushes {
-            Output::with_room(*room)
-        } else {
-            Output::unflushed(*room)
-        };
-        let mut reader = Tried::new(file.as_slice());
-        let mut writer = Tried::new(output);
-        let answer = redraw(rt.alloc(), &mut reader, &mut writer);
-        assert_eq!(rt; came(&rt, answer, writer.calls())?, *expected);
     }
     Ok(())
 }

@@ -1,6 +1,5 @@
-//! Readers and writers that fail while a file is mended.
+//! Readers that fail while a file is mended.
 
-use super::endings::Output;
 use super::plain_file;
 use ans_check::{Mends, RunError, Unmended, mend};
 use ans_report::Tried;
@@ -38,31 +37,6 @@ fn a_reader_that_fails_leaves_nothing_mended(rt: HostRuntime) -> Result<(), Allo
                 assert_eq!(rt; (came, writer.calls()), (Err(RunError::Read), 0));
             }
         }
-    }
-    Ok(())
-}
-
-/// The room, whether the device flushes, and what comes of a mended file of 156 bytes.
-static OUTPUTS: [(usize, bool, Came); 4] = [
-    (156, true, Ok(Ok(true))),
-    (155, true, Err(RunError::Write)),
-    (0, true, Err(RunError::Write)),
-    (156, false, Err(RunError::Write)),
-];
-
-#[test]
-fn a_mended_file_is_flushed(rt: HostRuntime) -> Result<(), AllocError> {
-    let file = plain_file(&rt, b"Hi", 2, 1)?;
-    for (room, flushes, expected) in &OUTPUTS {
-        let output = if *flushes {
-            Output::with_room(*room)
-        } else {
-            Output::unflushed(*room)
-        };
-        let mut reader = Tried::new(file.as_slice());
-        let mut writer = Tried::new(output);
-        let answer = mend(rt.alloc(), &mut reader, &mut writer, &Mends::NONE);
-        assert_eq!(rt; came(&rt, answer, writer.calls())?, *expected);
     }
     Ok(())
 }
