@@ -71,6 +71,7 @@ ROWS = [
     Row("try_pages", "the examples and commands of README and docs", "tools/runs/try_pages.py {program}", 0.1, 0.1),
     Row("made_drawings", "why, on mistakes that artists make", "tools/runs/made_drawings.py {program}", 0.1, 0.1),
     Row("count", "the numbers of lines in DEFINITIONS.md and README", "tools/definitions/count.py", 0.1, 0.1),
+    Row("completions", "whether the completions are of the texts of help", "tools/completions.py --check", 0.1, 0.1),
     Row("manual", "whether MANUAL.md is of the manual page", "tools/manual.py --check", 0.1, 0.1, packages="mandoc"),
     Row("meanings", "whether FAULTS.md quotes the program's texts", "tools/runs/meanings.py", 0.1, 0.1,
         packages="git", writes="docs/FAULTS.md"),
