@@ -129,8 +129,10 @@ def try_redrawing(browser, tries, program):
     sentence = "Redrawn it is the same picture, written so that players show it alike"
     tries.want("hi.ans: how it is redrawn", text("redrawn-sentence"), f"{sentence}: {len(file)} bytes, 131 before.")
     alike = "players that part only in the known ways all show it alike, "
+    named = "players that part only in the known ways all show it alike in named colours, "
     tries.want("hi.ans: players before", text("players-before"),
-               f"As it is: {alike}if they find the cursor at the top left and white on black.")
+               f"As it is: {named}if they find the cursor at the top left and white on black; "
+               "a light theme shows its own black and white.")
     tries.want("hi.ans: players after", text("players-after"), f"Redrawn: {alike}from every start.")
     browser.value("element('show-after').click()")
     browser.wait("busy === 0")
@@ -261,9 +263,9 @@ def try_touch_and_drop(browser, tries, folder):
     browser.look(360, 700, is_touch=True)
     show(browser, [DATA / "harbour.ans"])
     tries.want("nothing wider than the page", browser.value("document.documentElement.scrollWidth <= innerWidth"))
-    browser.value("document.querySelector('#why li:nth-child(8) button').scrollIntoView({ block: 'center' })")
+    browser.value("document.querySelector('#why li button').scrollIntoView({ block: 'center' })")
     box = browser.value("(({ x, y, width, height }) => [x + width / 2, y + height / 2])("
-                        "document.querySelector('#why li:nth-child(8) button').getBoundingClientRect())")
+                        "document.querySelector('#why li button').getBoundingClientRect())")
     browser.tap(*box)
     browser.wait("document.activeElement.id === 'view'", 10)
     browser.look(1000, 900)
