@@ -89,7 +89,7 @@ def section(text, title):
 
 
 def options(text):
-    """The options of a help but for its own: the name, the value's name or an empty word, and what each is for."""
+    """The options of a help except its own: the name, the value's name or an empty word, and what each is for."""
     return [option for option in OPTION.findall(section(text, "Options")) if option[0] != "help"]
 
 

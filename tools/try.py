@@ -5,7 +5,7 @@
     python3 tools/try.py --only edits --crates CRATE ..
     python3 tools/try.py --list
 
-PROGRAM is the built `anscheck`. All rows of the table below are run, but for the two that prove, `edits` and
+PROGRAM is the built `anscheck`. All rows of the table below are run, except the two that prove, `edits` and
 `definitions`: these take hours, and are run only if --only names them. With --quick rows are run that take ten minutes
 together, with fewer random files. --only takes the names of rows, or patterns such as 'second_*'. ARCHIVE is the built
 `libans_c.a`, and FOLDER has the tests that `refused_calls.py` wants; without them those that are built in the crates
@@ -80,7 +80,7 @@ ROWS = [
     Row("tables", "whether ans.h has the texts of the crates", "library/tables.py --check", 0.1, 0.1),
     Row("stamp", "whether module and page are up to date", "page/stamp.py", 0.1, 0.1),
     Row("corpus", "the corpus: pictures and faults", "conformance/compare.py --checker {program}", 0.1, 0.1),
-    Row("corpus_made", "the corpus, made anew and beside the samples", "conformance/make.py {program}", 0.1, 0.1,
+    Row("corpus_made", "the corpus, made again and beside the samples", "conformance/make.py {program}", 0.1, 0.1,
         packages="git", writes="conformance"),
     Row("second_machine", "check, on random contents", "tools/compare/second_machine.py {program} 17 {count}", 5, 0.2,
         (3000, 100000)),

@@ -23,7 +23,7 @@ HI = "data/hi.ans"
 UNWRITTEN = b"anscheck: cannot write the report\n"
 UNREAD = b"anscheck: cannot read the file\n"
 
-# Words on a full device. Nothing is told of the file but that.
+# Words on a full device.
 ON_A_FULL_DEVICE = [
     ["check", "--cleared", HI], ["check", HI], ["show", HI], ["show", "--html", HI], ["sauce", HI], ["tokens", HI],
     ["why", HI], ["needs", HI], ["table", HI], ["mend", HI], ["redraw", HI], ["--help"], ["help", "F17"],

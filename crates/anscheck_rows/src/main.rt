@@ -1,8 +1,8 @@
 //! `anscheck_rows`: what `anscheck` answers, row by row.
 //!
-//! Each word names a table of rows: files, words, and what is to come of them (`table`). The rows are played over
-//! files in memory, and for each table is written how many rows there are and which of them came out otherwise. The
-//! exit status is 0 where none did.
+//! Each word names a table of rows: files, words, and what is to come of them (`table`). They are tried over files in
+//! memory. Of each table it prints how many rows there are, and which of them come out otherwise. The exit status is 0
+//! if none does, 1 if one does or a table is not TOML, and 2 if a table cannot be read or memory runs out.
 #![tactic(auto)]
 
 mod bytes;

@@ -1,6 +1,6 @@
 //! Tables of rows, as they are written in TOML.
 //!
-//! Where bytes are meant, a character stands for the byte of its number, as `\u001b` for ESC.
+//! In bytes a character is the byte of its number, as `\u001b` for ESC.
 
 use serde::Deserialize;
 use std::collections::BTreeMap;
@@ -18,23 +18,22 @@ pub(crate) struct Table {
     pub row: Vec<Row>,
 }
 
-/// A file: a drawing, or pieces. What is put has one end mark and a record behind the content; a field that
-/// is not there is empty.
+/// A file: its parts, one after the other, in the order below. A part that is left out is empty.
 #[derive(Drop, Deserialize)]
 #[serde(deny_unknown_fields)]
 pub(crate) struct File {
+    /// Texts, each with how often it comes.
+    #[serde(default)]
+    pub times: Vec<(usize, String)>,
+    /// A text.
+    #[serde(default)]
+    pub front: String,
     /// A content, and its record's columns and lines: the content, an end mark, and the plain record of
     /// this size, which states the content's length.
     pub drawing: Option<(String, u16, u16)>,
-    /// Pieces before the record, each with how often it comes.
-    #[serde(default)]
-    pub times: Vec<(usize, String)>,
-    /// What stands before the record, after the pieces.
-    #[serde(default)]
-    pub front: String,
-    /// The plain record with these bytes from these offsets on.
+    /// The plain record with these bytes at these offsets, which count from its first byte.
     pub record: Option<Vec<(usize, String)>>,
-    /// What stands after the record.
+    /// A text after the record.
     #[serde(default)]
     pub after: String,
     /// Whether reading fails after these bytes.
