@@ -1,7 +1,7 @@
 #!/usr/bin/env python3
-"""Runs the scripts that try anscheck outside the gate, one after the other, and ends with one status.
+"""Runs the scripts that try anscheck outside the gate, and ends with one status.
 
-    python3 tools/try.py PROGRAM [--quick] [--only NAME ..] [--strict] [--library ARCHIVE] [--tests FOLDER]
+    python3 tools/try.py PROGRAM [--quick] [--only NAME ..] [--strict] [--jobs N] [--library ARCHIVE] [--tests FOLDER]
     python3 tools/try.py --only edits --crates CRATE ..
     python3 tools/try.py --list
 
@@ -9,8 +9,9 @@ PROGRAM is the built `anscheck`. All rows of the table below are run, except the
 `definitions`: these take hours, and are run only if --only names them. With --quick rows are run that take ten minutes
 together, with fewer random files. --only takes the names of rows, or patterns such as 'second_*'. ARCHIVE is the built
 `libans_c.a`, and FOLDER has the tests that `refused_calls.py` wants; without them those that are built in the crates
-are taken. --crates names the crates whose edits are tried, all if there is none. --list prints the table, and what the
-scripts are that are not run.
+are taken. --crates names the crates whose edits are tried, all if there is none. With --jobs N rows are run at once,
+the longest first; those that drive a browser take turns. --list prints the table, and what the scripts are that are not
+run.
 
 Each script gives a line as it ends: its name, its seconds, and `passed`, `FAILED` with the last 20 lines of its output,
 or `left out` with the Debian packages, or other things, that are missing. That is no failure, but with --strict it is
@@ -21,6 +22,8 @@ The minutes of the table are rough: those of scripts that need the library, DOSB
 `refused_calls.py` and proofs are guesses, and the others are from short runs on four processors that were busy.
 """
 import argparse
+import concurrent.futures
+import contextlib
 import filecmp
 import fnmatch
 import glob
@@ -30,6 +33,7 @@ import shutil
 import subprocess
 import sys
 import tempfile
+import threading
 import time
 from typing import NamedTuple
 
@@ -171,6 +175,7 @@ class Places:
 
     def __init__(self, given, room):
         self.given, self.room = given, room
+        self.browser, self.made = threading.Lock(), threading.Lock()
         self.data = sorted(glob.glob(f"{TOP}/crates/anscheck/data/*.ans"))
         self.program = given.program and os.path.abspath(given.program)
         self.library = os.path.abspath(given.library or TOP / "crates/ans_c/out/libans_c.a")
@@ -200,10 +205,16 @@ class Places:
     def drawings(self):
         """A folder of random drawings, the same for all rows."""
         folder = os.path.join(self.room, "drawings")
-        if not os.path.exists(folder):
-            words = [TOP / "page/try/random_drawings.py", folder, str(DRAWINGS), str(SEED)]
-            subprocess.run([sys.executable, *words], check=True, env=environment(None))
+        with self.made:
+            if not os.path.exists(folder):
+                words = [TOP / "page/try/random_drawings.py", folder, str(DRAWINGS), str(SEED)]
+                subprocess.run([sys.executable, *words], check=True, env=environment(None))
         return [folder]
+
+    def turn(self, row):
+        """What a row holds while it runs: those that drive a browser open the same ports."""
+        drives = any(name in row.packages for name in ("chromium", "webkit2gtk-driver"))
+        return self.browser if drives else contextlib.nullcontext()
 
 
 NAMED_BY = {"program": "PROGRAM", "library": "libans_c.a (--library)", "tests": "tests (--tests)",
@@ -286,14 +297,22 @@ def try_row(row, places):
     if missing:
         print(f"{row.name:18} {'':>6}    left out: needs {', '.join(missing)}", flush=True)
         return "left out"
-    began = time.monotonic()
-    passed, printed = (ran_on_a_copy(row, words, places.program) if row.writes
-                       else ran(row, words, places.program, TOP))
+    with places.turn(row):
+        began = time.monotonic()
+        passed, printed = (ran_on_a_copy(row, words, places.program) if row.writes
+                           else ran(row, words, places.program, TOP))
     word = "passed" if passed else "FAILED"
-    print(f"{row.name:18} {time.monotonic() - began:6.0f} s  {word}", flush=True)
-    if not passed:
-        print("".join(f"    {line}\n" for line in printed.splitlines()[-LINES_SHOWN:]), end="", flush=True)
+    end = "" if passed else "".join(f"    {line}\n" for line in printed.splitlines()[-LINES_SHOWN:])
+    print(f"{row.name:18} {time.monotonic() - began:6.0f} s  {word}\n{end}", end="", flush=True)
     return word
+
+
+def try_rows(rows, places, jobs):
+    """Runs rows, and returns the word for how each ended."""
+    if jobs > 1:
+        rows = sorted(rows, key=lambda row: -row.minutes)
+    with concurrent.futures.ThreadPoolExecutor(jobs) as pool:
+        return list(pool.map(lambda row: try_row(row, places), rows))
 
 
 # The table.
@@ -343,6 +362,7 @@ def main():
     asked.add_argument("--list", action="store_true")
     asked.add_argument("--strict", action="store_true")
     asked.add_argument("--only", nargs="+")
+    asked.add_argument("--jobs", type=int, default=1)
     asked.add_argument("--library")
     asked.add_argument("--tests")
     asked.add_argument("--crates", nargs="+", default=[])
@@ -355,7 +375,7 @@ def main():
     print("".join(f"FAILED: {line}\n" for line in wrong), end="")
     with tempfile.TemporaryDirectory() as room:
         places = Places(given, room)
-        words = [try_row(row, places) for row in chosen(given)]
+        words = try_rows(chosen(given), places, given.jobs)
     counts = {word: words.count(word) for word in ("passed", "FAILED", "left out")}
     print(f"{len(words)} rows in {time.monotonic() - began:.0f} s: "
           + ", ".join(f"{count} {word}" for word, count in counts.items()))
