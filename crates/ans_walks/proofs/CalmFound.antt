@@ -1,10 +1,9 @@
 -- Whether no kinds but agreed ones have arisen, with one token more.
 use Rattle.std.proofs.Common.{◌≡◌, ℕ, ◌+◌, ◌<◌, Bool, true, false, List, [], ◌∷◌, ◌++◌, length, take, refl, sym, ap}
-use Rattle.std.proofs.Common.{◌∙◌, arith, subst, inl, inr, Some, Ok, Err, length-append}
+use Rattle.std.proofs.Common.{◌∙◌, ◌-◌, arith, subst, inl, inr, Some, Ok, Err, fold, length-append}
 use Rattle.std.specs.Prelude.{IsTrue, Result, not, slice_get, ◌↔◌}
 use Rattle.std.specs.List.{list_all}
-use Rattle.std.specs.Result.{result_unwrap_or}
-use Rattle.std.proofs.Math.Seq.{take-append_seam, take-length}
+use Rattle.std.proofs.Math.Seq.{take-append-add, take-append_seam, take-length}
 use Rattle.std.proofs.lemmas.Bool.{cases_lt, false≢true}
 use Rattle.std.proofs.lemmas.List.{take-append-le}
 use Rattle.std.proofs.lemmas.List.Sums.{fold-append}
@@ -28,12 +27,13 @@ use Rattle.ans_players.specs.Names as name
 use Rattle.ans_players.specs.Names.{names_after, unnamed}
 use Rattle.ans_players.specs.Situations.{Spelled, is_agreed, situations, spelled, stand_behind, stand_of}
 use Rattle.ans_players.specs.declared.kind.Kind.{Kind}
+use Rattle.ans_players.specs.declared.kind.Kind.TheVariants.{SavePlaceOnly}
 use Rattle.ans_players.proofs.LeastSame.{least_same_is_found}
 use Rattle.ans_players.proofs.TwoStarts.{same_by_two_starts}
 use Rattle.ans_tokens.specs.Walk.{Front, front_with, WalksTo}
 use Rattle.ans_tokens.proofs.Scanning.{IsSplit, split_reading}
 use Rattle.ans_tokens.proofs.Walked.{never_refused, walked_all}
-use Rattle.ans_walks.specs.CalmWalked.{HasStayedCalm, IsCalmTo}
+use Rattle.ans_walks.specs.CalmWalked.{HasStayedCalm, IsBegun, IsCalmTo, PlaysAlike}
 use Rattle.ans_walks.specs.GripsShown.{shown_grip}
 use Rattle.ans_walks.specs.NamesShown.{shown_names}
 use Rattle.ans_walks.specs.KindsUsed.{is_used}
@@ -41,9 +41,9 @@ use Rattle.ans_walks.specs.KindsWalked.{StandsAt}
 use Rattle.ans_walks.specs.Pens.{pen_of}
 use Rattle.ans_walks.specs.declared.calm.CalmWalk.{CalmWalk}
 use Rattle.ans_walks.specs.declared.grip.Grip.{Grip}
-use Rattle.ans_walks.specs.declared.grip.Grip.TheVariants.{Firm}
 use Rattle.ans_walks.specs.declared.names.Names.{Names}
 use Rattle.ans_walks.specs.declared.pen.Pen.{Pen}
+use Rattle.ans_walks.proofs.PlaysAlike.{StandAlike, agreed_alike}
 use Rattle.ans_walks.proofs.KindsFound.{one, spelled_behind, spelled_more, text_there, whole_more}
 
 module _ (agreed : Kind → Bool) (z : Size) (s : State) where
@@ -85,88 +85,175 @@ module _ (agreed : Kind → Bool) (z : Size) (s : State) where
           (subst (λ (w : Spelled). IsTrue (is_agreed agreed z (stand_of z s xs) w)) same here)
     ]
 
-    calm_step : (goes_on : Bool) (old_pen new_pen : Pen) (old_grip new_grip : Grip) (old_names new_names : Names)
-        → IsCalmTo agreed z s xs true old_pen old_grip old_names
-        → (StandsAt old_pen old_grip old_names (stand_of z s xs)
-        → StandsAt new_pen new_grip new_names (stand_behind z (stand_of z s xs) x))
-        → (StandsAt old_pen old_grip old_names (stand_of z s xs) → goes_on ≡ is_agreed agreed z (stand_of z s xs) x)
-        → IsCalmTo agreed z s (xs ++ x ∷ []) goes_on new_pen new_grip new_names
-    calm_step false old_pen new_pen old_grip new_grip old_names new_names h stands is =
-        λ each. false≢true (is h.1 ∙ agreed_at each)
-    calm_step true old_pen new_pen old_grip new_grip old_names new_names h stands is = (
-      agreed_more h.0 (sym (is h.1)),
-      rw (fold-append (stand_behind z) (firmly s) xs (x ∷ [])) (stands h.1),
-    )
-
 -- ---- the walk
-pub walked_calm : (first old new : CalmWalk) (front : Front) (t : TokenKind) (text behind : List ℕ) (goes_on : Bool)
-    → HasStayedCalm first front true old → front.behind ≡ text ++ behind → new.size ≡ old.size
-    → new.content.now ≡ old.content.now → new.used.now ≡ old.used.now
-    → ((s : State) → old.pen ≡ pen_of s → new.pen ≡ pen_of (step old.size s t))
-    → ((s : State) → old.pen ≡ pen_of s → shown_grip new.grip ≡ grip_after old.size (shown_grip old.grip) s t)
-    → shown_names new.names ≡ names_after (shown_names old.names) t
-    → ((s : State) → old.pen ≡ pen_of s
-    → goes_on ≡ list_all (is_used old.used.now) (situations old.size
-    (record { grip = shown_grip old.grip; names = shown_names old.names; state = s }) (one t text)))
-    → HasStayedCalm first (front_with front t text behind) goes_on new
-walked_calm first old new front t text behind goes_on h next size content used steps grips names is = record {
-  size = size ∙ h.size;
-  content = content ∙ h.content;
-  used = used ∙ h.used;
-  texts = omega (arith, h.texts, length-append front.texts (text ∷ []), length-append front.tokens (t ∷ []));
-  whole = whole_more first.content.now front.texts text behind
-      (text_there first.content.now front.texts _ text behind h.whole next);
-  calm = λ s pen firm none.
-      let z = first.size in
-      let xs : List Spelled = spelled front.tokens front.texts in
-      rw (spelled_more front.tokens t front.texts text h.texts)
-      (calm_step (is_used first.used.now) z s xs (one t text) goes_on old.pen new.pen old.grip new.grip
-      old.names new.names (h.calm s pen firm none)
-      (λ at. record {
-        pen_is = rw h.size at (steps (stand_of z s xs).state at.pen_is);
-        grip_is = rw (h.size, at.grip_is) at (grips (stand_of z s xs).state at.pen_is);
-        names_are = names ∙ ap (λ (n : name.Names). name.names_after n t) at.names_are;
-      })
-      (λ at. subst (λ (n : name.Names). goes_on ≡ list_all (is_used first.used.now)
+module _ (first old new : CalmWalk) (front : Front) (t : TokenKind) (text behind : List ℕ)
+    (h : HasStayedCalm first front true old) (next : front.behind ≡ text ++ behind) (size : new.size ≡ old.size)
+    (content : new.content.now ≡ old.content.now) (used : new.used.now ≡ old.used.now) where
+  abbrev z : Size
+  z = first.size
+
+  abbrev agreed : Kind → Bool
+  agreed = is_used first.used.now
+
+  abbrev xs : List Spelled
+  xs = spelled front.tokens front.texts
+
+  abbrev Ways : State → Bool → Type 0
+  Ways s test = (p : old.pen ≡ pen_of s) → test ≡ list_all (is_used old.used.now) (situations old.size
+      (record { grip = shown_grip old.grip; names = shown_names old.names; state = s }) (one t text))
+
+  more : spelled (front.tokens ++ t ∷ []) (front.texts ++ text ∷ []) ≡ xs ++ one t text ∷ []
+  more = spelled_more front.tokens t front.texts text h.texts
+
+  -- what is so before the token
+  before : (s : State) → IsBegun first s → IsCalmTo agreed z s xs true old
+  before s begun = subst (λ (b : Bool). IsCalmTo agreed z s xs b old) (h.on refl) (h.calm s begun)
+
+  test_is : (test : Bool) → ((s : State) → Ways s test) → (s : State)
+      → StandsAt old.pen old.grip old.names (stand_of z s xs) → test ≡ is_agreed agreed z (stand_of z s xs) (one t text)
+  test_is test is s at =
+      subst (λ (n : name.Names). test ≡ list_all agreed
       (situations z (record (stand_of z s xs) { names = n }) (one t text))) at.names_are
-      (rw (h.size, h.used, at.grip_is) at (is (stand_of z s xs).state at.pen_is))));
-}
+      (rw (h.size, h.used, at.grip_is) at (is (stand_of z s xs).state at.pen_is))
+
+  abbrev Whole : Bool → Type 0
+  Whole on = HasStayedCalm first (front_with front t text behind) on new
+
+  walked : (on : Bool) → (on ≡ true → new.is_calm ≡ true) → (on ≡ false → new.is_calm ≡ true → PlaysAlike new)
+      → ((s : State) → IsBegun first s → IsCalmTo agreed z s (xs ++ one t text ∷ []) new.is_calm new) → Whole on
+  walked on goes stops calm = record {
+    size = size ∙ h.size;
+    content = content ∙ h.content;
+    used = used ∙ h.used;
+    texts = omega (arith, h.texts, length-append front.texts (text ∷ []), length-append front.tokens (t ∷ []));
+    whole = whole_more first.content.now front.texts text behind
+        (text_there first.content.now front.texts _ text behind h.whole next);
+    on = goes;
+    stops = stops;
+    calm = λ s begun. rw more (calm s begun);
+  }
+
+  -- another kind arises at it
+  pub walked_apart : ((s : State) → Ways s false) → new.is_calm ≡ false → Whole false
+  walked_apart is apart =
+      walked false (λ e. absurd (false≢true e)) (λ e calm. absurd (false≢true (sym apart ∙ calm)))
+      (λ s begun. rw apart (λ each.
+      false≢true (test_is false is s (before s begun).1.0 ∙ agreed_at agreed z s xs (one t text) each)))
+
+  -- none does
+  abbrev Steps : Pen → Pen → Grip → Grip → Type 0
+  Steps p q g k = ((s : State) → p ≡ pen_of s → q ≡ pen_of (step old.size s t))
+      × ((s : State) → p ≡ pen_of s → shown_grip k ≡ grip_after old.size (shown_grip g) s t)
+
+  stepped : (p q : Pen) (g k : Grip) (s : State) → Steps p q g k
+      → shown_names new.names ≡ names_after (shown_names old.names) t
+      → StandsAt p g old.names (stand_of z s xs) → StandsAt q k new.names (stand_of z s (xs ++ one t text ∷ []))
+  stepped p q g k s steps names at = rw (fold-append (stand_behind z) (firmly s) xs (one t text ∷ [])) (record {
+    pen_is = rw h.size at (steps.0 (stand_of z s xs).state at.pen_is);
+    grip_is = rw (h.size, at.grip_is) at (steps.1 (stand_of z s xs).state at.pen_is);
+    names_are = names ∙ ap (λ (n : name.Names). name.names_after n t) at.names_are;
+  })
+
+  pub walked_on : (on : Bool) → ((s : State) → Ways s true) → new.is_calm ≡ true → (on ≡ false → PlaysAlike new)
+      → Steps old.pen new.pen old.grip new.grip → Steps old.cleared new.cleared old.cleared_grip new.cleared_grip
+      → shown_names new.names ≡ names_after (shown_names old.names) t → Whole on
+  walked_on on is calm alike steps others names =
+      walked on (λ e. calm) (λ e f. alike e) (λ s begun.
+      let at = before s begun in
+      rw calm (
+        agreed_more agreed z s xs (one t text) at.0 (sym (test_is true is s at.1.0)),
+        stepped old.pen new.pen old.grip new.grip s steps names at.1.0,
+        stepped old.cleared new.cleared old.cleared_grip new.cleared_grip (cleared z) others names at.1.1,
+      ))
 
 -- what the walk says in the end
 module _ (content : List ℕ) (first now : CalmWalk) (s : State) (tokens : List TokenKind) (texts : List (List ℕ))
-    (pen : first.pen ≡ pen_of s) (firm : first.grip ≡ Firm) (none : shown_names first.names ≡ unnamed)
-    (reads : ReadsAs content tokens texts) where
+    (begun : IsBegun first s) (reads : ReadsAs content tokens texts)
+    (from_cleared : IsAgreedFrom (is_used first.used.now) first.size (cleared first.size) (spelled tokens texts)) where
   abbrev agreed : Kind → Bool
   agreed = is_used first.used.now
+
+  abbrev z : Size
+  z = first.size
 
   reads_taken : ReadsAs (take (length content) content) tokens texts
   reads_taken = rw (take-length content) reads
 
-  -- the tokens that it has been over come first
-  front_is_agreed : (front : Front) (later : List TokenKind) (later_texts : List (List ℕ))
-      → length front.texts ≡ length front.tokens → tokens ≡ front.tokens ++ later → texts ≡ front.texts ++ later_texts
-      → IsAgreedFrom agreed first.size s (spelled tokens texts)
-      → IsAgreedFrom agreed first.size s (spelled front.tokens front.texts)
-  front_is_agreed front later later_texts long tokens_are texts_are each =
-      agreed_in_front agreed first.size s (spelled front.tokens front.texts) (spelled later later_texts)
-      (rw (tokens_are, texts_are, spelled_behind front.tokens later front.texts later_texts long) at each)
+  -- of the tokens that it has been over, as the first of all
+  module _ (front : Front) (later : List TokenKind) (later_texts : List (List ℕ))
+      (tokens_are : tokens ≡ front.tokens ++ later) (texts_are : texts ≡ front.texts ++ later_texts) (on : Bool)
+      (h : HasStayedCalm first front on now) where
+    abbrev xs : List Spelled
+    xs = spelled front.tokens front.texts
+
+    abbrev ys : List Spelled
+    ys = spelled later later_texts
+
+    all : spelled tokens texts ≡ xs ++ ys
+    all = rw (tokens_are, texts_are) (spelled_behind front.tokens later front.texts later_texts h.texts)
+
+    -- what is agreed along the rest is agreed along all
+    with_rest : (t : State) → IsAgreedFrom agreed z t xs
+        → ((i : ℕ) (x : Spelled) → slice_get ys i ≡ Some x
+        → IsTrue (is_agreed agreed z (fold (stand_behind z) (stand_of z t xs) (take i ys)) x))
+        → IsAgreedFrom agreed z t (xs ++ ys)
+    with_rest t each rest k x e = elim (cases_lt k (length xs)) [
+      | inl within ↦
+          subst (λ (v : List Spelled). IsTrue (is_agreed agreed z (stand_of z t v) x))
+          (sym (take-append-le k xs ys (omega (arith, within))))
+          (each k x (sym (slice_get-append_left xs ys k within) ∙ e))
+      | inr behind ↦
+          let i : ℕ = k - length xs in
+          let at : k ≡ length xs + i = omega (arith, behind) in
+          subst (λ (n : ℕ). IsTrue (is_agreed agreed z (stand_of z t (take n (xs ++ ys))) x)) (sym at)
+          (rw (take-append-add xs ys i, fold-append (stand_behind z) (firmly t) xs (take i ys))
+          (rest i x (sym (slice_get-append_right xs ys i) ∙ ap (λ (n : ℕ). slice_get (xs ++ ys) n) (sym at) ∙ e)))
+    ]
+
+    -- so it is in the rest
+    of_rest : (t : State) → IsAgreedFrom agreed z t (xs ++ ys) → (i : ℕ) (x : Spelled) → slice_get ys i ≡ Some x
+        → IsTrue (is_agreed agreed z (fold (stand_behind z) (stand_of z t xs) (take i ys)) x)
+    of_rest t each i x e =
+        rw (take-append-add xs ys i, fold-append (stand_behind z) (firmly t) xs (take i ys)) at
+        (each (length xs + i) x (slice_get-append_right xs ys i ∙ e))
+
+    stands_alike : PlaysAlike now → StandsAt now.pen now.grip now.names (stand_of z s xs)
+        → StandsAt now.cleared now.cleared_grip now.names (stand_of z (cleared z) xs)
+        → StandAlike z (agreed SavePlaceOnly) (stand_of z s xs) (stand_of z (cleared z) xs)
+    stands_alike alike at there = record {
+      grip = sym at.grip_is ∙ ap shown_grip alike.grip ∙ there.grip_is;
+      names = sym at.names_are ∙ there.names_are;
+      state = rw (h.used, at.pen_is, there.pen_is) at alike.pen;
+    }
+
+    told : (calm : Bool) → now.is_calm ≡ calm → on ≡ false
+        → IsTrue calm ↔ IsAgreedFrom agreed z s (spelled tokens texts)
+    told true calm stopped =
+        let at = subst (λ (b : Bool). IsCalmTo agreed z s xs b now) calm (h.calm s begun) in
+        let alike = stands_alike (h.stops stopped calm) at.1.0 at.1.1 in
+        let whole = rw all at from_cleared in
+        (λ yes. rw all (with_rest s at.0 (agreed_alike agreed z ys (stand_of z s xs) (stand_of z (cleared z) xs) alike
+        (of_rest (cleared z) whole))), λ each. refl)
+    told false calm stopped =
+        let apart = subst (λ (b : Bool). IsCalmTo agreed z s xs b now) calm (h.calm s begun) in (
+          λ yes. absurd (false≢true yes),
+          λ each. absurd (apart (agreed_in_front agreed z s xs ys (rw all at each))),
+        )
 
   pub calm_whole : (result : Result Bool Fault)
       → WalksTo (λ first front now goes_on. HasStayedCalm first front goes_on now) content (length content) first now
       result
-      → IsTrue (result_unwrap_or result false) ↔ IsAgreedFrom agreed first.size s (spelled tokens texts)
+      → IsTrue now.is_calm ↔ IsAgreedFrom agreed z s (spelled tokens texts)
   calm_whole (Ok true) h =
       let over = walked_all _ content (length content) first now tokens texts reads_taken h in
-      (λ yes. (over.calm s pen firm none).0, λ each. refl)
-  calm_whole (Ok false) (left, h) = (
-    λ yes. absurd (false≢true yes),
-    λ each.
-        let split : IsSplit h.front.tokens tokens h.front.texts texts left =
-        split_reading h.front.tokens tokens h.front.texts texts left h.reads.each reads.each
-        (ap (λ (v : List ℕ). v ++ left) (sym h.reads.whole) ∙ sym h.whole ∙ take-length content ∙ reads.whole) in
-        absurd (h.over.calm s pen firm none
-        (front_is_agreed h.front split.later split.later_texts h.over.texts split.tokens_are split.texts_are each)),
-  )
+      let calm = over.on refl in
+      let at = subst (λ (b : Bool). IsCalmTo agreed z s (spelled tokens texts) b now) calm (over.calm s begun) in
+      (λ yes. at.0, λ each. calm)
+  calm_whole (Ok false) (left, h) =
+      let split : IsSplit h.front.tokens tokens h.front.texts texts left =
+      split_reading h.front.tokens tokens h.front.texts texts left h.reads.each reads.each
+      (ap (λ (v : List ℕ). v ++ left) (sym h.reads.whole) ∙ sym h.whole ∙ take-length content ∙ reads.whole) in
+      told h.front split.later split.later_texts split.tokens_are split.texts_are false h.over now.is_calm refl refl
   calm_whole (Err fault) h =
       absurd (never_refused _ content (length content) first now fault tokens h (texts, reads_taken))
 
@@ -180,13 +267,19 @@ needed_if_not_calm needed false before told = (
 )
 
 -- ---- the least class
+pub calm_from_cleared : (agreed : Kind → Bool) (z : Size) (content : List ℕ) (needs : Start)
+    (calm : IsCalm agreed z content needs)
+    → IsAgreedFrom agreed z (cleared z) (spelled calm.same.0.1.tokens calm.same.0.1.reads.0)
+calm_from_cleared agreed z content needs calm k x e =
+    calm.same.1 (cleared z) k x (low_is_start z all_known calm.same.0.1.size.some_columns) e
+
 module _ (agreed : Kind → Bool) (z : Size) (content : List ℕ) (needs class : Start)
     (calm : IsCalm agreed z content needs) (screen : class.screen ≡ needs.screen) where
   abbrev xs : List Spelled
   xs = spelled calm.same.0.1.tokens calm.same.0.1.reads.0
 
   from_cleared : IsAgreedFrom agreed z (cleared z) xs
-  from_cleared k x e = calm.same.1 (cleared z) k x (low_is_start z all_known calm.same.0.1.size.some_columns) e
+  from_cleared = calm_from_cleared agreed z content needs calm
 
   -- whether a part is known is found by the play from this start
   abbrev IsPart : Bool → Bool → State → Type 0

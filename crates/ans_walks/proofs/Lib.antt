@@ -15,6 +15,7 @@ pub mod WatchedSoFar
 pub mod TextTests
 pub mod HintsFound
 pub mod KindsFound
+pub mod PlaysAlike
 pub mod CalmFound
 pub mod NamedPlayers
 mod LineEndBytes

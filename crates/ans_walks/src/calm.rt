@@ -5,8 +5,10 @@ ghost use Rattle.ans_model.specs.Bytes.{longest_file};
 ghost use Rattle.ans_model.specs.Sequence.TokenKind.{TokenKind};
 ghost use Rattle.ans_model.specs.Sequence.Reads.{ReadsAs};
 ghost use Rattle.ans_model.specs.Screen.State.{State};
+ghost use Rattle.ans_model.specs.Screen.StartClass.{cleared};
 ghost use Rattle.ans_players.specs.Classes.{IsAgreedFrom, IsCalm, IsLeastSame};
 ghost use Rattle.ans_players.specs.Situations.{spelled};
+ghost use Rattle.ans_walks.specs.CalmWalked.{PlaysAlike};
 ghost use Rattle.ans_walks.specs.KindsUsed.{is_used};
 ghost use Rattle.ans_walks.specs.Pens.{pen_of, StandsOn};
 
@@ -18,6 +20,7 @@ use crate::situations::Situations;
 use crate::watch::Watch;
 use ans_model::size::Size;
 use ans_model::start::Start;
+use ans_players::kind::Kind as PlayerKind;
 use ans_tokens::{Token, Walker, walk};
 
 const ALL_BUT_CURSOR: Start = Start {
@@ -40,8 +43,8 @@ const ALL_BUT_WRAP: Start = Start {
     ..Start::CLEARED
 };
 
-/// A play without its screen, and how firmly players stand in it, as long as no kinds arise but those that
-/// are used.
+/// Two plays without their screens, from a start and from the cleared one, and how firmly players stand in
+/// them, as long as no kinds arise in the first but those that are used.
 #[derive(Clone, Copy)]
 struct CalmWalk<'a> {
     content: &'a [u8],
@@ -49,14 +52,33 @@ struct CalmWalk<'a> {
     used: &'a KindsUsed,
     pen: Pen,
     grip: Grip,
+    cleared: Pen,
+    cleared_grip: Grip,
     names: Names,
+    is_calm: bool,
+}
+
+impl CalmWalk<'_> {
+    /// Whether both plays stand alike: the same kinds arise in both from here on. A saved place counts if
+    /// something is restored, which is of a kind itself.
+    fn stand_alike(&self) -> bool
+        ensures { IsTrue result → PlaysAlike self.now }
+    {
+        let is_saved_alike = self.pen.saved == self.cleared.saved
+            || self.used.of(PlayerKind::SavePlaceOnly).is_none();
+        is_saved_alike
+            && self.pen.cursor == self.cleared.cursor
+            && self.pen.attribute == self.cleared.attribute
+            && self.pen.wrap == self.cleared.wrap
+            && self.grip == self.cleared_grip
+    }
 }
 
 impl Walker for CalmWalk<'_> {
     ghost use Rattle.ans_walks.specs.CalmWalked.{HasStayedCalm};
     ghost use Rattle.ans_walks.specs.Pens.{StandsOn};
 
-    ghost ready = { λ walk offset. StandsOn walk.size walk.pen };
+    ghost ready = { λ walk offset. StandsOn walk.size walk.pen × StandsOn walk.size walk.cleared };
 
     ghost walked = { λ first front now goes_on. HasStayedCalm first front goes_on now };
 
@@ -64,22 +86,30 @@ impl Walker for CalmWalk<'_> {
         let kind = token.kind();
         let text = text_at(self.content, token.start(), behind);
         let situations = Situations::of(self.size, &self.pen, self.grip, self.names, kind, text);
-        let goes_on = self.used.have_all(&situations);
+        if !self.used.have_all(&situations) {
+            self.is_calm = false;
+            return false;
+        }
         let before = self.pen.cursor;
+        let cleared_before = self.cleared.cursor;
         self.pen.step(self.size, kind);
+        self.cleared.step(self.size, kind);
         self.grip = self.grip.after(before, &self.pen, kind);
+        self.cleared_grip = self.cleared_grip.after(cleared_before, &self.cleared, kind);
         self.names = self.names.after(kind);
-        goes_on
+        !self.stand_alike()
     }
 }
 
 /// Whether no kinds but those that are used arise in a content that is read as tokens, from a state with
-/// this pen in which players stand firm. It reads no further than to the first other kind.
+/// this pen in which players stand firm, where none arises from the cleared start. It reads no further than
+/// to the first other kind, or to where the two plays stand alike.
 fn is_calm_from(size: Size, pen: Pen, used: &KindsUsed, content: &[u8]) -> bool
     requires length { length content.now ≤ longest_file }
     requires stands { StandsOn size pen }
     ensures { (s : State) (tokens : List TokenKind) (texts : List (List ℕ)) → pen ≡ pen_of s
         → ReadsAs content.now tokens texts
+        → IsAgreedFrom (is_used used.now) size (cleared size) (spelled tokens texts)
         → (IsTrue result ↔ IsAgreedFrom (is_used used.now) size s (spelled tokens texts)) }
 {
     let mut calm = CalmWalk {
@@ -88,9 +118,13 @@ fn is_calm_from(size: Size, pen: Pen, used: &KindsUsed, content: &[u8]) -> bool
         used,
         pen,
         grip: Grip::Firm,
+        cleared: Pen::cleared(),
+        cleared_grip: Grip::Firm,
         names: Names::NONE,
+        is_calm: true,
     };
-    walk(content, content.len(), &mut calm).unwrap_or(false)
+    let _ = walk(content, content.len(), &mut calm);
+    calm.is_calm
 }
 
 /// Whether a part of the start has to be known: as it is needed already, or because another kind arises
@@ -100,6 +134,7 @@ fn is_needed(needed: bool, size: Size, pen: Pen, used: &KindsUsed, content: &[u8
     requires stands { StandsOn size pen }
     ensures { (s : State) (tokens : List TokenKind) (texts : List (List ℕ)) → pen ≡ pen_of s
         → ReadsAs content.now tokens texts
+        → IsAgreedFrom (is_used used.now) size (cleared size) (spelled tokens texts)
         → ((result ≡ false) ↔ ((needed ≡ false)
         × IsAgreedFrom (is_used used.now) size s (spelled tokens texts))) }
 {

@@ -3,21 +3,22 @@ use Rattle.ans_model.specs.Screen.StartClass.{all_but_colours, all_but_cursor, a
 use Rattle.ans_model.specs.Screen.StartClass.{high_start, low_start}
 use Rattle.ans_walks.specs.KindsUsed.{is_used}
 use Rattle.ans_walks.specs.declared.watch.Watch.{Watch}
-use Rattle.ans_walks.proofs.CalmFound.{least_found}
+use Rattle.ans_walks.proofs.CalmFound.{calm_from_cleared, least_found}
 use Rattle.ans_walks.proofs.calm.least_class_for_players.Goals as goal
 
 pub returns : goal.returns
 returns c calm =
     let z = c.args.size in
     let read = calm.same.0.1 in
+    let calm_there = calm_from_cleared (is_used c.args.used.now) z c.args.content.now c.args.needs calm in
     least_found (is_used c.args.used.now) z c.args.content.now c.args.needs _ calm refl c.is_needed-colours.result
     (c.is_needed.ensures (high_start z all_but_cursor) read.tokens read.reads.0
-    (ap (λ (w : Watch). w.pen) c.high.ensures.watch) read.reads.1)
+    (ap (λ (w : Watch). w.pen) c.high.ensures.watch) read.reads.1 calm_there)
     (c.is_needed-2.ensures (high_start z all_but_saved) read.tokens read.reads.0
-    (ap (λ (w : Watch). w.pen) c.high-2.ensures.watch) read.reads.1)
+    (ap (λ (w : Watch). w.pen) c.high-2.ensures.watch) read.reads.1 calm_there)
     (c.is_needed-colours.ensures (low_start z all_but_colours) read.tokens read.reads.0
-    (ap (λ (w : Watch). w.pen) c.low.ensures.watch) read.reads.1)
+    (ap (λ (w : Watch). w.pen) c.low.ensures.watch) read.reads.1 calm_there)
     (c.is_needed-3.ensures (high_start z all_but_colours) read.tokens read.reads.0
-    (ap (λ (w : Watch). w.pen) c.high-3.ensures.watch) read.reads.1)
+    (ap (λ (w : Watch). w.pen) c.high-3.ensures.watch) read.reads.1 calm_there)
     (c.is_needed-4.ensures (low_start z all_but_wrap) read.tokens read.reads.0
-    (ap (λ (w : Watch). w.pen) c.low-2.ensures.watch) read.reads.1)
+    (ap (λ (w : Watch). w.pen) c.low-2.ensures.watch) read.reads.1 calm_there)

@@ -1,0 +1,114 @@
+-- Plain bytes: what walks ask of a printed byte is not so of them.
+use Rattle.std.proofs.Common.{◌≡◌, ℕ, ◌<◌, ◌≤◌, Bool, true, false, not, List, [], ◌∷◌, ◌++◌, refl, sym, ap, ◌∙◌, arith}
+use Rattle.std.specs.Prelude.{IsTrue, ◌&&◌, ◌||◌, ◌==◌, nat_le, slice_index}
+use Rattle.std.proofs.lemmas.Bool.{and_parts, leb-true, leb-false, lt-leb, ne_eqb, not-true, or_from, or_parts, and_left}
+use Rattle.std.proofs.lemmas.Bool.{and_right}
+use Rattle.ans_model.specs.Sequence.TokenKind.{Glyph}
+use Rattle.ans_model.specs.Screen.State.{Size, State}
+use Rattle.ans_players.specs.Grips as grip
+use Rattle.ans_players.specs.Grips.{Stand}
+use Rattle.ans_players.specs.Names.{Names, are_both}
+use Rattle.ans_players.specs.Situations.{is_page_control, is_terminal_control, kind_if, situations, token_kinds}
+use Rattle.ans_players.specs.declared.kind.Kind.TheVariants.{OwnColours}
+use Rattle.ans_tokens.specs.Walk.{begins_plainly, is_foreign, is_plain}
+use Rattle.ans_walks.specs.Conditions.{begins_with_two_byte_letter, begins_with_wide, is_latin_letter}
+use Rattle.ans_walks.specs.Conditions.{board_code, latin_letter, two_byte_letter, wide_character}
+use Rattle.ans_walks.proofs.KindsFound.{one}
+
+-- a byte is none of those between two, if it is below or above them
+outside_below : (b first last : ℕ) → b < first → (nat_le first b && nat_le b last) ≡ false
+outside_below b first last below = and_left (nat_le first b) (nat_le b last) (lt-leb first b below)
+
+outside_above : (b first last : ℕ) → last < b → (nat_le first b && nat_le b last) ≡ false
+outside_above b first last above = and_right (nat_le first b) (nat_le b last) (lt-leb b last above)
+
+other_than : (b n : ℕ) → (b ≡ n → ⊥) → (b == n) ≡ false
+other_than b n apart = ne_eqb b n apart
+
+pub foreign_parts : (b : ℕ) → IsTrue (not (is_foreign b)) → ((b == 0xC3) ≡ false) × (b < 0xE0)
+foreign_parts b h =
+    let parts = or_parts (b == 0xC3) (nat_le 0xE0 b) (not-true (is_foreign b) h) in
+    (parts.0, leb-false 0xE0 b parts.1)
+
+module _ (b : ℕ) (plain : IsTrue (is_plain b)) where
+  abbrev printed : Bool
+  printed = nat_le 0x20 b
+
+  abbrev no_sign : Bool
+  no_sign = not (b == 0x40)
+
+  abbrev no_bar : Bool
+  no_bar = not (b == 0x7C)
+
+  abbrev no_delete : Bool
+  no_delete = not (b == 0x7F)
+
+  parts : IsTrue printed × (IsTrue no_sign × (IsTrue no_bar × (IsTrue no_delete × IsTrue (not (is_foreign b)))))
+  parts =
+      let last = and_parts (printed && no_sign && no_bar && no_delete) (not (is_foreign b)) plain in
+      let third = and_parts (printed && no_sign && no_bar) no_delete last.0 in
+      let second = and_parts (printed && no_sign) no_bar third.0 in
+      let first = and_parts printed no_sign second.0 in
+      (first.0, (first.1, (second.1, (third.1, last.1))))
+
+  low : 0x20 ≤ b
+  low = leb-true 0x20 b parts.0
+
+  below : b < 0xE0
+  below = (foreign_parts b parts.1.1.1.1).1
+
+  no_page : is_page_control b ≡ false
+  no_page =
+      or_from (b == 0x00 || b == 0x0B) (b == 0x0C)
+      (or_from (b == 0x00) (b == 0x0B) (other_than b 0x00 (λ e. absurd (omega (arith, e, low))))
+      (other_than b 0x0B (λ e. absurd (omega (arith, e, low)))))
+      (other_than b 0x0C (λ e. absurd (omega (arith, e, low))))
+
+  no_terminal : is_terminal_control b ≡ false
+  no_terminal =
+      let first = outside_above b 0x01 0x06 (omega (arith, low)) in
+      let second = outside_above b 0x0E 0x19 (omega (arith, low)) in
+      let third = outside_above b 0x1C 0x1F (omega (arith, low)) in
+      or_from _ (b == 0x7F) (or_from _ _ (or_from _ _ first second) third) (not-true (b == 0x7F) parts.1.1.1.0)
+
+  pub no_kinds : (z : Size) (s : State) → token_kinds z s (Glyph b) ≡ []
+  no_kinds z s = rw (no_page, no_terminal) refl
+
+  -- of players that stand firm only own colours arise
+  pub plain_kinds : (z : Size) (s : State) (n : Names)
+      → situations z (record { grip = grip.Firm; names = n; state = s }) (one (Glyph b) (b ∷ []))
+      ≡ kind_if (not (are_both n)) OwnColours
+  plain_kinds z s n = rw (no_page, no_terminal) refl
+
+  -- ---- hints
+  no_wide : (rest : List ℕ) → begins_with_wide (b ∷ rest) ≡ false
+  no_wide rest = rw (lt-leb 0xE0 b below) refl
+
+  pub no_wide_character : (z : Size) (s : State) (rest : List ℕ) → wide_character z s (Glyph b) rest ≡ false
+  no_wide_character z s rest = no_wide rest
+
+  pub no_board_code : (z : Size) (s : State) (rest : List ℕ) → board_code z s (Glyph b) rest ≡ false
+  no_board_code z s rest = rw (not-true (b == 0x7C) parts.1.1.0, not-true (b == 0x40) parts.1.0) refl
+
+no_two_bytes : (rest : List ℕ) → IsTrue (begins_plainly rest) → begins_with_two_byte_letter rest ≡ false
+no_two_bytes [] h = refl
+no_two_bytes (c ∷ rest) h = rw (foreign_parts c h).0 refl
+
+no_latin : (rest : List ℕ) → IsTrue (begins_plainly rest) → is_latin_letter (slice_index rest 0) ≡ false
+no_latin [] h = refl
+no_latin (c ∷ rest) h =
+    let below = (foreign_parts c h).1 in
+    let first = other_than c 0xE4 (λ e. absurd (omega (arith, e, below))) in
+    let second = outside_below c 0xE8 0xEA (omega (arith, below)) in
+    let third = outside_below c 0xF1 0xF4 (omega (arith, below)) in
+    let fourth = other_than c 0xF6 (λ e. absurd (omega (arith, e, below))) in
+    or_from _ (c == 0xFC) (or_from _ _ (or_from _ _ (or_from _ _ first second) third) fourth)
+    (other_than c 0xFC (λ e. absurd (omega (arith, e, below))))
+
+pub no_two_byte_letter : (b : ℕ) (z : Size) (s : State) (rest : List ℕ) → IsTrue (begins_plainly rest)
+    → two_byte_letter z s (Glyph b) rest ≡ false
+no_two_byte_letter b z s rest h = and_right _ _ (no_two_bytes rest h)
+
+pub no_latin_letter : (b : ℕ) (z : Size) (s : State) (rest : List ℕ) → IsTrue (begins_plainly rest)
+    → latin_letter z s (Glyph b) rest ≡ false
+no_latin_letter b z s rest h = and_left _ _ (and_right _ _ (no_latin rest h))

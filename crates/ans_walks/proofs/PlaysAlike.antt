@@ -1,0 +1,187 @@
+-- Plays that stand alike go on alike.
+use Rattle.std.proofs.Common.{◌≡◌, ℕ, zero, suc, Bool, true, false, List, [], ◌∷◌, ◌++◌, refl, sym, ap, ap₂, ◌∙◌, subst}
+use Rattle.std.proofs.Common.{fold, replicate, take, Some}
+use Rattle.std.specs.Prelude.{IsTrue, slice_get, nat_lt, ◌==◌, ◌&&◌, if◌then◌else◌, not}
+use Rattle.std.specs.List.{list_all}
+use Rattle.ans_model.specs.Bytes.{blank}
+use Rattle.ans_model.specs.Sequence.TokenKind.{TokenKind, Glyph, Tab, LineFeed, CarriageReturn, Down, Forward, Clear}
+use Rattle.ans_model.specs.Sequence.TokenKind.{EraseLine, Save, Restore, Colours, Wrap, Bell}
+use Rattle.ans_model.specs.Screen.Attribute.{attribute_after_all}
+use Rattle.ans_model.specs.Screen.State.{Size, State, at}
+use Rattle.ans_model.specs.Screen.Step.{step, destination, line_feed, advanced, printed, put, tab_blanks, scrolled}
+use Rattle.ans_model.specs.declared.cell.Position.{Position}
+use Rattle.ans_players.specs.Grips.{Grip, Stand, Firm, Wrapped, BehindFeed, BehindReturn, Adrift, grip_after, is_home}
+use Rattle.ans_players.specs.Grips.{loose_kinds, is_held}
+use Rattle.ans_players.specs.Names.{Names, names_after}
+use Rattle.ans_players.specs.Situations.{Spelled, is_agreed, kind_if, name_kinds, situations, spelling_kinds, stand_behind}
+use Rattle.ans_players.specs.Situations.{token_kinds}
+use Rattle.ans_players.specs.declared.kind.Kind.{Kind}
+use Rattle.ans_players.specs.declared.kind.Kind.TheVariants.{StopsAtEdge, HomeOnClear, SavePlaceOnly}
+use Rattle.ans_players.proofs.OneOfTwo.{parts_agreed}
+use Rattle.ans_walks.specs.CalmWalked.{AreAlike}
+use Rattle.ans_walks.specs.Pens.{pen_of}
+
+module _ (z : Size) (restores : Bool) where
+  abbrev Alike : State → State → Type 0
+  Alike s r = AreAlike restores (pen_of s) (pen_of r)
+
+  -- ---- one token
+  alike_if : (test : Bool) (s s' r r' : State) → Alike s r → Alike s' r'
+      → Alike (if test then s else s') (if test then r else r')
+  alike_if true s s' r r' yes no = yes
+  alike_if false s s' r r' yes no = no
+
+  moved : (s r : State) (p q : Position) → Alike s r → p ≡ q → Alike (record s { cursor = p }) (record r { cursor = q })
+  moved s r p q h e = record { cursor = e; saved = h.saved; attribute = h.attribute; wrap = h.wrap }
+
+  fed : (s r : State) → Alike s r → Alike (line_feed z s) (line_feed z r)
+  fed s r h =
+      let below : Position → Position = λ p. at (p.row + 1) p.column in
+      subst (λ (b : Bool). Alike (line_feed z s) (if b then scrolled z r else record r { cursor = below r.cursor }))
+      (ap (λ (p : Position). p.row == z.lines) h.cursor)
+      (alike_if (s.cursor.row == z.lines) (scrolled z s) (record s { cursor = below s.cursor }) (scrolled z r)
+      (record r { cursor = below r.cursor })
+      (record { cursor = h.cursor; saved = h.saved; attribute = h.attribute; wrap = h.wrap })
+      (moved s r _ _ h (ap below h.cursor)))
+
+  wrapped : (s r : State) → Alike s r → Alike (if s.wrap then line_feed z (record s { cursor = at s.cursor.row 0 }) else s)
+      (if r.wrap then line_feed z (record r { cursor = at r.cursor.row 0 }) else r)
+  wrapped s r h =
+      let below : State → State = λ t. line_feed z (record t { cursor = at t.cursor.row 0 }) in
+      subst (λ (b : Bool). Alike (if s.wrap then below s else s) (if b then below r else r)) h.wrap
+      (alike_if s.wrap (below s) s (below r) r
+      (fed _ _ (moved s r _ _ h (ap (λ (p : Position). at p.row 0) h.cursor))) h)
+
+  gone_on : (s r : State) → Alike s r → Alike (advanced z s) (advanced z r)
+  gone_on s r h =
+      let next : Position → Position = λ p. at p.row (p.column + 1) in
+      let last : State → State =
+      λ t. if t.wrap then line_feed z (record t { cursor = at t.cursor.row 0 }) else t in
+      subst (λ (b : Bool). Alike (advanced z s) (if b then record r { cursor = next r.cursor } else last r))
+      (ap (λ (p : Position). nat_lt (p.column + 1) z.width) h.cursor)
+      (alike_if (nat_lt (s.cursor.column + 1) z.width) (record s { cursor = next s.cursor }) (last s)
+      (record r { cursor = next r.cursor }) (last r) (moved s r _ _ h (ap next h.cursor)) (wrapped s r h))
+
+  put_alike : (s r : State) (byte : ℕ) → Alike s r → Alike (put z s byte) (put z r byte)
+  put_alike s r byte h =
+      gone_on (printed z s byte) (printed z r byte)
+      (record { cursor = h.cursor; saved = h.saved; attribute = h.attribute; wrap = h.wrap })
+
+  blanks_alike : (n : ℕ) (s r : State) → Alike s r
+      → Alike (fold (put z) s (replicate n blank)) (fold (put z) r (replicate n blank))
+  blanks_alike zero s r h = h
+  blanks_alike (suc n) s r h = blanks_alike n (put z s blank) (put z r blank) (put_alike s r blank h)
+
+  step_alike : (t : TokenKind) (s r : State) → (t ≡ Restore → restores ≡ true) → Alike s r
+      → Alike (step z s t) (step z r t)
+  step_alike Clear s r goes h =
+      record { cursor = refl; saved = h.saved; attribute = h.attribute; wrap = h.wrap }
+  step_alike EraseLine s r goes h =
+      record { cursor = h.cursor; saved = h.saved; attribute = h.attribute; wrap = h.wrap }
+  step_alike Save s r goes h =
+      record { cursor = h.cursor; saved = λ e. h.cursor; attribute = h.attribute; wrap = h.wrap }
+  step_alike Restore s r goes h =
+      record { cursor = h.saved (goes refl); saved = h.saved; attribute = h.attribute; wrap = h.wrap }
+  step_alike (Colours parameters) s r goes h = record {
+    cursor = h.cursor;
+    saved = h.saved;
+    attribute = ap (λ (a : ℕ). attribute_after_all a parameters) h.attribute;
+    wrap = h.wrap;
+  }
+  step_alike (Wrap on) s r goes h =
+      record { cursor = h.cursor; saved = h.saved; attribute = h.attribute; wrap = refl }
+  step_alike LineFeed s r goes h = fed s r h
+  step_alike (Glyph byte) s r goes h = put_alike s r byte h
+  step_alike Tab s r goes h =
+      subst (λ (n : ℕ). Alike (step z s Tab) (fold (put z) r (replicate n blank)))
+      (ap (λ (p : Position). tab_blanks p.column) h.cursor) (blanks_alike (tab_blanks s.cursor.column) s r h)
+  step_alike t s r goes h = moved s r _ _ h (ap (λ (p : Position). destination z t p) h.cursor)
+
+  -- ---- the grip behind it
+  print_alike : (s r : State) → Alike s r
+      → (if s.wrap && s.cursor.column == 0 then Wrapped else Firm)
+      ≡ (if r.wrap && r.cursor.column == 0 then Wrapped else Firm)
+  print_alike s r h =
+      ap₂ (λ (on : Bool) (p : Position). if on && p.column == 0 then Wrapped else Firm) h.wrap h.cursor
+
+  grip_alike : (g : Grip) (t : TokenKind) (s r : State) → (t ≡ Restore → restores ≡ true) → Alike s r
+      → grip_after z g s t ≡ grip_after z g r t
+  grip_alike g (Glyph byte) s r goes h = print_alike _ _ (step_alike (Glyph byte) s r goes h)
+  grip_alike g Tab s r goes h = print_alike _ _ (step_alike Tab s r goes h)
+  grip_alike BehindFeed CarriageReturn s r goes h = refl
+  grip_alike BehindReturn CarriageReturn s r goes h = refl
+  grip_alike g CarriageReturn s r goes h =
+      ap (λ (p : Position). if p.column == 0 then Firm else BehindReturn) h.cursor
+  grip_alike g LineFeed s r goes h = ap (λ (p : Position). if p.column == 0 then Firm else BehindFeed) h.cursor
+  grip_alike g Clear s r goes h = ap (λ (p : Position). if is_home p then Firm else Adrift HomeOnClear) h.cursor
+  grip_alike g Save s r goes h = ap (λ (p : Position). if is_home p then Firm else Adrift SavePlaceOnly) h.cursor
+  grip_alike g t s r goes h = refl
+
+  -- ---- the kinds that arise at it
+  token_kinds_alike : (t : TokenKind) (s r : State) → Alike s r → token_kinds z s t ≡ token_kinds z r t
+  token_kinds_alike (Forward n) s r h =
+      ap (λ (p : Position). kind_if (not (nat_lt (p.column + n) z.width)) StopsAtEdge) h.cursor
+  token_kinds_alike (Down n) s r h =
+      ap (λ (p : Position). kind_if (nat_lt z.lines (p.row + n)) StopsAtEdge) h.cursor
+  token_kinds_alike Clear s r h = ap (λ (a : ℕ). token_kinds z (record s { attribute = a }) Clear) h.attribute
+  token_kinds_alike EraseLine s r h =
+      ap (λ (a : ℕ). token_kinds z (record s { attribute = a }) EraseLine) h.attribute
+  token_kinds_alike t s r h = refl
+
+  spelling_alike : (t : TokenKind) (text : List ℕ) (s r : State) → Alike s r
+      → spelling_kinds s t text ≡ spelling_kinds r t text
+  spelling_alike (Colours parameters) text s r h =
+      ap (λ (a : ℕ). spelling_kinds (record s { attribute = a }) (Colours parameters) text) h.attribute
+  spelling_alike t text s r h = refl
+
+  pub record StandAlike (h k : Stand) : Type 0 where
+    pub grip : h.grip ≡ k.grip
+    pub names : h.names ≡ k.names
+    pub state : AreAlike restores (pen_of h.state) (pen_of k.state)
+
+  abbrev grip_kinds : Grip → TokenKind → List Kind
+  grip_kinds g t = if is_held g t then [] else loose_kinds g
+
+  situations_alike : (x : Spelled) (h k : Stand) → StandAlike h k → situations z h x ≡ situations z k x
+  situations_alike x h k a =
+      ap₂ (λ (u v : List Kind). u ++ v) (ap (λ (g : Grip). grip_kinds g x.token) a.grip)
+      (ap₂ (λ (u v : List Kind). u ++ v)
+      (ap₂ (λ (u v : List Kind). u ++ v) (token_kinds_alike x.token h.state k.state a.state)
+      (spelling_alike x.token x.text h.state k.state a.state))
+      (ap (λ (n : Names). name_kinds n x.token) a.names))
+
+  behind_alike : (x : Spelled) (h k : Stand) → (x.token ≡ Restore → restores ≡ true) → StandAlike h k
+      → StandAlike (stand_behind z h x) (stand_behind z k x)
+  behind_alike x h k goes a = record {
+    grip = ap (λ (g : Grip). grip_after z g h.state x.token) a.grip
+        ∙ grip_alike k.grip x.token h.state k.state goes a.state;
+    names = ap (λ (n : Names). names_after n x.token) a.names;
+    state = step_alike x.token h.state k.state goes a.state;
+  }
+
+-- ---- along tokens
+module _ (agreed : Kind → Bool) (z : Size) where
+  -- a restore is of a kind of its own
+  restore_agreed : (x : Spelled) (k : Stand) → IsTrue (is_agreed agreed z k x) → x.token ≡ Restore
+      → agreed SavePlaceOnly ≡ true
+  restore_agreed x k is e =
+      let token = (parts_agreed z agreed k x is).token in
+      first (agreed SavePlaceOnly) (rw e at token)
+    where
+      first : (test : Bool) → IsTrue (test && true) → test ≡ true
+      first true h = refl
+      first false h = h
+
+  -- what is agreed in a play is agreed in one that stands alike before it
+  pub agreed_alike : (xs : List Spelled) (h k : Stand) → StandAlike z (agreed SavePlaceOnly) h k
+      → ((i : ℕ) (x : Spelled) → slice_get xs i ≡ Some x
+      → IsTrue (is_agreed agreed z (fold (stand_behind z) k (take i xs)) x))
+      → (i : ℕ) (x : Spelled) → slice_get xs i ≡ Some x
+      → IsTrue (is_agreed agreed z (fold (stand_behind z) h (take i xs)) x)
+  agreed_alike [] h k a each i x e = each i x e
+  agreed_alike (y ∷ xs) h k a each zero x e =
+      ap (list_all agreed) (situations_alike z (agreed SavePlaceOnly) x h k a) ∙ each zero x e
+  agreed_alike (y ∷ xs) h k a each (suc i) x e =
+      agreed_alike xs (stand_behind z h y) (stand_behind z k y)
+      (behind_alike z (agreed SavePlaceOnly) y h k (restore_agreed y k (each zero y refl)) a)
+      (λ j w there. each (suc j) w there) i x e
