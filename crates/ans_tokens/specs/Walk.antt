@@ -1,7 +1,8 @@
 -- What a walk over the tokens of a content has been over.
-use Rattle.std.specs.Prelude.{◌≡◌, ◌⊎◌, ℕ, Bool, true, false, List, [], ◌∷◌, ◌++◌, length, take, drop, Result, Ok, Err}
+use Rattle.std.specs.Prelude.{◌≡◌, ◌⊎◌, ◌&&◌, ◌||◌, ◌==◌, ℕ, Bool, true, false, not, nat_le, nat_lt, IsTrue, All}
+use Rattle.std.specs.Prelude.{List, [], ◌∷◌, ◌++◌, length, take, drop, Result, Ok, Err}
 use Rattle.std.specs.List.{AllZip, concat}
-use Rattle.ans_model.specs.Sequence.TokenKind.{TokenKind}
+use Rattle.ans_model.specs.Sequence.TokenKind.{TokenKind, Glyph}
 use Rattle.ans_model.specs.Sequence.Reads.{SpellsToken, ReadsAs}
 use Rattle.ans_model.specs.Inside.ShownKind.{shown_kind}
 use Rattle.ans_model.specs.Sequence.Spelling.{IsUnfinished}
@@ -37,6 +38,38 @@ pub record IsNext (front : Front) (token : Token) (text behind : List ℕ) : Typ
 -- with one token more
 abbrev pub front_with : Front → TokenKind → List ℕ → List ℕ → Front
 front_with front token text behind = front_of (front.tokens ++ token ∷ []) (front.texts ++ text ∷ []) behind
+
+-- ---- runs
+
+-- a byte from which letters of UTF-8 or of Latin-1 begin
+abbrev pub is_foreign : ℕ → Bool
+is_foreign byte = byte == 0xC3 || nat_le 0xE0 byte
+
+-- a byte that is printed, and no control, `@`, `|`, nor such a letter's first
+abbrev pub is_plain : ℕ → Bool
+is_plain byte =
+    nat_le 0x20 byte && not (byte == 0x40) && not (byte == 0x7C) && not (byte == 0x7F) && not (is_foreign byte)
+
+-- the bytes do not begin with such a letter
+abbrev pub begins_plainly : List ℕ → Bool
+begins_plainly [] = true
+begins_plainly (byte ∷ bytes) = not (is_foreign byte)
+
+-- plain bytes come next, which are a token each, and no letter of another system after the last
+pub record IsRunNext (front : Front) (offset : ℕ) (run behind : List ℕ) : Type 0 where
+  pub each : AllZip SpellsToken front.tokens front.texts
+  pub whole : front.behind ≡ run ++ behind
+  pub starts : offset ≡ length (concat front.texts)
+  pub plain : All (λ byte. IsTrue (is_plain byte)) run
+  pub ends : IsTrue (begins_plainly behind)
+
+-- with the tokens of a run more
+abbrev pub front_past : Front → List ℕ → List ℕ → Front
+front_past front [] behind = front
+front_past front (byte ∷ run) behind =
+    front_past (front_with front (Glyph byte) (byte ∷ []) (run ++ behind)) run behind
+
+-- ---- refusals
 
 -- the bytes begin with a text that the reading refuses
 pub record BeginsRefused (bytes : List ℕ) (cause : Cause) : Type 0 where

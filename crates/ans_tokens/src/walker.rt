@@ -5,9 +5,10 @@ ghost use Rattle.std.specs.Prelude.{IfOk, IfErr, slice_index_or};
 ghost use Rattle.ans_model.specs.Bytes.{escape, longest_file};
 ghost use Rattle.ans_model.specs.Inside.ShownKind.{shown_kind};
 ghost use Rattle.ans_tokens.specs.Token.{kind_of, start_of, length_of};
-ghost use Rattle.ans_tokens.specs.Walk.{Front, IsFaultAt, IsNext, WalksTo, front_with, no_front};
+ghost use Rattle.ans_tokens.specs.Walk.{Front, IsFaultAt, IsNext, IsRunNext, WalksTo, front_past, front_with, no_front};
 ghost use Rattle.ans_tokens.specs.WholeToken.{IsTokenAt};
 
+use crate::glyphs::count_run;
 use crate::scanner::{ESCAPE, Scanner, kind_of_byte};
 use crate::token::Token;
 use crate::whole::whole_sequence;
@@ -21,6 +22,9 @@ pub trait Walker {
     /// The first walker has been over the front and has become the second, which goes on or stops.
     ghost walked: { Self → Front → Self → Bool → Type 0 };
 
+    /// It may be handed so many plain bytes at once.
+    ghost takes: { Self → ℕ → Type 0 };
+
     /// Takes the next token, and says whether to go on. `behind` are the content's bytes behind the
     /// token.
     fn token(&mut self, token: &Token, behind: &[u8]) -> bool
@@ -31,6 +35,23 @@ pub trait Walker {
         ensures walked { (first : Self) (front : Front) (text : List ℕ)
             → IsNext front token.now text behind.now → walked first front self.old true → walked first
             (front_with front (shown_kind (kind_of token.now)) text behind.now) self.new result };
+
+    /// How many plain bytes it takes at once where they come next: the bytes from 20h on that no walk
+    /// looks at one by one. 0 is always right.
+    fn room(&self) -> usize
+        ensures { (count : ℕ) → 0 < count → count ≤ result → takes self.now count };
+
+    /// Takes plain bytes, as it would take their tokens one after the other. The first stands at this
+    /// offset.
+    fn take(&mut self, run: &[u8], offset: usize)
+        requires room { offset + length run.now ≤ longest_file }
+        requires some { 0 < length run.now }
+        requires takes { takes self.old (length run.now) }
+        requires ready { ready self.old offset }
+        ensures ready { ready self.new (offset + length run.now) }
+        ensures walked { (first : Self) (front : Front) (behind : List ℕ)
+            → IsRunNext front offset run.now behind → walked first front self.old true
+            → walked first (front_past front run.now behind) self.new true };
 }
 
 /// The token that the bytes begin with, which stands at this offset; it is a byte outside sequences.
@@ -75,6 +96,12 @@ pub fn walk<W: Walker>(content: &[u8], end: usize, walker: &mut W) -> Result<boo
 {
     let mut at = 0;
     'tokens: loop {
+        let count = count_run(&content[at..], walker.room().min(end - at));
+        if count > 0 {
+            walker.take(&content[at..at + count], at);
+            at += count;
+            continue 'tokens;
+        }
         let bytes = &content[at..end];
         // A token is large, so each is handed on at once: it would be copied where ways join.
         let goes_on = match bytes {
