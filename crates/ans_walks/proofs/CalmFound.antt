@@ -95,32 +95,32 @@ module _ (first old new : CalmWalk) (front : Front) (t : TokenKind) (text behind
   abbrev agreed : Kind → Bool
   agreed = is_used first.used.now
 
-  abbrev xs : List Spelled
-  xs = spelled front.tokens front.texts
+  abbrev passed : List Spelled
+  passed = spelled front.tokens front.texts
 
   abbrev Ways : State → Bool → Type 0
   Ways s test = (p : old.pen ≡ pen_of s) → test ≡ list_all (is_used old.used.now) (situations old.size
       (record { grip = shown_grip old.grip; names = shown_names old.names; state = s }) (one t text))
 
-  more : spelled (front.tokens ++ t ∷ []) (front.texts ++ text ∷ []) ≡ xs ++ one t text ∷ []
+  more : spelled (front.tokens ++ t ∷ []) (front.texts ++ text ∷ []) ≡ passed ++ one t text ∷ []
   more = spelled_more front.tokens t front.texts text h.texts
 
   -- what is so before the token
-  before : (s : State) → IsBegun first s → IsCalmTo agreed z s xs true old
-  before s begun = subst (λ (b : Bool). IsCalmTo agreed z s xs b old) (h.on refl) (h.calm s begun)
+  before : (s : State) → IsBegun first s → IsCalmTo agreed z s passed true old
+  before s begun = subst (λ (b : Bool). IsCalmTo agreed z s passed b old) (h.on refl) (h.calm s begun)
 
   test_is : (test : Bool) → ((s : State) → Ways s test) → (s : State)
-      → StandsAt old.pen old.grip old.names (stand_of z s xs) → test ≡ is_agreed agreed z (stand_of z s xs) (one t text)
+      → StandsAt old.pen old.grip old.names (stand_of z s passed) → test ≡ is_agreed agreed z (stand_of z s passed) (one t text)
   test_is test is s at =
       subst (λ (n : name.Names). test ≡ list_all agreed
-      (situations z (record (stand_of z s xs) { names = n }) (one t text))) at.names_are
-      (rw (h.size, h.used, at.grip_is) at (is (stand_of z s xs).state at.pen_is))
+      (situations z (record (stand_of z s passed) { names = n }) (one t text))) at.names_are
+      (rw (h.size, h.used, at.grip_is) at (is (stand_of z s passed).state at.pen_is))
 
   abbrev Whole : Bool → Type 0
   Whole on = HasStayedCalm first (front_with front t text behind) on new
 
   walked : (on : Bool) → (on ≡ true → new.is_calm ≡ true) → (on ≡ false → new.is_calm ≡ true → PlaysAlike new)
-      → ((s : State) → IsBegun first s → IsCalmTo agreed z s (xs ++ one t text ∷ []) new.is_calm new) → Whole on
+      → ((s : State) → IsBegun first s → IsCalmTo agreed z s (passed ++ one t text ∷ []) new.is_calm new) → Whole on
   walked on goes stops calm = record {
     size = size ∙ h.size;
     content = content ∙ h.content;
@@ -138,7 +138,7 @@ module _ (first old new : CalmWalk) (front : Front) (t : TokenKind) (text behind
   walked_apart is apart =
       walked false (λ e. absurd (false≢true e)) (λ e calm. absurd (false≢true (sym apart ∙ calm)))
       (λ s begun. rw apart (λ each.
-      false≢true (test_is false is s (before s begun).1.0 ∙ agreed_at agreed z s xs (one t text) each)))
+      false≢true (test_is false is s (before s begun).1 ∙ agreed_at agreed z s passed (one t text) each)))
 
   -- none does
   abbrev Steps : Pen → Pen → Grip → Grip → Type 0
@@ -147,10 +147,10 @@ module _ (first old new : CalmWalk) (front : Front) (t : TokenKind) (text behind
 
   stepped : (p q : Pen) (g k : Grip) (s : State) → Steps p q g k
       → shown_names new.names ≡ names_after (shown_names old.names) t
-      → StandsAt p g old.names (stand_of z s xs) → StandsAt q k new.names (stand_of z s (xs ++ one t text ∷ []))
-  stepped p q g k s steps names at = rw (fold-append (stand_behind z) (firmly s) xs (one t text ∷ [])) (record {
-    pen_is = rw h.size at (steps.0 (stand_of z s xs).state at.pen_is);
-    grip_is = rw (h.size, at.grip_is) at (steps.1 (stand_of z s xs).state at.pen_is);
+      → StandsAt p g old.names (stand_of z s passed) → StandsAt q k new.names (stand_of z s (passed ++ one t text ∷ []))
+  stepped p q g k s steps names at = rw (fold-append (stand_behind z) (firmly s) passed (one t text ∷ [])) (record {
+    pen_is = rw h.size at (steps.0 (stand_of z s passed).state at.pen_is);
+    grip_is = rw (h.size, at.grip_is) at (steps.1 (stand_of z s passed).state at.pen_is);
     names_are = names ∙ ap (λ (n : name.Names). name.names_after n t) at.names_are;
   })
 
@@ -161,20 +161,20 @@ module _ (first old new : CalmWalk) (front : Front) (t : TokenKind) (text behind
       walked on (λ e. calm) (λ e f. alike e) (λ s begun.
       let at = before s begun in
       rw calm (
-        agreed_more agreed z s xs (one t text) at.0 (sym (test_is true is s at.1.0)),
-        stepped old.pen new.pen old.grip new.grip s steps names at.1.0,
-        stepped old.cleared new.cleared old.cleared_grip new.cleared_grip (cleared z) others names at.1.1,
+        agreed_more agreed z s passed (one t text) at.0 (sym (test_is true is s at.1)),
+        stepped old.pen new.pen old.grip new.grip s steps names at.1,
+        stepped old.cleared new.cleared old.cleared_grip new.cleared_grip (cleared z) others names at.2,
       ))
 
 -- what the walk says in the end
 module _ (content : List ℕ) (first now : CalmWalk) (s : State) (tokens : List TokenKind) (texts : List (List ℕ))
     (begun : IsBegun first s) (reads : ReadsAs content tokens texts)
     (from_cleared : IsAgreedFrom (is_used first.used.now) first.size (cleared first.size) (spelled tokens texts)) where
-  abbrev agreed : Kind → Bool
-  agreed = is_used first.used.now
+  abbrev used : Kind → Bool
+  used = is_used first.used.now
 
-  abbrev z : Size
-  z = first.size
+  abbrev size : Size
+  size = first.size
 
   reads_taken : ReadsAs (take (length content) content) tokens texts
   reads_taken = rw (take-length content) reads
@@ -183,43 +183,43 @@ module _ (content : List ℕ) (first now : CalmWalk) (s : State) (tokens : List 
   module _ (front : Front) (later : List TokenKind) (later_texts : List (List ℕ))
       (tokens_are : tokens ≡ front.tokens ++ later) (texts_are : texts ≡ front.texts ++ later_texts) (on : Bool)
       (h : HasStayedCalm first front on now) where
-    abbrev xs : List Spelled
-    xs = spelled front.tokens front.texts
+    abbrev played : List Spelled
+    played = spelled front.tokens front.texts
 
     abbrev ys : List Spelled
     ys = spelled later later_texts
 
-    all : spelled tokens texts ≡ xs ++ ys
+    all : spelled tokens texts ≡ played ++ ys
     all = rw (tokens_are, texts_are) (spelled_behind front.tokens later front.texts later_texts h.texts)
 
     -- what is agreed along the rest is agreed along all
-    with_rest : (t : State) → IsAgreedFrom agreed z t xs
+    with_rest : (t : State) → IsAgreedFrom used size t played
         → ((i : ℕ) (x : Spelled) → slice_get ys i ≡ Some x
-        → IsTrue (is_agreed agreed z (fold (stand_behind z) (stand_of z t xs) (take i ys)) x))
-        → IsAgreedFrom agreed z t (xs ++ ys)
-    with_rest t each rest k x e = elim (cases_lt k (length xs)) [
+        → IsTrue (is_agreed used size (fold (stand_behind size) (stand_of size t played) (take i ys)) x))
+        → IsAgreedFrom used size t (played ++ ys)
+    with_rest t each rest k x e = elim (cases_lt k (length played)) [
       | inl within ↦
-          subst (λ (v : List Spelled). IsTrue (is_agreed agreed z (stand_of z t v) x))
-          (sym (take-append-le k xs ys (omega (arith, within))))
-          (each k x (sym (slice_get-append_left xs ys k within) ∙ e))
+          subst (λ (v : List Spelled). IsTrue (is_agreed used size (stand_of size t v) x))
+          (sym (take-append-le k played ys (omega (arith, within))))
+          (each k x (sym (slice_get-append_left played ys k within) ∙ e))
       | inr behind ↦
-          let i : ℕ = k - length xs in
-          let at : k ≡ length xs + i = omega (arith, behind) in
-          subst (λ (n : ℕ). IsTrue (is_agreed agreed z (stand_of z t (take n (xs ++ ys))) x)) (sym at)
-          (rw (take-append-add xs ys i, fold-append (stand_behind z) (firmly t) xs (take i ys))
-          (rest i x (sym (slice_get-append_right xs ys i) ∙ ap (λ (n : ℕ). slice_get (xs ++ ys) n) (sym at) ∙ e)))
+          let i : ℕ = k - length played in
+          let at : k ≡ length played + i = omega (arith, behind) in
+          subst (λ (n : ℕ). IsTrue (is_agreed used size (stand_of size t (take n (played ++ ys))) x)) (sym at)
+          (rw (take-append-add played ys i, fold-append (stand_behind size) (firmly t) played (take i ys))
+          (rest i x (sym (slice_get-append_right played ys i) ∙ ap (λ (n : ℕ). slice_get (played ++ ys) n) (sym at) ∙ e)))
     ]
 
     -- so it is in the rest
-    of_rest : (t : State) → IsAgreedFrom agreed z t (xs ++ ys) → (i : ℕ) (x : Spelled) → slice_get ys i ≡ Some x
-        → IsTrue (is_agreed agreed z (fold (stand_behind z) (stand_of z t xs) (take i ys)) x)
+    of_rest : (t : State) → IsAgreedFrom used size t (played ++ ys) → (i : ℕ) (x : Spelled) → slice_get ys i ≡ Some x
+        → IsTrue (is_agreed used size (fold (stand_behind size) (stand_of size t played) (take i ys)) x)
     of_rest t each i x e =
-        rw (take-append-add xs ys i, fold-append (stand_behind z) (firmly t) xs (take i ys)) at
-        (each (length xs + i) x (slice_get-append_right xs ys i ∙ e))
+        rw (take-append-add played ys i, fold-append (stand_behind size) (firmly t) played (take i ys)) at
+        (each (length played + i) x (slice_get-append_right played ys i ∙ e))
 
-    stands_alike : PlaysAlike now → StandsAt now.pen now.grip now.names (stand_of z s xs)
-        → StandsAt now.cleared now.cleared_grip now.names (stand_of z (cleared z) xs)
-        → StandAlike z (agreed SavePlaceOnly) (stand_of z s xs) (stand_of z (cleared z) xs)
+    stands_alike : PlaysAlike now → StandsAt now.pen now.grip now.names (stand_of size s played)
+        → StandsAt now.cleared now.cleared_grip now.names (stand_of size (cleared size) played)
+        → StandAlike size (used SavePlaceOnly) (stand_of size s played) (stand_of size (cleared size) played)
     stands_alike alike at there = record {
       grip = sym at.grip_is ∙ ap shown_grip alike.grip ∙ there.grip_is;
       names = sym at.names_are ∙ there.names_are;
@@ -227,27 +227,27 @@ module _ (content : List ℕ) (first now : CalmWalk) (s : State) (tokens : List 
     }
 
     told : (calm : Bool) → now.is_calm ≡ calm → on ≡ false
-        → IsTrue calm ↔ IsAgreedFrom agreed z s (spelled tokens texts)
+        → IsTrue calm ↔ IsAgreedFrom used size s (spelled tokens texts)
     told true calm stopped =
-        let at = subst (λ (b : Bool). IsCalmTo agreed z s xs b now) calm (h.calm s begun) in
-        let alike = stands_alike (h.stops stopped calm) at.1.0 at.1.1 in
+        let at = subst (λ (b : Bool). IsCalmTo used size s played b now) calm (h.calm s begun) in
+        let alike = stands_alike (h.stops stopped calm) at.1 at.2 in
         let whole = rw all at from_cleared in
-        (λ yes. rw all (with_rest s at.0 (agreed_alike agreed z ys (stand_of z s xs) (stand_of z (cleared z) xs) alike
-        (of_rest (cleared z) whole))), λ each. refl)
+        (λ yes. rw all (with_rest s at.0 (agreed_alike used size ys (stand_of size s played) (stand_of size (cleared size) played) alike
+        (of_rest (cleared size) whole))), λ each. refl)
     told false calm stopped =
-        let apart = subst (λ (b : Bool). IsCalmTo agreed z s xs b now) calm (h.calm s begun) in (
+        let apart = subst (λ (b : Bool). IsCalmTo used size s played b now) calm (h.calm s begun) in (
           λ yes. absurd (false≢true yes),
-          λ each. absurd (apart (agreed_in_front agreed z s xs ys (rw all at each))),
+          λ each. absurd (apart (agreed_in_front used size s played ys (rw all at each))),
         )
 
   pub calm_whole : (result : Result Bool Fault)
       → WalksTo (λ first front now goes_on. HasStayedCalm first front goes_on now) content (length content) first now
       result
-      → IsTrue now.is_calm ↔ IsAgreedFrom agreed z s (spelled tokens texts)
+      → IsTrue now.is_calm ↔ IsAgreedFrom used size s (spelled tokens texts)
   calm_whole (Ok true) h =
       let over = walked_all _ content (length content) first now tokens texts reads_taken h in
       let calm = over.on refl in
-      let at = subst (λ (b : Bool). IsCalmTo agreed z s (spelled tokens texts) b now) calm (over.calm s begun) in
+      let at = subst (λ (b : Bool). IsCalmTo used size s (spelled tokens texts) b now) calm (over.calm s begun) in
       (λ yes. at.0, λ each. calm)
   calm_whole (Ok false) (left, h) =
       let split : IsSplit h.front.tokens tokens h.front.texts texts left =

@@ -20,7 +20,8 @@ use Rattle.ans_model.specs.declared.fault.Fault.{Fault}
 use Rattle.ans_model.proofs.Slices.{slice_get-append_left, slice_get-append_right}
 use Rattle.ans_players.specs.Grips.{Stand, firmly, grip_after}
 use Rattle.ans_players.specs.Kinds.{all_but, is_kind, kind_number}
-use Rattle.ans_players.specs.Names.{Names, names_after}
+use Rattle.ans_players.specs.Names as name
+use Rattle.ans_players.specs.Names.{names_after}
 use Rattle.ans_players.specs.Named.{ArisesFirst, arises, times, times_cleared}
 use Rattle.ans_players.specs.Situations.{Spelled, situations, spelled, stand_behind, stand_of}
 use Rattle.ans_players.specs.declared.kind.Kind.{Kind}
@@ -33,8 +34,11 @@ use Rattle.ans_walks.specs.Counted.{count_of, counted}
 use Rattle.ans_walks.specs.GripsShown.{shown_grip}
 use Rattle.ans_walks.specs.NamesShown.{shown_names}
 use Rattle.ans_walks.specs.KindsUsed.{IsTold, used_at, used_of}
-use Rattle.ans_walks.specs.KindsWalked.{AreFew, has_no_others, HasFoundKinds, IsFound}
+use Rattle.ans_walks.specs.KindsWalked.{AreFew, has_no_others, HasFoundKinds, IsFound, StandsAt}
 use Rattle.ans_walks.specs.Pens.{pen_of}
+use Rattle.ans_walks.specs.declared.grip.Grip.{Grip}
+use Rattle.ans_walks.specs.declared.names.Names.{Names}
+use Rattle.ans_walks.specs.declared.pen.Pen.{Pen}
 use Rattle.ans_walks.specs.declared.kinds.KindsUsed.{KindsUsed}
 use Rattle.ans_walks.specs.declared.kinds.KindsWalk.{KindsWalk}
 use Rattle.ans_walks.specs.declared.times.Times.{Times}
@@ -227,29 +231,34 @@ all_others_none used each =
     ap (λ (n : ℕ). slice_index_or used.times n None) (sym number_is) ∙ each kind is)
 
 -- ---- the walk
-module _ (first old : KindsWalk) (front : Front) (t : TokenKind) (text behind : List ℕ)
-    (h : HasFoundKinds first front true old) (next : front.behind ≡ text ++ behind) where
-  abbrev z : Size
-  z = first.size
+-- What is found over a front of a content: its play from the cleared start is at this pen, this grip and these names,
+-- and of each kind so much was found.
+pub record FoundSoFar (z : Size) (content : List ℕ) (front : Front) (pen : Pen) (grip : Grip) (names : Names)
+    (uses : Kind → Option Times) : Type 0 where
+  pub texts : length front.texts ≡ length front.tokens
+  pub whole : content ≡ concat front.texts ++ front.behind
+  pub stands : StandsAt pen grip names (stand_of z (cleared z) (spelled front.tokens front.texts))
+  pub found : (kind : Kind) → IsFound z (spelled front.tokens front.texts) kind (uses kind)
 
+module _ (z : Size) (content : List ℕ) (front : Front) (t : TokenKind) (text behind : List ℕ) (pen : Pen) (grip : Grip)
+    (names : Names) (uses : Kind → Option Times) (h : FoundSoFar z content front pen grip names uses)
+    (next : front.behind ≡ text ++ behind) where
   abbrev xs : List Spelled
   xs = spelled front.tokens front.texts
 
   abbrev here : Stand
-  here = stand_of first.size (cleared first.size) (spelled front.tokens front.texts)
+  here = stand_of z (cleared z) (spelled front.tokens front.texts)
 
-  pub walked_kinds : (new : KindsWalk) (offset : ℕ) → offset ≡ length (concat front.texts) → new.size ≡ old.size
-      → new.content.now ≡ old.content.now
-      → ((s : State) → old.pen ≡ pen_of s → new.pen ≡ pen_of (step old.size s t))
-      → ((s : State) → old.pen ≡ pen_of s
-      → shown_grip new.grip ≡ grip_after old.size (shown_grip old.grip) s t)
-      → shown_names new.names ≡ names_after (shown_names old.names) t
-      → ((s : State) (kind : Kind) → old.pen ≡ pen_of s → used_of new.used kind
-      ≡ counted (used_of old.used kind)
-      (list_any (is_kind kind) (situations old.size
-      (record { grip = shown_grip old.grip; names = shown_names old.names; state = s }) (one t text))) offset)
-      → HasFoundKinds first (front_with front t text behind) true new
-  walked_kinds new offset at size content steps grips names uses =
+  pub found_token : (new_pen : Pen) (new_grip : Grip) (new_names : Names) (new_uses : Kind → Option Times) (offset : ℕ)
+      → offset ≡ length (concat front.texts)
+      → ((s : State) → pen ≡ pen_of s → new_pen ≡ pen_of (step z s t))
+      → ((s : State) → pen ≡ pen_of s → shown_grip new_grip ≡ grip_after z (shown_grip grip) s t)
+      → shown_names new_names ≡ names_after (shown_names names) t
+      → ((s : State) (kind : Kind) → pen ≡ pen_of s → new_uses kind
+      ≡ counted (uses kind) (list_any (is_kind kind) (situations z
+      (record { grip = shown_grip grip; names = shown_names names; state = s }) (one t text))) offset)
+      → FoundSoFar z content (front_with front t text behind) new_pen new_grip new_names new_uses
+  found_token new_pen new_grip new_names new_uses offset at steps grips names_are news =
       let more : spelled (front.tokens ++ t ∷ []) (front.texts ++ text ∷ []) ≡ xs ++ one t text ∷ [] =
       spelled_more front.tokens t front.texts text h.texts in
       let there : stand_of z (cleared z) (xs ++ one t text ∷ []) ≡ stand_behind z here (one t text) =
@@ -258,25 +267,58 @@ module _ (first old : KindsWalk) (front : Front) (t : TokenKind) (text behind : 
       let start : offset ≡ length (concat (map (λ x. x.text) xs)) =
       at ∙ sym (ap (λ (v : List (List ℕ)). length (concat v)) texts) in
       record {
-        never_stops = refl;
-        size = size ∙ h.size;
-        content = content ∙ h.content;
         texts = omega (arith, h.texts, length-append front.texts (text ∷ []), length-append front.tokens (t ∷ []));
-        whole = whole_more first.content.now front.texts text behind
-            (text_there first.content.now front.texts _ text behind h.whole next);
+        whole = whole_more content front.texts text behind (text_there content front.texts _ text behind h.whole next);
         stands = rw (more, there) (record {
-          pen_is = rw h.size at (steps here.state h.stands.pen_is);
-          grip_is = rw (h.size, h.stands.grip_is) at (grips here.state h.stands.pen_is);
-          names_are = names ∙ ap (λ (n : Names). names_after n t) h.stands.names_are;
+          pen_is = steps here.state h.stands.pen_is;
+          grip_is = rw h.stands.grip_is at (grips here.state h.stands.pen_is);
+          names_are = names_are ∙ ap (λ (n : name.Names). names_after n t) h.stands.names_are;
         });
         found = λ kind.
-            let uses_here = rw (h.size, h.stands.grip_is) at (uses here.state kind h.stands.pen_is) in
-            let is = subst (λ (n : Names). used_of new.used kind ≡ counted (used_of old.used kind)
+            let uses_here = rw h.stands.grip_is at (news here.state kind h.stands.pen_is) in
+            let is = subst (λ (n : name.Names). new_uses kind ≡ counted (uses kind)
             (list_any (is_kind kind) (situations z (record here { names = n }) (one t text))) offset)
             h.stands.names_are uses_here in
             rw (more, is) (found_if kind z xs (one t text) offset start (arises kind z here (one t text))
-            (used_of old.used kind) refl (h.found kind));
+            (uses kind) refl (h.found kind));
       }
+
+module _ (first old : KindsWalk) (front : Front) (h : HasFoundKinds first front true old) where
+  pub so_far : FoundSoFar old.size old.content.now front old.pen old.grip old.names (used_of old.used)
+  so_far = rw (h.size, h.content) (record { texts = h.texts; whole = h.whole; stands = h.stands; found = h.found })
+
+  pub has_found : (after : Front) (new : KindsWalk) → new.size ≡ old.size → new.content.now ≡ old.content.now
+      → FoundSoFar old.size old.content.now after new.pen new.grip new.names (used_of new.used)
+      → HasFoundKinds first after true new
+  has_found after new size content found =
+      let f : FoundSoFar first.size first.content.now after new.pen new.grip new.names (used_of new.used) =
+      rw (h.size, h.content) at found in
+      record {
+        never_stops = refl;
+        size = size ∙ h.size;
+        content = content ∙ h.content;
+        texts = f.texts;
+        whole = f.whole;
+        stands = f.stands;
+        found = f.found;
+      }
+
+  module _ (t : TokenKind) (text behind : List ℕ) (next : front.behind ≡ text ++ behind) where
+    pub walked_kinds : (new : KindsWalk) (offset : ℕ) → offset ≡ length (concat front.texts) → new.size ≡ old.size
+        → new.content.now ≡ old.content.now
+        → ((s : State) → old.pen ≡ pen_of s → new.pen ≡ pen_of (step old.size s t))
+        → ((s : State) → old.pen ≡ pen_of s
+        → shown_grip new.grip ≡ grip_after old.size (shown_grip old.grip) s t)
+        → shown_names new.names ≡ names_after (shown_names old.names) t
+        → ((s : State) (kind : Kind) → old.pen ≡ pen_of s → used_of new.used kind
+        ≡ counted (used_of old.used kind)
+        (list_any (is_kind kind) (situations old.size
+        (record { grip = shown_grip old.grip; names = shown_names old.names; state = s }) (one t text))) offset)
+        → HasFoundKinds first (front_with front t text behind) true new
+    walked_kinds new offset at size content steps grips names uses =
+        has_found (front_with front t text behind) new size content
+        (found_token old.size old.content.now front t text behind old.pen old.grip old.names (used_of old.used) so_far
+        next new.pen new.grip new.names (used_of new.used) offset at steps grips names uses)
 
 -- what is found in a whole content is told
 told : (z : Size) (content : List ℕ) (kind : Kind) (good : IsGood z all_known content) (found : Option Times)

@@ -16,7 +16,11 @@ pub mod TextTests
 pub mod HintsFound
 pub mod KindsFound
 pub mod PlaysAlike
+pub mod PlainBytes
 pub mod CalmFound
+pub mod CountedRuns
+pub mod RunsFound
+pub mod RunHints
 pub mod NamedPlayers
 mod LineEndBytes
 mod FullRowsFound

@@ -1,14 +1,17 @@
 -- What printed bytes do to a pen.
 use Rattle.std.proofs.Common.{◌≡◌, ℕ, zero, suc, ◌+◌, ◌<◌, ◌≤◌, Bool, true, false, List, [], ◌∷◌, length, refl, sym, ap}
 use Rattle.std.proofs.Common.{◌∙◌, arith, fold, replicate}
-use Rattle.std.specs.Prelude.{nat_lt, ◌==◌, if◌then◌else◌}
+use Rattle.std.specs.Prelude.{nat_lt, ◌==◌, ◌&&◌, if◌then◌else◌}
 use Rattle.std.proofs.lemmas.List.{replicate-append-replicate}
 use Rattle.std.proofs.lemmas.List.Sums.{fold-append}
-use Rattle.std.proofs.lemmas.Bool.{le-ltb, lt-ltb}
+use Rattle.std.proofs.lemmas.Bool.{and_right, le-ltb, lt-ltb, ne_eqb}
 use Rattle.ans_model.specs.Bytes.{blank}
 use Rattle.ans_model.specs.Screen.State.{Size, State, at}
-use Rattle.ans_model.specs.Screen.Step.{advanced, line_feed, printed, put}
-use Rattle.ans_walks.specs.Pens.{pen_of}
+use Rattle.ans_model.specs.Sequence.TokenKind.{Glyph}
+use Rattle.ans_model.specs.Screen.Step.{advanced, line_feed, printed, put, step}
+use Rattle.ans_players.specs.Grips.{Firm, Wrapped, grip_after}
+use Rattle.ans_walks.specs.Pens.{further, pen_of}
+use Rattle.ans_walks.specs.declared.pen.Pen.{Pen}
 
 -- in the last column, where wrap is on
 pub wraps : (z : Size) (s : State) → z.width ≤ s.cursor.column + 1 → s.wrap ≡ true
@@ -68,3 +71,30 @@ pub more_blanks_lower : (z : Size) (s : State) (n m : ℕ) → n ≤ m
 more_blanks_lower z s zero m less = blanks_lower z s m
 more_blanks_lower z s (suc n) zero less = absurd (omega (arith, less))
 more_blanks_lower z s (suc n) (suc m) less = more_blanks_lower z (put z s blank) n m (omega (arith, less))
+
+-- ---- a byte of a run that stays in its row
+pub further_zero : (pen : Pen) → further pen 0 ≡ pen
+further_zero pen =
+    let same : pen.cursor.column + 0 ≡ pen.cursor.column = omega arith in
+    ap (λ (c : ℕ). record pen { cursor = at pen.cursor.row c }) same
+
+module _ (z : Size) (pen : Pen) (k b : ℕ) (stays : pen.cursor.column + suc k < z.width) (s : State)
+    (here : further pen k ≡ pen_of s) where
+  column_is : pen.cursor.column + k ≡ s.cursor.column
+  column_is = ap (λ (p : Pen). p.cursor.column) here
+
+  goes_on : step z s (Glyph b) ≡ one_on z s b
+  goes_on = stays_in_row z s b (omega (arith, column_is, stays))
+
+  pub byte_further : further pen (suc k) ≡ pen_of (step z s (Glyph b))
+  byte_further =
+      let one : pen.cursor.column + suc k ≡ (pen.cursor.column + k) + 1 = omega arith in
+      ap (λ (c : ℕ). record pen { cursor = at pen.cursor.row c }) one
+      ∙ ap (λ (p : Pen). record p { cursor = at p.cursor.row (p.cursor.column + 1) }) here ∙ sym (ap pen_of goes_on)
+
+  -- no byte wraps, so players that stand firm do so after it
+  pub byte_firm : grip_after z Firm s (Glyph b) ≡ Firm
+  byte_firm =
+      let inside : ((s.cursor.column + 1) == 0) ≡ false = ne_eqb (s.cursor.column + 1) 0 (λ e. absurd (omega (arith, e))) in
+      ap (λ (t : State). if t.wrap && t.cursor.column == 0 then Wrapped else Firm) goes_on
+      ∙ ap (λ (b : Bool). if b then Wrapped else Firm) (and_right s.wrap _ inside)

@@ -1,5 +1,5 @@
 -- Plays that stand alike go on alike.
-use Rattle.std.proofs.Common.{◌≡◌, ℕ, zero, suc, Bool, true, false, List, [], ◌∷◌, ◌++◌, refl, sym, ap, ap₂, ◌∙◌, subst}
+use Rattle.std.proofs.Common.{◌≡◌, ℕ, zero, suc, ◌+◌, Bool, true, false, List, [], ◌∷◌, ◌++◌, refl, sym, ap, ap₂, ◌∙◌, subst}
 use Rattle.std.proofs.Common.{fold, replicate, take, Some}
 use Rattle.std.specs.Prelude.{IsTrue, slice_get, nat_lt, ◌==◌, ◌&&◌, if◌then◌else◌, not}
 use Rattle.std.specs.List.{list_all}
@@ -28,8 +28,8 @@ module _ (z : Size) (restores : Bool) where
   -- ---- one token
   alike_if : (test : Bool) (s s' r r' : State) → Alike s r → Alike s' r'
       → Alike (if test then s else s') (if test then r else r')
-  alike_if true s s' r r' yes no = yes
-  alike_if false s s' r r' yes no = no
+  alike_if true s s' r r' h g = h
+  alike_if false s s' r r' h g = g
 
   moved : (s r : State) (p q : Position) → Alike s r → p ≡ q → Alike (record s { cursor = p }) (record r { cursor = q })
   moved s r p q h e = record { cursor = e; saved = h.saved; attribute = h.attribute; wrap = h.wrap }
@@ -106,8 +106,8 @@ module _ (z : Size) (restores : Bool) where
 
   grip_alike : (g : Grip) (t : TokenKind) (s r : State) → (t ≡ Restore → restores ≡ true) → Alike s r
       → grip_after z g s t ≡ grip_after z g r t
-  grip_alike g (Glyph byte) s r goes h = print_alike _ _ (step_alike (Glyph byte) s r goes h)
-  grip_alike g Tab s r goes h = print_alike _ _ (step_alike Tab s r goes h)
+  grip_alike g (Glyph byte) s r goes h = print_alike (step z s (Glyph byte)) (step z r (Glyph byte)) (step_alike (Glyph byte) s r goes h)
+  grip_alike g Tab s r goes h = print_alike (step z s Tab) (step z r Tab) (step_alike Tab s r goes h)
   grip_alike BehindFeed CarriageReturn s r goes h = refl
   grip_alike BehindReturn CarriageReturn s r goes h = refl
   grip_alike g CarriageReturn s r goes h =
@@ -178,7 +178,7 @@ module _ (agreed : Kind → Bool) (z : Size) where
       → IsTrue (is_agreed agreed z (fold (stand_behind z) k (take i xs)) x))
       → (i : ℕ) (x : Spelled) → slice_get xs i ≡ Some x
       → IsTrue (is_agreed agreed z (fold (stand_behind z) h (take i xs)) x)
-  agreed_alike [] h k a each i x e = each i x e
+  agreed_alike [] h k a each i x e = absurd (let no : ⊥ = cc in no)
   agreed_alike (y ∷ xs) h k a each zero x e =
       ap (list_all agreed) (situations_alike z (agreed SavePlaceOnly) x h k a) ∙ each zero x e
   agreed_alike (y ∷ xs) h k a each (suc i) x e =

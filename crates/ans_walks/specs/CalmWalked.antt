@@ -1,12 +1,12 @@
 -- What the walk that looks for kinds that are not used has found so far. Only private contracts cite it.
-use Rattle.std.specs.Prelude.{◌≡◌, Bool, true, false, List, ◌++◌, length}
-use Rattle.std.specs.List.{concat}
+use Rattle.std.specs.Prelude.{◌≡◌, ℕ, ◌+◌, ◌<◌, Bool, true, false, not, IsTrue, List, ◌++◌, length}
+use Rattle.std.specs.List.{concat, list_all}
 use Rattle.ans_model.specs.Screen.State.{Size, State}
 use Rattle.ans_model.specs.Screen.StartClass.{cleared}
 use Rattle.ans_players.specs.Classes.{IsAgreedFrom}
-use Rattle.ans_players.specs.Situations.{Spelled, spelled, stand_of}
+use Rattle.ans_players.specs.Situations.{Spelled, kind_if, spelled, stand_of}
 use Rattle.ans_players.specs.declared.kind.Kind.{Kind}
-use Rattle.ans_players.specs.declared.kind.Kind.TheVariants.{SavePlaceOnly}
+use Rattle.ans_players.specs.declared.kind.Kind.TheVariants.{OwnColours, SavePlaceOnly}
 use Rattle.ans_tokens.specs.Walk.{Front}
 use Rattle.ans_walks.specs.KindsUsed.{is_used}
 use Rattle.ans_walks.specs.KindsWalked.{StandsAt}
@@ -15,7 +15,7 @@ use Rattle.ans_walks.specs.declared.calm.CalmWalk.{CalmWalk}
 use Rattle.ans_walks.specs.declared.grip.Grip.TheVariants.{Firm}
 use Rattle.ans_walks.specs.declared.pen.Pen.{Pen}
 use Rattle.ans_walks.specs.NamesShown.{shown_names}
-use Rattle.ans_players.specs.Names.{unnamed}
+use Rattle.ans_players.specs.Names.{are_both, unnamed}
 
 -- before the first token, from this state
 pub record IsBegun (walk : CalmWalk) (s : State) : Type 0 where
@@ -58,3 +58,12 @@ pub record HasStayedCalm (first : CalmWalk) (front : Front) (goes_on : Bool) (no
   pub stops : goes_on ≡ false → now.is_calm ≡ true → PlaysAlike now
   pub calm : (s : State) → IsBegun first s
       → IsCalmTo (is_used first.used.now) first.size s (spelled front.tokens front.texts) now.is_calm now
+
+-- players stand firm in both plays, all that arises at a plain byte is of a kind that is used, and so many bytes that are
+-- printed next stay in their rows
+pub record StaysCalmInRow (walk : CalmWalk) (count : ℕ) : Type 0 where
+  pub firm : walk.grip ≡ Firm
+  pub cleared_firm : walk.cleared_grip ≡ Firm
+  pub agreed : IsTrue (list_all (is_used walk.used.now) (kind_if (not (are_both (shown_names walk.names))) OwnColours))
+  pub stays : walk.pen.cursor.column + count < walk.size.width
+  pub cleared_stays : walk.cleared.cursor.column + count < walk.size.width

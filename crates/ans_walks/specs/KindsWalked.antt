@@ -1,5 +1,5 @@
 -- What the walk over the kinds in which players part has found so far. Only private contracts cite it.
-use Rattle.std.specs.Prelude.{◌≡◌, ℕ, ◌<◌, ◌≤◌, Bool, is_none, IsTrue, List, ◌++◌, length, take, Option, None, Some}
+use Rattle.std.specs.Prelude.{◌≡◌, ℕ, ◌+◌, ◌<◌, ◌≤◌, Bool, is_none, IsTrue, List, ◌++◌, length, take, Option, None, Some}
 use Rattle.std.specs.List.{concat, list_all}
 use Rattle.ans_model.specs.Screen.State.{Size}
 use Rattle.ans_model.specs.Screen.StartClass.{cleared}
@@ -14,6 +14,7 @@ use Rattle.ans_walks.specs.NamesShown.{shown_names}
 use Rattle.ans_walks.specs.KindsUsed.{used_at, used_of}
 use Rattle.ans_walks.specs.Pens.{pen_of, StandsOn}
 use Rattle.ans_walks.specs.declared.grip.Grip.{Grip}
+use Rattle.ans_walks.specs.declared.grip.Grip.TheVariants.{Firm}
 use Rattle.ans_walks.specs.declared.kinds.KindsUsed.{KindsUsed}
 use Rattle.ans_walks.specs.declared.kinds.KindsWalk.{KindsWalk}
 use Rattle.ans_walks.specs.declared.names.Names.{Names}
@@ -61,3 +62,8 @@ pub record HasFoundKinds (first : KindsWalk) (front : Front) (goes_on : Bool) (n
 pub record IsReadyFor (walk : KindsWalk) (offset : ℕ) : Type 0 where
   pub stands : StandsOn walk.size walk.pen
   pub few : AreFew walk.used offset
+
+-- players stand firm, and so many bytes that are printed next stay in their row
+pub record StaysFirmInRow (walk : KindsWalk) (count : ℕ) : Type 0 where
+  pub firm : walk.grip ≡ Firm
+  pub stays : walk.pen.cursor.column + count < walk.size.width

@@ -1,7 +1,7 @@
 -- A pen: what is kept of a state, which is all but its screen.
-use Rattle.std.specs.Prelude.{◌+◌, ◌-◌, Bool, ◌&&◌, ◌==◌, fold, replicate}
+use Rattle.std.specs.Prelude.{ℕ, ◌+◌, ◌-◌, Bool, ◌&&◌, ◌==◌, fold, replicate}
 use Rattle.ans_model.specs.Bytes.{blank}
-use Rattle.ans_model.specs.Screen.State.{Size, State, IsOnScreen, sized}
+use Rattle.ans_model.specs.Screen.State.{Size, State, IsOnScreen, at, sized}
 use Rattle.ans_model.specs.Screen.Step.{put, tab_blanks}
 use Rattle.ans_model.specs.Screen.StartClass.{cleared}
 use Rattle.ans_walks.specs.declared.pen.Pen.{Pen}
@@ -18,6 +18,10 @@ cleared_pen = pen_of (cleared (sized 0 0))
 pub record StandsOn (z : Size) (pen : Pen) : Type 0 where
   pub cursor : IsOnScreen z pen.cursor
   pub saved : IsOnScreen z pen.saved
+
+-- so many columns further in its row
+abbrev pub further : Pen → ℕ → Pen
+further pen count = record pen { cursor = at pen.cursor.row (pen.cursor.column + count) }
 
 -- a glyph that is printed next wraps
 abbrev pub glyph_wraps : Size → Pen → Bool

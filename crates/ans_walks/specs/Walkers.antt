@@ -1,5 +1,5 @@
 -- What the walkers that look for lines and for moves have found so far. Only private contracts cite it.
-use Rattle.std.specs.Prelude.{◌≡◌, ◌+◌, ◌<◌, ◌≤◌, Bool, true, false, List, All}
+use Rattle.std.specs.Prelude.{◌≡◌, ℕ, ◌+◌, ◌<◌, ◌≤◌, Bool, true, false, List, All}
 use Rattle.ans_model.specs.Sequence.TokenKind.{TokenKind, PrintsByte, Glyph, Tab, LineFeed, Up, Down, Place}
 use Rattle.ans_model.specs.Sequence.TokenKind.{Mode, Keys, Ask}
 use Rattle.ans_model.specs.Screen.State.{Size, State}
@@ -37,6 +37,11 @@ IsPlayed z tokens false pen = ¬ IsClean z all_known tokens
 abbrev pub HasPlayed : ClearedPlay → List TokenKind → Bool → ClearedPlay → Type 0
 HasPlayed first tokens goes_on now = (now.size ≡ first.size) × IsPlayed first.size tokens goes_on now.pen
 
+-- so many bytes that are printed next stay in their row, which is a stated one
+pub record StaysAbove (play : ClearedPlay) (count : ℕ) : Type 0 where
+  pub above : play.pen.cursor.row < play.size.lines
+  pub stays : play.pen.cursor.column + count < play.size.width
+
 -- ---- moves
 
 -- after these tokens the token is no move up or down, or a free one
@@ -64,3 +69,8 @@ pub record HasMoved (first : Moves) (tokens : List TokenKind) (goes_on : Bool) (
   pub moved : (class : Start) → first.low ≡ pen_of (low_start first.size class)
       → first.high ≡ pen_of (high_start first.size class) → All PrintsByte tokens → IsClean first.size class tokens
       → MoveFreelyTo first.size class tokens goes_on now.low now.high
+
+-- so many bytes that are printed next stay in the rows of both plays
+pub record StayInRows (moves : Moves) (count : ℕ) : Type 0 where
+  pub low : moves.low.cursor.column + count < moves.size.width
+  pub high : moves.high.cursor.column + count < moves.size.width

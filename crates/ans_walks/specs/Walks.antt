@@ -1,5 +1,6 @@
 -- The hints of a front of a content, token by token.
-use Rattle.std.specs.Prelude.{◌≡◌, ℕ, ◌+◌, ◌≤◌, Bool, not, ◌&&◌, List, length, IsTrue}
+use Rattle.std.specs.Prelude.{◌≡◌, ℕ, ◌+◌, ◌-◌, ◌<◌, ◌≤◌, Bool, false, not, ◌&&◌, ◌==◌, nat_le, min, get_or, List, length}
+use Rattle.std.specs.Prelude.{IsTrue}
 use Rattle.ans_model.specs.Sequence.TokenKind.{TokenKind}
 use Rattle.ans_model.specs.Screen.State.{State}
 use Rattle.ans_model.specs.Screen.Step.{final}
@@ -7,9 +8,9 @@ use Rattle.ans_model.specs.Screen.StartClass.{cleared}
 use Rattle.ans_walks.specs.Pens.{pen_of, StandsOn}
 use Rattle.ans_tokens.specs.Walk.{Front}
 use Rattle.ans_walks.specs.Conditions.{loose_line_feed, wide_character, two_byte_letter, latin_letter, board_code}
-use Rattle.ans_walks.specs.Conditions.{later_colours, blinking_glyph, dark_glyph, seen_glyph}
-use Rattle.ans_walks.specs.RowEnds.{CountsRows, nothing_written, row_ends_with, written_after}
-use Rattle.ans_walks.specs.Counted.{count_of, counted}
+use Rattle.ans_walks.specs.Conditions.{later_colours, blinking_glyph, dark_glyph, is_seen, seen_glyph}
+use Rattle.ans_walks.specs.RowEnds.{CountsRows, is_stuck, nothing_written, printed_behind, row_ends_with, written_after}
+use Rattle.ans_walks.specs.Counted.{count_of, counted, counted_along, counted_times}
 use Rattle.ans_walks.specs.Hints.{AreHints}
 use Rattle.ans_walks.specs.RowMoves.{moved_with}
 use Rattle.ans_walks.specs.Rows.{empty_with}
@@ -33,6 +34,29 @@ hints_with walk s offset t rest = record {
   empty_rows = empty_with walk.size s walk.hints.empty_rows t;
   moves_rows = moved_with walk.hints.moves_rows t;
 }
+
+-- which bytes of a run are seen, and which are seen and dark
+abbrev pub seen_at : List ℕ → ℕ → Bool
+seen_at run k = is_seen (get_or run k 0)
+
+abbrev pub dark_at : List ℕ → ℕ → ℕ → Bool
+dark_at run attribute k = is_seen (get_or run k 0) && attribute == 0x08
+
+-- the hints after a run of plain bytes that stays in its row, the first of which stands at this offset
+abbrev pub hints_past : Walk → List ℕ → ℕ → Hints
+hints_past walk run offset = record walk.hints {
+  row_ends = printed_behind walk.hints.row_ends;
+  blinking_glyphs = counted_times walk.hints.blinking_glyphs
+      (not walk.non_blink && nat_le 0x80 walk.pen.attribute) (length run) offset;
+  seen_glyphs = counted_along walk.hints.seen_glyphs (seen_at run) offset (length run);
+  dark_glyphs = counted_along walk.hints.dark_glyphs (dark_at run walk.pen.attribute) offset (length run);
+  empty_rows = min walk.hints.empty_rows (walk.size.lines - (walk.pen.cursor.row + 1));
+}
+
+-- so many bytes that are printed next stay in their row, and none is printed over another
+pub record StaysInRow (walk : Walk) (count : ℕ) : Type 0 where
+  pub loose : is_stuck walk.row.seam ≡ false
+  pub stays : walk.pen.cursor.column + count < walk.size.width
 
 -- there are no more times of anything than bytes so far
 pub record CountsWithin (hints : Hints) (offset : ℕ) : Type 0 where

@@ -75,13 +75,16 @@ impl CalmWalk<'_> {
 }
 
 impl Walker for CalmWalk<'_> {
-    ghost use Rattle.ans_walks.specs.CalmWalked.{HasStayedCalm};
+    ghost use Rattle.ans_walks.specs.CalmWalked.{HasStayedCalm, StaysCalmInRow};
     ghost use Rattle.ans_walks.specs.Pens.{StandsOn};
 
     ghost ready = { λ walk offset. StandsOn walk.size walk.pen × StandsOn walk.size walk.cleared };
 
     ghost walked = { λ first front now goes_on. HasStayedCalm first front goes_on now };
 
+    ghost takes = { λ walk count. StaysCalmInRow walk count };
+
+    #[inline(always)]
     fn token(&mut self, token: &Token, behind: &[u8]) -> bool {
         let kind = token.kind();
         let text = text_at(self.content, token.start(), behind);
@@ -98,6 +101,23 @@ impl Walker for CalmWalk<'_> {
         self.cleared_grip = self.cleared_grip.after(cleared_before, &self.cleared, kind);
         self.names = self.names.after(kind);
         !self.stand_alike()
+    }
+
+    #[inline(always)]
+    fn room(&self) -> usize {
+        let is_one_kind = self.names.are_both() || self.used.of(PlayerKind::OwnColours).is_some();
+        if is_one_kind && self.grip == Grip::Firm && self.cleared_grip == Grip::Firm {
+            let left = self.pen.columns_left(self.size);
+            left.min(self.cleared.columns_left(self.size))
+        } else {
+            0
+        }
+    }
+
+    #[inline(always)]
+    fn take(&mut self, run: &[u8], _offset: usize) {
+        self.pen.go_on(self.size, run.len());
+        self.cleared.go_on(self.size, run.len());
     }
 }
 

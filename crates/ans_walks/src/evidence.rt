@@ -39,11 +39,19 @@ impl Walker for Watching {
 
     ghost walked = { λ first front now goes_on. HasWatched first front.tokens goes_on now };
 
+    ghost takes = { λ walk count. ⊥ };
+
     #[inline(always)]
     fn token(&mut self, token: &Token, _behind: &[u8]) -> bool {
         self.watches.step(self.size, self.at, token.kind());
         true
     }
+
+    fn room(&self) -> usize {
+        0
+    }
+
+    fn take(&mut self, _run: &[u8], _offset: usize) {}
 }
 
 /// The two plays after bytes that are read as clean tokens.

@@ -104,6 +104,8 @@ impl Walker for Search {
 
     ghost walked = { λ first front now goes_on. HasSought first front goes_on now };
 
+    ghost takes = { λ walk count. ⊥ };
+
     fn token(&mut self, token: &Token, _behind: &[u8]) -> bool {
         let kind = token.kind();
         let offset = self.base + token.start();
@@ -112,6 +114,12 @@ impl Walker for Search {
         self.pen.step(self.size, kind);
         self.found.is_none()
     }
+
+    fn room(&self) -> usize {
+        0
+    }
+
+    fn take(&mut self, _run: &[u8], _offset: usize) {}
 }
 
 /// Whether a content is read as tokens, and a line end stands behind every full row of it that something

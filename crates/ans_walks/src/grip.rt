@@ -55,6 +55,7 @@ fn behind_print(pen: &Pen) -> Grip
 
 /// The grip behind a token of players that stood firm, from where the cursor was before it and the pen
 /// after it.
+#[inline(always)]
 fn behind_token(before: Position, after: &Pen, kind: &Kind) -> Grip
     ensures { (z : Size) (s : State) → before ≡ s.cursor
         → after.now ≡ pen_of (step z s (shown_kind kind.now))
@@ -72,6 +73,7 @@ fn behind_token(before: Position, after: &Pen, kind: &Kind) -> Grip
 
 impl Grip {
     /// The kind of a grip that is not firm.
+    #[inline(always)]
     pub(crate) fn loose_kind(self) -> Option<PlayerKind>
         ensures { kinds_in result ≡ loose_kinds (shown_grip self) }
     {
@@ -84,6 +86,7 @@ impl Grip {
     }
 
     /// Whether all players do the same at the token, though they stand no firmer than this.
+    #[inline(always)]
     pub(crate) fn is_held(self, kind: &Kind) -> bool
         ensures { result ≡ is_held (shown_grip self) (shown_kind kind.now) }
     {
@@ -97,6 +100,7 @@ impl Grip {
     }
 
     /// The grip behind a token, from where the cursor was before it and the pen after it.
+    #[inline(always)]
     pub(crate) fn after(self, before: Position, after: &Pen, kind: &Kind) -> Grip
         ensures { (z : Size) (s : State) → before ≡ s.cursor
             → after.now ≡ pen_of (step z s (shown_kind kind.now))

@@ -7,8 +7,9 @@ ghost use Rattle.ans_model.specs.Screen.StartClass.{all_known};
 ghost use Rattle.ans_model.specs.Text.Words.{texts_of};
 ghost use Rattle.ans_model.specs.Verdict.Good.{IsGood};
 ghost use Rattle.ans_players.specs.Kinds.{all_but, is_kind};
+ghost use Rattle.ans_players.specs.Situations.{kind_if};
 ghost use Rattle.ans_players.specs.declared.kind.Kind.{Kind};
-ghost use Rattle.ans_walks.specs.Counted.{counted};
+ghost use Rattle.ans_walks.specs.Counted.{counted, counted_times};
 ghost use Rattle.ans_walks.specs.GripsShown.{kinds_in, kinds_of};
 ghost use Rattle.ans_walks.specs.KindsUsed.{IsTold, is_used, used_of, words_used};
 ghost use Rattle.ans_players.specs.declared.kind.Kind.TheVariants.{OwnColours as own_colours};
@@ -18,7 +19,7 @@ use crate::grip::Grip;
 use crate::names::Names;
 use crate::pen::Pen;
 use crate::situations::Situations;
-use crate::times::{Times, count};
+use crate::times::{Times, count, count_times};
 use ans_model::size::Size;
 use ans_players::kind::Kind as PlayerKind;
 use ans_tokens::{Token, Walker, walk};
@@ -110,6 +111,19 @@ impl KindsUsed {
         }
     }
 
+    /// Own colours arise at each of so many bytes from this offset on, or nothing does.
+    #[inline(always)]
+    fn count_run(&mut self, is_unnamed: bool, more: usize, offset: usize)
+        requires room { offset + more ≤ longest_file }
+        requires few { AreFew self.old offset }
+        ensures few { AreFew self.new (offset + more) }
+        ensures used { (kind : Kind) → used_of self.new kind
+            ≡ counted_times (used_of self.old kind) (list_any (is_kind kind) (kind_if is_unnamed own_colours))
+            more offset }
+    {
+        count_times(&mut self.times[OWN_COLOURS], is_unnamed, more, offset);
+    }
+
     /// The kinds that arise at a token at this offset count; mostly none does but own colours.
     #[inline(always)]
     fn count(&mut self, situations: &Situations, offset: usize)
@@ -140,6 +154,7 @@ struct KindsWalk<'a> {
 }
 
 /// The bytes of the content from an offset to those that stand behind.
+#[inline(always)]
 pub(crate) fn text_at<'a>(content: &'a [u8], start: usize, behind: &[u8]) -> &'a [u8]
     ensures { (before text : List ℕ) → content.now ≡ before ++ (text ++ behind.now)
         → start ≡ length before → result.now ≡ text }
@@ -153,12 +168,15 @@ pub(crate) fn text_at<'a>(content: &'a [u8], start: usize, behind: &[u8]) -> &'a
 }
 
 impl Walker for KindsWalk<'_> {
-    ghost use Rattle.ans_walks.specs.KindsWalked.{HasFoundKinds, IsReadyFor};
+    ghost use Rattle.ans_walks.specs.KindsWalked.{HasFoundKinds, IsReadyFor, StaysFirmInRow};
 
     ghost ready = { λ walk offset. IsReadyFor walk offset };
 
     ghost walked = { λ first front now goes_on. HasFoundKinds first front goes_on now };
 
+    ghost takes = { λ walk count. StaysFirmInRow walk count };
+
+    #[inline(always)]
     fn token(&mut self, token: &Token, behind: &[u8]) -> bool {
         let kind = token.kind();
         let offset = token.start();
@@ -170,6 +188,20 @@ impl Walker for KindsWalk<'_> {
         self.grip = self.grip.after(before, &self.pen, kind);
         self.names = self.names.after(kind);
         true
+    }
+
+    #[inline(always)]
+    fn room(&self) -> usize {
+        match self.grip {
+            Grip::Firm => self.pen.columns_left(self.size),
+            _ => 0,
+        }
+    }
+
+    #[inline(always)]
+    fn take(&mut self, run: &[u8], offset: usize) {
+        self.used.count_run(!self.names.are_both(), run.len(), offset);
+        self.pen.go_on(self.size, run.len());
     }
 }
 

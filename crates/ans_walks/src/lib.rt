@@ -6,7 +6,8 @@
 //! [`ends_full_rows`] says whether all full rows end in line ends, and [`RowPlay`] finds these one by one.
 //! [`Hints::of`] counts what is worth a look in a drawing, though it changes no verdict. [`kinds_used`]
 //! counts the kinds in which players part that a drawing makes use of, [`Players::of`] says on which
-//! players and from which starts it shows its picture, and [`is_same_where_cleared`] whether from every start as from the cleared one.
+//! players and from which starts it shows its picture, and [`is_same_where_cleared`] whether from every
+//! start as from the cleared one.
 //! Nothing here takes memory. What is proved of these walks is in `ans_play_laws`.
 //!
 //! A `Pen` is all of a state but its cells. No cell tells where a token takes it, so it goes on without
@@ -29,6 +30,7 @@ mod players;
 mod row;
 mod row_ends;
 mod row_play;
+mod seen;
 mod situations;
 mod taller;
 mod times;

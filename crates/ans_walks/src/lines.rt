@@ -43,11 +43,13 @@ struct ClearedPlay {
 
 impl Walker for ClearedPlay {
     ghost use Rattle.ans_walks.specs.Pens.{StandsOn};
-    ghost use Rattle.ans_walks.specs.Walkers.{HasPlayed};
+    ghost use Rattle.ans_walks.specs.Walkers.{HasPlayed, StaysAbove};
 
     ghost ready = { λ play offset. StandsOn play.size play.pen };
 
     ghost walked = { λ first front now goes_on. HasPlayed first front.tokens goes_on now };
+
+    ghost takes = { λ play count. StaysAbove play count };
 
     #[inline(always)]
     fn token(&mut self, token: &Token, _behind: &[u8]) -> bool {
@@ -57,6 +59,20 @@ impl Walker for ClearedPlay {
         }
         self.pen.step(self.size, kind);
         true
+    }
+
+    #[inline(always)]
+    fn room(&self) -> usize {
+        if self.pen.cursor.row < self.size.lines() {
+            self.pen.columns_left(self.size)
+        } else {
+            0
+        }
+    }
+
+    #[inline(always)]
+    fn take(&mut self, run: &[u8], _offset: usize) {
+        self.pen.go_on(self.size, run.len());
     }
 }
 

@@ -1,11 +1,11 @@
 //! The cursors, the attribute and wrap, token by token.
 
-ghost use Rattle.std.specs.Prelude.{◌≡◌, ◌≤◌, fold, replicate};
+ghost use Rattle.std.specs.Prelude.{◌≡◌, ◌+◌, ◌<◌, ◌≤◌, ℕ, fold, replicate};
 ghost use Rattle.ans_model.specs.Bytes.{blank};
 ghost use Rattle.ans_model.specs.Screen.State.{Size, State};
 ghost use Rattle.ans_model.specs.Screen.Step.{advanced, line_feed, put, step};
 ghost use Rattle.ans_model.specs.Inside.ShownKind.{shown_kind};
-ghost use Rattle.ans_walks.specs.Pens.{pen_of, cleared_pen, before_last_blank, glyph_wraps, StandsOn};
+ghost use Rattle.ans_walks.specs.Pens.{pen_of, cleared_pen, before_last_blank, further, glyph_wraps, StandsOn};
 
 use ans_model::attribute::attribute_after_all;
 use ans_model::cell::Position;
@@ -38,6 +38,25 @@ impl Pen {
             attribute: 0x07,
             wrap: true,
         }
+    }
+
+    /// How many printed bytes take the cursor no further than to the last column.
+    #[inline(always)]
+    pub(crate) fn columns_left(&self, size: Size) -> usize
+        ensures { (count : ℕ) → 0 < count → count ≤ result → self.now.cursor.column + count < size.width }
+    {
+        size.width().saturating_sub(self.cursor.column + 1)
+    }
+
+    /// So many bytes are printed, which take the cursor no further than to the last column.
+    #[inline(always)]
+    pub(crate) fn go_on(&mut self, size: Size, count: usize)
+        requires stays { self.old.cursor.column + count < size.width }
+        requires stands { StandsOn size self.old }
+        ensures stands { StandsOn size self.new }
+        ensures pen { self.new ≡ further self.old count }
+    {
+        self.cursor.column += count;
     }
 
     /// Whether a glyph that is printed next wraps.

@@ -7,6 +7,7 @@ ghost use Rattle.ans_model.specs.Inside.ShownKind.{shown_kind};
 ghost use Rattle.ans_model.specs.Screen.State.{State};
 ghost use Rattle.ans_model.specs.Screen.Step.{step};
 ghost use Rattle.ans_walks.specs.Pens.{pen_of, StandsOn};
+ghost use Rattle.ans_walks.specs.declared.row.Seam.TheVariants.{Other};
 ghost use Rattle.ans_walks.specs.RowEnds.{ended_by_line_feed, is_stuck, row_up_to, row_with};
 
 use crate::pen::Pen;
@@ -87,6 +88,17 @@ impl Row {
         match self.seam {
             Seam::Returned(row) => row,
             _ => self.up_to(size, pen, offset),
+        }
+    }
+
+    /// Glyphs more that stay in the row.
+    #[inline(always)]
+    pub(crate) fn go_on(&mut self)
+        ensures { self.new ≡ record self.old { seam = Other } }
+    {
+        // Nothing is written where nothing changes.
+        if !matches!(self.seam, Seam::Other) {
+            self.seam = Seam::Other;
         }
     }
 

@@ -37,6 +37,7 @@ fn is_common_colour(number: u8) -> bool
     matches!(number, 0 | 1 | 5 | 30..=37 | 40..=47)
 }
 
+#[inline(always)]
 fn are_common_colours(numbers: &[u8]) -> bool
     ensures { result ≡ list_all is_common_colour numbers.now }
 {
@@ -94,6 +95,7 @@ fn kind_if(test: bool, kind: PlayerKind) -> Option<PlayerKind>
 }
 
 /// The kinds of a token with this text, at whichever grip.
+#[inline(always)]
 fn own_kinds(
     size: Size,
     pen: &Pen,
@@ -149,6 +151,7 @@ fn is_in(some: Option<PlayerKind>, number: usize) -> bool
 
 impl Situations {
     /// The kinds that arise at a token with this text, before it is played.
+    #[inline(always)]
     pub(crate) fn of(
         size: Size,
         pen: &Pen,

@@ -45,11 +45,13 @@ struct Moves {
 
 impl Walker for Moves {
     ghost use Rattle.ans_walks.specs.Pens.{StandsOn};
-    ghost use Rattle.ans_walks.specs.Walkers.{HasMoved};
+    ghost use Rattle.ans_walks.specs.Walkers.{HasMoved, StayInRows};
 
     ghost ready = { λ m offset. StandsOn m.size m.low × StandsOn m.size m.high };
 
     ghost walked = { λ first front now goes_on. HasMoved first front.tokens goes_on now };
+
+    ghost takes = { λ moves count. StayInRows moves count };
 
     #[inline(always)]
     fn token(&mut self, token: &Token, _behind: &[u8]) -> bool {
@@ -60,6 +62,18 @@ impl Walker for Moves {
         self.low.step(self.size, kind);
         self.high.step(self.size, kind);
         true
+    }
+
+    #[inline(always)]
+    fn room(&self) -> usize {
+        let left = self.low.columns_left(self.size);
+        left.min(self.high.columns_left(self.size))
+    }
+
+    #[inline(always)]
+    fn take(&mut self, run: &[u8], _offset: usize) {
+        self.low.go_on(self.size, run.len());
+        self.high.go_on(self.size, run.len());
     }
 }
 

@@ -2,7 +2,7 @@
 
 ghost use Rattle.std.specs.Prelude.{◌≡◌, ◌+◌, ◌≤◌};
 ghost use Rattle.ans_model.specs.Bytes.{longest_file};
-ghost use Rattle.ans_walks.specs.Counted.{count_of, counted};
+ghost use Rattle.ans_walks.specs.Counted.{count_of, counted, counted_times};
 
 /// How many times something comes, at least one, and the offset of the first in bytes from the
 /// content's start.
@@ -30,6 +30,27 @@ pub(crate) fn count(times: &mut Option<Times>, comes: bool, offset: usize)
             })
         }
         Some(times) => times.count += 1,
+    }
+}
+
+/// So many times more, where it comes at each byte from this offset on.
+#[inline(always)]
+pub(crate) fn count_times(times: &mut Option<Times>, comes: bool, more: usize, offset: usize)
+    requires { count_of times.old + more ≤ longest_file }
+    ensures value { times.new ≡ counted_times times.old comes more offset }
+    ensures within { count_of times.new ≤ count_of times.old + more }
+{
+    if !comes || more == 0 {
+        return;
+    }
+    match times {
+        None => {
+            *times = Some(Times {
+                count: more,
+                first: offset,
+            })
+        }
+        Some(times) => times.count += more,
     }
 }
 

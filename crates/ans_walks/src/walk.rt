@@ -1,6 +1,6 @@
 //! A walk over the tokens of a content that finds its hints.
 
-ghost use Rattle.std.specs.Prelude.{◌≡◌, ◌+◌, ◌-◌, ◌<◌, ◌≤◌, ◌&&◌, ◌||◌, ◌==◌, ℕ, List, true, false, min, slice_index};
+ghost use Rattle.std.specs.Prelude.{◌≡◌, ◌+◌, ◌-◌, ◌<◌, ◌≤◌, ◌&&◌, ◌||◌, ◌==◌, ℕ, List, true, false, length, min, slice_index};
 ghost use Rattle.ans_model.specs.Bytes.{longest_file};
 ghost use Rattle.ans_model.specs.Sequence.TokenKind.{Glyph, LineFeed};
 ghost use Rattle.ans_model.specs.Screen.State.{State};
@@ -10,7 +10,7 @@ ghost use Rattle.ans_walks.specs.Conditions.{begins_with_x_number, is_letter, is
 ghost use Rattle.ans_walks.specs.Counted.{counted};
 ghost use Rattle.ans_walks.specs.Pens.{glyph_wraps, pen_of};
 ghost use Rattle.ans_walks.specs.RowEnds.{is_stuck, with_glyph, CountsRows};
-ghost use Rattle.ans_walks.specs.Walks.{HasWalked, IsAt, CountsWithin, hints_with};
+ghost use Rattle.ans_walks.specs.Walks.{HasWalked, IsAt, CountsWithin, hints_past, hints_with};
 ghost use Rattle.ans_tokens.specs.Walk.{no_front};
 
 use crate::conditions::{
@@ -22,7 +22,8 @@ use crate::hints::Hints;
 use crate::pen::Pen;
 use crate::row::Row;
 use crate::row_ends::RowEnds;
-use crate::times::count;
+use crate::seen::{count_dark, count_seen};
+use crate::times::{count, count_times};
 use ans_model::kind::Kind;
 use ans_model::size::Size;
 use ans_tokens::{Token, Walker};
@@ -219,6 +220,24 @@ impl Walk {
         self.print_in(self.pen.cursor.row);
     }
 
+    /// Plain bytes, which stay in their row, at this offset.
+    #[inline(always)]
+    fn look_at_run(&mut self, run: &[u8], offset: usize)
+        requires room { offset + length run.now ≤ longest_file }
+        requires at { IsAt self.old offset }
+        ensures within { CountsWithin self.new.hints (offset + length run.now) }
+        ensures kept { self.new ≡ record self.old { hints = self.new.hints } }
+        ensures hints { self.new.hints ≡ hints_past self.old run.now offset }
+    {
+        let blinks = !self.non_blink && self.pen.attribute >= 0x80;
+        let count = run.len();
+        count_times(&mut self.hints.blinking_glyphs, blinks, count, offset);
+        count_seen(&mut self.hints.seen_glyphs, run, offset);
+        count_dark(&mut self.hints.dark_glyphs, self.pen.attribute, run, offset);
+        self.hints.row_ends.print();
+        self.print_in(self.pen.cursor.row);
+    }
+
     /// Looks at a token that stands at this offset, before it is played.
     #[inline(always)]
     fn look(&mut self, offset: usize, kind: &Kind, behind: &[u8])
@@ -249,11 +268,13 @@ impl Walk {
 }
 
 impl Walker for Walk {
-    ghost use Rattle.ans_walks.specs.Walks.{IsAt, HasWalked};
+    ghost use Rattle.ans_walks.specs.Walks.{IsAt, HasWalked, StaysInRow};
 
     ghost ready = { λ walk offset. IsAt walk offset };
 
     ghost walked = { λ first front now goes_on. HasWalked first front goes_on now };
+
+    ghost takes = { λ walk count. StaysInRow walk count };
 
     #[inline(always)]
     fn token(&mut self, token: &Token, behind: &[u8]) -> bool {
@@ -265,5 +286,21 @@ impl Walker for Walk {
         let column = self.pen.cursor.column;
         self.row.step(self.size, &before, column, offset, kind);
         true
+    }
+
+    #[inline(always)]
+    fn room(&self) -> usize {
+        if self.row.is_stuck() {
+            0
+        } else {
+            self.pen.columns_left(self.size)
+        }
+    }
+
+    #[inline(always)]
+    fn take(&mut self, run: &[u8], offset: usize) {
+        self.look_at_run(run, offset);
+        self.row.go_on();
+        self.pen.go_on(self.size, run.len());
     }
 }
