@@ -8,6 +8,8 @@ pub mod PartLemmas
 pub mod WholeSequences
 pub mod TextFront
 pub mod Scanning
+pub mod Runs
+mod PlainFront
 mod WalkSteps
 pub mod Walked
 pub mod TakenSoFar

@@ -1,16 +1,20 @@
 -- A walk over a content, token by token.
-use Rattle.std.proofs.Common.{◌≡◌, ℕ, ◌+◌, ◌-◌, ◌≤◌, Bool, true, List, ◌++◌, length, take, drop, sym, ap}
-use Rattle.std.proofs.Common.{◌∙◌, arith, subst, append_assoc, length-append}
-use Rattle.std.proofs.lemmas.List.{take_all, take-append-drop, drop-append-le, drop-drop, drop-take, length-take-le}
-use Rattle.std.proofs.lemmas.List.{length-drop}
+use Rattle.std.proofs.Common.{◌≡◌, ℕ, ◌+◌, ◌-◌, ◌<◌, ◌≤◌, Bool, true, List, ◌++◌, length, take, drop, get_or, sym, ap}
+use Rattle.std.proofs.Common.{◌∙◌, arith, subst, append_assoc, length-append, IsTrue, All}
+use Rattle.std.proofs.lemmas.List.{take_all, take-append-drop, take-take, drop-append-le, drop-drop, drop-take}
+use Rattle.std.proofs.lemmas.List.{length-take-le, length-drop, get_or-take, get_or-drop}
+use Rattle.std.proofs.lemmas.List.Elements.{All-from_get_or}
+use Rattle.ans_model.specs.Bytes.{IsByte}
 use Rattle.ans_model.specs.Inside.ShownKind.{shown_kind}
 use Rattle.ans_model.specs.declared.fault.Fault.{Fault}
 use Rattle.ans_tokens.specs.Walk.{IsFaultAt}
 use Rattle.ans_tokens.specs.Token.{kind_of, start_of, length_of}
-use Rattle.ans_tokens.specs.Walk.{Front, IsNext, front_with, Walks}
+use Rattle.ans_tokens.specs.Glyphs.{IsGlyphByte}
+use Rattle.ans_tokens.specs.Walk.{Front, IsNext, IsRunNext, Walks, begins_plainly, front_past, front_with, is_plain}
 use Rattle.ans_tokens.specs.WholeToken.{IsTokenAt}
 use Rattle.ans_tokens.specs.declared.token.Token.{Token}
 use Rattle.ans_tokens.proofs.Readable.{reads_as_more}
+use Rattle.ans_tokens.proofs.Runs.{past_behind, plain_glyph, reads_past}
 
 -- the bytes from an offset on
 part_of : (content : List ℕ) (at end : ℕ) → at ≤ end → take (end - at) (drop at content) ≡ drop at (take end content)
@@ -40,6 +44,13 @@ module _ {W : Type 0} (walked : W → Front → W → Bool → Type 0) (content 
     length-drop at (take end content),
     length-take-le end content within,
   )
+
+  -- what stands from an offset on, before the end and behind it
+  parted : (from : ℕ) → from ≤ end → drop from content ≡ drop from (take end content) ++ drop end content
+  parted from early =
+      ap (λ (v : List ℕ). drop from v) (sym (take-append-drop end content))
+      ∙ drop-append-le from (take end content) (drop end content)
+      (omega (arith, early, length-take-le end content within))
 
   -- a fault in what is left
   pub fault_left : (fault : Fault) → IsFaultAt at (take (end - at) (drop at content)) fault
@@ -74,12 +85,6 @@ module _ {W : Type 0} (walked : W → Front → W → Bool → Type 0) (content 
       length-take-le end content within,
     )
 
-    left_behind : drop (at + length_of token) content ≡ left ++ drop end content
-    left_behind =
-        ap (λ (v : List ℕ). drop (at + length_of token) v) (sym (take-append-drop end content))
-        ∙ drop-append-le (at + length_of token) (take end content) (drop end content)
-        (omega (arith, ends_within, length-take-le end content within))
-
     -- the walker has been over it too, and may be handed the token behind it
     pub walks_token : (ready : W → ℕ → Type 0) (new : W) (on : Bool)
         → ready new (start_of token + length_of token)
@@ -91,7 +96,7 @@ module _ {W : Type 0} (walked : W → Front → W → Bool → Type 0) (content 
     walks_token ready new on stands step =
         let kind = shown_kind (kind_of token) in
         let behind = take (length content - (at + length_of token)) (drop (at + length_of token) content) in
-        let goes_on : behind ≡ left ++ drop end content = rest_of content (at + length_of token) ∙ left_behind in
+        let goes_on : behind ≡ left ++ drop end content = rest_of content (at + length_of token) ∙ parted (at + length_of token) ends_within in
         let size = length-take-le (length_of token) (drop at (take end content)) next.front.within in
         record {
           within = ends_within;
@@ -110,5 +115,77 @@ module _ {W : Type 0} (walked : W → Front → W → Bool → Type 0) (content 
               starts = next.starts ∙ sym front_is_long ∙ ap length h.reads.whole;
               long = sym size;
             }) h.over;
+          };
+        }
+
+  module _ (count : ℕ) (ends_within : at + count ≤ end) where
+    abbrev run : List ℕ
+    run = take (at + count - at) (drop at content)
+
+    as_counted : at + count - at ≡ count
+    as_counted = omega arith
+
+    run_is : run ≡ take count (drop at content)
+    run_is = ap (λ (k : ℕ). take k (drop at content)) as_counted
+
+    run_is_long : length run ≡ count
+    run_is_long =
+        length-take-le (at + count - at) (drop at content) (omega (arith, ends_within, within, length-drop at content))
+        ∙ as_counted
+
+    -- the run and what is left after it
+    run_left : drop at (take end content) ≡ run ++ drop (at + count) (take end content)
+    run_left =
+        let first : take count (drop at (take end content)) ≡ run =
+        ap (take count) (sym (part_of content at end room))
+        ∙ take-take count (end - at) (drop at content) (omega (arith, ends_within)) ∙ sym run_is in
+        sym (take-append-drop count (drop at (take end content)))
+        ∙ ap (λ (v : List ℕ). v ++ drop count (drop at (take end content))) first
+        ∙ ap (λ (v : List ℕ). run ++ v) (drop-drop count at (take end content))
+
+    run_bytes : ((k : ℕ) → k < length content → IsByte (get_or content k 0)) → (k : ℕ) → k < length run
+        → IsByte (get_or run k 0)
+    run_bytes are_bytes k early =
+        let here : get_or run k 0 ≡ get_or content (at + k) 0 =
+        get_or-take (at + count - at) (drop at content) k 0 (omega (arith, early, run_is_long))
+        ∙ get_or-drop at content k 0 in
+        subst IsByte (sym here) (are_bytes (at + k) (omega (arith, early, run_is_long, ends_within, within)))
+
+    -- the walker has been over a run too, and may be handed what stands behind it
+    pub walks_run : (ready : W → ℕ → Type 0) (new : W)
+        → ((k : ℕ) → k < length content → IsByte (get_or content k 0))
+        → All (λ byte. IsTrue (is_plain byte)) (take count (take (length content - at) (drop at content)))
+        → IsTrue (begins_plainly (drop count (take (length content - at) (drop at content))))
+        → ready new (at + length run)
+        → ((first : W) (front : Front) (behind : List ℕ) → IsRunNext front at run behind
+        → walked first front old true → walked first (front_past front run behind) new true)
+        → StandsAt walked ready content end first (at + count) new true
+    walks_run ready new are_bytes plain ends stands step =
+        let rest = rest_of content at in
+        let behind = drop (at + count) content in
+        let left = drop (at + count) (take end content) in
+        let next : IsRunNext h.front at run behind = record {
+          each = h.reads.each;
+          whole = h.behind ∙ ap (λ (v : List ℕ). v ++ drop end content) run_left
+              ∙ append_assoc run left (drop end content)
+              ∙ ap (λ (v : List ℕ). run ++ v) (sym (parted (at + count) ends_within));
+          starts = sym front_is_long ∙ ap length h.reads.whole;
+          plain = subst (λ (v : List ℕ). All (λ byte. IsTrue (is_plain byte)) v)
+              (ap (take count) rest ∙ sym run_is) plain;
+          ends = subst (λ (v : List ℕ). IsTrue (begins_plainly v)) (ap (drop count) rest ∙ drop-drop count at content)
+              ends;
+        } in
+        let glyphs : All IsGlyphByte run = All-from_get_or IsGlyphByte run 0
+        (λ k early. plain_glyph (get_or run k 0) (run_bytes are_bytes k early) (next.plain k 0 early)) in
+        record {
+          within = ends_within;
+          can_go = subst (λ (k : ℕ). ready new (at + k)) run_is_long stands;
+          so_far = record {
+            front = front_past h.front run behind;
+            read = h.read ++ run;
+            whole = h.whole ∙ ap (λ (v : List ℕ). h.read ++ v) run_left ∙ sym (append_assoc h.read run left);
+            reads = reads_past h.front h.read run behind glyphs h.reads;
+            behind = past_behind h.front run behind next.whole ∙ parted (at + count) ends_within;
+            over = step first h.front behind next h.over;
           };
         }

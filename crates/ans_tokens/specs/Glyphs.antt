@@ -1,8 +1,10 @@
 -- Bytes that are printed as they stand, one token each.
-use Rattle.std.specs.Prelude.{◌≡◌, ℕ, ◌+◌, ◌≤◌, Bool, nat_lt, List, [], ◌∷◌, length, take, slice_get, All, Some, None}
+use Rattle.std.specs.Prelude.{◌≡◌, ℕ, ◌+◌, ◌≤◌, Bool, not, nat_lt, List, [], ◌∷◌, length, take, slice_get, All}
+use Rattle.std.specs.Prelude.{Some, None}
 use Rattle.ans_model.specs.Sequence.TokenKind.{Glyph}
 use Rattle.ans_model.specs.Sequence.Reads.{SpellsToken}
 use Rattle.ans_tokens.specs.ScannerView.{ScannerView, Nothing}
+use Rattle.ans_tokens.specs.Walk.{is_plain}
 
 -- the byte alone spells the token that prints it
 abbrev pub IsGlyphByte : ℕ → Type 0
@@ -11,6 +13,10 @@ IsGlyphByte b = SpellsToken (Glyph b) (b ∷ [])
 -- a byte below 20h, of which some are no glyphs
 abbrev pub is_low : ℕ → Bool
 is_low byte = nat_lt byte 0x20
+
+-- a byte at which a run of plain bytes ends
+abbrev pub is_stop : ℕ → Bool
+is_stop byte = not (is_plain byte)
 
 -- the first `count` bytes are glyphs, and the next one, where there is one, is not
 pub record IsGlyphFront (bytes : List ℕ) (count : ℕ) : Type 0 where

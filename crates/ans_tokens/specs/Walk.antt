@@ -1,5 +1,5 @@
 -- What a walk over the tokens of a content has been over.
-use Rattle.std.specs.Prelude.{◌≡◌, ◌⊎◌, ◌&&◌, ◌||◌, ◌==◌, ℕ, Bool, true, false, not, nat_le, nat_lt, IsTrue, All}
+use Rattle.std.specs.Prelude.{◌≡◌, ◌⊎◌, ◌&&◌, ◌||◌, ◌==◌, ℕ, Bool, true, false, not, nat_le, IsTrue, All}
 use Rattle.std.specs.Prelude.{List, [], ◌∷◌, ◌++◌, length, take, drop, Result, Ok, Err}
 use Rattle.std.specs.List.{AllZip, concat}
 use Rattle.ans_model.specs.Sequence.TokenKind.{TokenKind, Glyph}
@@ -68,6 +68,13 @@ abbrev pub front_past : Front → List ℕ → List ℕ → Front
 front_past front [] behind = front
 front_past front (byte ∷ run) behind =
     front_past (front_with front (Glyph byte) (byte ∷ []) (run ++ behind)) run behind
+
+-- A walker that stays as it is has been over so many plain bytes too.
+abbrev pub StaysPast : {W : Type 0} → (W → Front → W → Bool → Type 0) → W → ℕ → Type 0
+StaysPast {W} walked now count =
+    (first : W) (front : Front) (offset : ℕ) (run behind : List ℕ) → length run ≡ count
+    → IsRunNext front offset run behind → walked first front now true
+    → walked first (front_past front run behind) now true
 
 -- ---- refusals
 

@@ -16,9 +16,17 @@ impl Walker for UpToClear {
 
     ghost walked = { λ first front now on. ⊤ };
 
+    ghost takes = { λ walker count. ⊤ };
+
     fn token(&mut self, token: &Token, _behind: &[u8]) -> bool {
         !matches!(token.kind(), Kind::Clear)
     }
+
+    fn room(&self) -> usize {
+        usize::MAX
+    }
+
+    fn take(&mut self, _run: &[u8], _offset: usize) {}
 }
 
 /// Whether a token in the first `end` bytes of a content clears the screen, `ESC[2J`. No contract says so,

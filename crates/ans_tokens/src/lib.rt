@@ -18,6 +18,7 @@ mod glyphs;
 pub mod laws;
 mod mark;
 mod meaning;
+mod plain;
 mod scanner;
 mod token;
 mod unfinished;

@@ -5,10 +5,11 @@ ghost use Rattle.std.specs.Prelude.{IfOk, IfErr, slice_index_or};
 ghost use Rattle.ans_model.specs.Bytes.{escape, longest_file};
 ghost use Rattle.ans_model.specs.Inside.ShownKind.{shown_kind};
 ghost use Rattle.ans_tokens.specs.Token.{kind_of, start_of, length_of};
-ghost use Rattle.ans_tokens.specs.Walk.{Front, IsFaultAt, IsNext, IsRunNext, WalksTo, front_past, front_with, no_front};
+ghost use Rattle.ans_tokens.specs.Walk.{Front, IsFaultAt, IsNext, IsRunNext, WalksTo, front_past};
+ghost use Rattle.ans_tokens.specs.Walk.{front_with, no_front};
 ghost use Rattle.ans_tokens.specs.WholeToken.{IsTokenAt};
 
-use crate::glyphs::count_run;
+use crate::plain::count_run;
 use crate::scanner::{ESCAPE, Scanner, kind_of_byte};
 use crate::token::Token;
 use crate::whole::whole_sequence;

@@ -1,6 +1,6 @@
 use Rattle.std.proofs.Common.{take, All, arith}
 use Rattle.ans_tokens.specs.Glyphs.{IsGlyphByte}
-use Rattle.ans_tokens.proofs.TextFront.{glyphs_more, glyphs_first, glyphs_fewer}
+use Rattle.ans_tokens.proofs.TextFront.{glyphs_more, glyphs_first, first_fewer}
 use Rattle.ans_tokens.proofs.glyphs.count_text.Goals as goal
 use Rattle.ans_tokens.proofs.glyphs.count_text.Goals.{
   then-loop-count-test+else-bytes-count-ge16,
@@ -24,7 +24,7 @@ loop-count-preserved c = record {
 
 pub returns-then-count-lt16-clause-glyphs : goal.returns-then-count-lt16-clause-glyphs
 returns-then-count-lt16-clause-glyphs c =
-    glyphs_fewer c.args.bytes.now c.min.result c.text_of_chunk-count.result (omega arith)
+    first_fewer IsGlyphByte c.args.bytes.now c.min.result c.text_of_chunk-count.result (omega arith)
     (glyphs_first c.args.bytes.now c.text_of_chunk-count.result (omega arith)
     (λ k l. omega (arith, c.type_inv.bytes k)) c.text_of_chunk-count.ensures.text)
 
@@ -37,4 +37,4 @@ returns-clause-glyphs c =
           (glyphs_more c.args.bytes.now c.loop-count.count w.text_of_chunk-text.result (omega arith)
           (λ k l. omega (arith, c.type_inv.bytes k)) c.loop-count.invariant.glyphs w.text_of_chunk-text.ensures.text)
     ] in
-    glyphs_fewer c.args.bytes.now c.min-2.result c.loop-count-test.count (omega arith) counted
+    first_fewer IsGlyphByte c.args.bytes.now c.min-2.result c.loop-count-test.count (omega arith) counted

@@ -11,10 +11,10 @@ returns-then-low-eq0-clause-text c =
 
 pub returns-else-low-eq0-clause-within : goal.returns-else-low-eq0-clause-within
 returns-else-low-eq0-clause-within c =
-    (none_before_lowest c.args.bytes.now c.args.from c.low_bytes-low.result c.requires c.low_bytes-low.ensures
-    (omega arith)).0
+    (none_before_lowest is_low c.args.bytes.now c.args.from c.low_bytes-low.result c.requires
+    c.low_bytes-low.ensures (omega arith)).0
 
 pub returns-else-low-eq0-clause-text : goal.returns-else-low-eq0-clause-text
 returns-else-low-eq0-clause-text c =
-    (none_before_lowest c.args.bytes.now c.args.from c.low_bytes-low.result c.requires c.low_bytes-low.ensures
-    (omega arith)).1
+    (none_before_lowest is_low c.args.bytes.now c.args.from c.low_bytes-low.result c.requires
+    c.low_bytes-low.ensures (omega arith)).1

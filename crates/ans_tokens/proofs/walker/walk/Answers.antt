@@ -1,5 +1,6 @@
+use Rattle.std.proofs.Common.{arith}
 use Rattle.std.proofs.lemmas.Result.{err_from_is_err_and}
-use Rattle.ans_tokens.proofs.WalkSteps.{StandsAt, walks_token, fault_left}
+use Rattle.ans_tokens.proofs.WalkSteps.{StandsAt, walks_run, walks_token, fault_left}
 use Rattle.ans_tokens.proofs.walker.walk.Goals as goal
 use Rattle.ans_tokens.proofs.walker.walk.Given.{Over}
 use Rattle.ans_tokens.proofs.walker.walk.Goals.{Joined-bytes-lt1, in-len1-up, in_default+in-Some}
@@ -42,3 +43,14 @@ returns-then-not-goes_on g c =
 pub tokens-preserved : goal.tokens-preserved
 tokens-preserved g c =
     rw c.if-not-goes_on.false at (stands g (goal.at.tokens-preserved g c).Joined-bytes-lt1)
+
+-- after a run
+pub tokens-preserved-then-count-gt0 : goal.tokens-preserved-then-count-gt0
+tokens-preserved-then-count-gt0 g c =
+    let h = c.tokens.invariant in
+    let run = c.count_run-count.ensures in
+    walks_run g.W.Walker.walked c.args.content.now c.args.end c.args.walker.now c.requires.end c.tokens.at
+    c.tokens.walker h.so_far h.within c.count_run-count.result
+    (omega (arith, run.most, c.min.ensures, h.within)) g.W.Walker.ready c.take.new.self
+    (λ k early. omega (arith, c.type_inv.content k)) run.plain (run.ends c.if-count-gt0.true)
+    c.take.ensures.ready c.take.ensures.walked

@@ -1,0 +1,87 @@
+//! Plain bytes, which a walker may take at once.
+
+ghost use Rattle.std.specs.Prelude.{◌≡◌, ◌+◌, ◌<◌, ◌≤◌, ℕ, IsTrue, false, All, length, map, take};
+ghost use Rattle.std.specs.Prelude.{drop, slice_index_or};
+ghost use Rattle.std.specs.Simd.Lanes.{mask_l};
+ghost use Rattle.ans_tokens.specs.Glyphs.{is_stop};
+ghost use Rattle.ans_tokens.specs.Walk.{begins_plainly, is_foreign, is_plain};
+
+use std::simd::prelude::*;
+
+/// A bit for each of 16 bytes that is not plain.
+#[inline(always)]
+fn stops(bytes: u8x16) -> u64
+    ensures { result ≡ mask_l (map is_stop bytes) }
+{
+    // Bytes below 20h become E0h and above, and E0h and above C0h and above.
+    let outside = (bytes - u8x16::splat(0x20)).simd_ge(u8x16::splat(0xC0));
+    let signs = bytes.simd_eq(u8x16::splat(b'@')) | bytes.simd_eq(u8x16::splat(b'|'));
+    let others = bytes.simd_eq(u8x16::splat(0x7F)) | bytes.simd_eq(u8x16::splat(0xC3));
+    (outside | signs | others).to_bitmask()
+}
+
+/// How many of the 16 bytes from `from` on stand before the first one that is not plain.
+#[inline(always)]
+fn plain_of_chunk(bytes: &[u8], from: usize) -> usize
+    requires { from + 16 ≤ length bytes.now }
+    ensures within { result ≤ 16 }
+    ensures plain { (k : ℕ) → from ≤ k → k < from + result
+        → is_stop (slice_index_or bytes.now k 0) ≡ false }
+{
+    let found = stops(u8x16::from_slice(&bytes[from..]));
+    if found == 0 {
+        16
+    } else {
+        found.trailing_zeros() as usize
+    }
+}
+
+/// How many of the first `most` bytes stand before the first one that is not plain, as far as whole
+/// chunks of 16 bytes tell.
+#[inline(always)]
+fn count_plain(bytes: &[u8], most: usize) -> usize
+    ensures most { result ≤ most }
+    ensures within { result ≤ length bytes.now }
+    ensures plain { All (λ byte. IsTrue (is_plain byte)) (take result bytes.now) }
+{
+    let mut count = 0;
+    while count < most && bytes.len() - count >= 16 {
+        let plain = plain_of_chunk(bytes, count);
+        count += plain;
+        if plain < 16 {
+            break;
+        }
+    }
+    count.min(most)
+}
+
+/// Whether the bytes begin with no letter of UTF-8 or of Latin-1.
+#[inline(always)]
+fn begins_plainly(bytes: &[u8]) -> bool
+    ensures { result ≡ begins_plainly bytes.now }
+{
+    match bytes {
+        [byte, ..] => *byte != 0xC3 && *byte < 0xE0,
+        [] => true,
+    }
+}
+
+/// How many plain bytes stand first among the first `most`, as far as whole chunks of 16 bytes tell, and
+/// no such letter after them: where one comes next, the byte before it is left too.
+#[inline(always)]
+pub(crate) fn count_run(bytes: &[u8], most: usize) -> usize
+    ensures most { result ≤ most }
+    ensures within { result ≤ length bytes.now }
+    ensures plain { All (λ byte. IsTrue (is_plain byte)) (take result bytes.now) }
+    ensures ends { 0 < result → IsTrue (begins_plainly (drop result bytes.now)) }
+{
+    if most == 0 {
+        return 0;
+    }
+    let count = count_plain(bytes, most);
+    if begins_plainly(&bytes[count..]) {
+        count
+    } else {
+        count.saturating_sub(1)
+    }
+}
