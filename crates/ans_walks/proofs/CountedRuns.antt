@@ -28,10 +28,10 @@ times_zero (Some t) true offset = refl
 -- ---- along a run
 pub never_along : (times : Option Times) (holds : ℕ → Bool) (offset k : ℕ) → ((i : ℕ) → holds i ≡ false)
     → counted_along times holds offset k ≡ times
-never_along times holds offset zero no = refl
-never_along times holds offset (suc k) no =
-    ap (λ (b : Bool). counted (counted_along times holds offset k) b (offset + k)) (no k)
-    ∙ never_along times holds offset k no
+never_along times holds offset zero never = refl
+never_along times holds offset (suc k) never =
+    ap (λ (b : Bool). counted (counted_along times holds offset k) b (offset + k)) (never k)
+    ∙ never_along times holds offset k never
 
 pub same_along : (times : Option Times) (holds other : ℕ → Bool) (offset k : ℕ) → ((i : ℕ) → holds i ≡ other i)
     → counted_along times holds offset k ≡ counted_along times other offset k

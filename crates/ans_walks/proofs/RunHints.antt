@@ -7,7 +7,7 @@ use Rattle.ans_model.specs.Bytes.{IsByte}
 use Rattle.ans_model.specs.Sequence.TokenKind.{Glyph}
 use Rattle.ans_model.specs.Screen.State.{Size, State, at}
 use Rattle.ans_tokens.specs.Walk.{Front, IsRunNext, front_past, is_plain, begins_plainly}
-use Rattle.ans_tokens.proofs.Runs.{IsByteNext, KeptByByte, kept_past}
+use Rattle.ans_tokens.proofs.Runs.{IsByteNext, KeptByBytes, kept_past}
 use Rattle.ans_walks.specs.Conditions.{board_code, is_seen, latin_letter, two_byte_letter, wide_character}
 use Rattle.ans_walks.specs.Counted.{counted, counted_along, counted_times}
 use Rattle.ans_walks.specs.Pens.{further, pen_of}
@@ -70,15 +70,15 @@ module _ (first old : Walk) (front : Front) (run behind : List ℕ) (offset : �
   below = old.size.lines - (old.pen.cursor.row + 1)
 
   -- ---- the walk after each byte
-  row_at : ℕ → Row
+  abbrev row_at : ℕ → Row
   row_at zero = old.row
   row_at (suc k) = record old.row { seam = Other }
 
-  ends_at : ℕ → RowEnds
+  abbrev ends_at : ℕ → RowEnds
   ends_at zero = old.hints.row_ends
   ends_at (suc k) = printed_behind old.hints.row_ends
 
-  empty_at : ℕ → ℕ
+  abbrev empty_at : ℕ → ℕ
   empty_at zero = old.hints.empty_rows
   empty_at (suc k) = min old.hints.empty_rows below
 
@@ -95,7 +95,7 @@ module _ (first old : Walk) (front : Front) (run behind : List ℕ) (offset : �
   walk_at k = record old { pen = further old.pen k; row = row_at k; hints = hints_at k }
 
   -- ---- one byte
-  module _ (k byte : ℕ) (front : Front) (rest : List ℕ) (n : IsByteNext run behind front offset k byte rest)
+  module _ (k byte : ℕ) (so_far : Front) (rest : List ℕ) (n : IsByteNext run behind so_far offset k byte rest)
       (s : State) (here : further old.pen k ≡ pen_of s) where
     inside : (s.cursor.column + 1 == old.size.width) ≡ false
     inside = ne_eqb (s.cursor.column + 1) old.size.width
@@ -104,14 +104,15 @@ module _ (first old : Walk) (front : Front) (run behind : List ℕ) (offset : �
     no_wrap : wraps old.size s ≡ false
     no_wrap = rw inside refl
 
+    same_wraps : old.row.wraps ≡ old.row.wraps + 0
+    same_wraps = omega arith
+
     row_is : row_at (suc k) ≡ row_with old.size s (offset + k) (row_at k) (Glyph byte)
     row_is = go k
       where
         go : (k : ℕ) → row_at (suc k) ≡ row_with old.size s (offset + k) (row_at k) (Glyph byte)
-        go zero = rw inside (ap (λ (n : ℕ). record old.row { wraps = n; seam = Other }) same)
-        go (suc k) = rw inside (ap (λ (n : ℕ). record old.row { wraps = n; seam = Other }) same)
-        same : old.row.wraps ≡ old.row.wraps + 0
-        same = omega arith
+        go zero = rw inside (ap (λ (n : ℕ). record old.row { wraps = n; seam = Other }) same_wraps)
+        go (suc k) = rw inside (ap (λ (n : ℕ). record old.row { wraps = n; seam = Other }) same_wraps)
 
     ends_is : ends_at (suc k) ≡ with_glyph (ends_at k) (offset + k) (wraps old.size s) (is_stuck (row_at k).seam)
     ends_is = go k
@@ -127,8 +128,8 @@ module _ (first old : Walk) (front : Front) (run behind : List ℕ) (offset : �
         go zero = refl
         go (suc k) = sym (min_twice old.hints.empty_rows below)
 
-    not_so : (times : Option Times) (holds : Bool) (at : ℕ) → holds ≡ false → times ≡ counted times holds at
-    not_so times holds at no = sym (ap (λ (b : Bool). counted times b at) no)
+    not_so : (times : Option Times) (holds : Bool) (place : ℕ) → holds ≡ false → times ≡ counted times holds place
+    not_so times holds place never = sym (ap (λ (b : Bool). counted times b place) never)
 
     hints_is : hints_at (suc k) ≡ hints_with (walk_at k) s (offset + k) (Glyph byte) rest
     hints_is =
@@ -146,7 +147,7 @@ module _ (first old : Walk) (front : Front) (run behind : List ℕ) (offset : �
         (is_seen b && p.attribute == 0x08) (offset + k)) n.byte_is here)
         empty_is
 
-  step_by_byte : KeptByByte (λ k front. HasWalked first front true (walk_at k)) offset run behind
+  step_by_byte : KeptByBytes (λ k front. HasWalked first front true (walk_at k)) offset run behind
   step_by_byte k byte front rest n h =
       walked_token first (walk_at k) front (Glyph byte) (byte ∷ []) rest h n.whole (walk_at (suc k)) (offset + k) n.starts
       refl refl (λ s e. byte_further old.size old.pen k byte (omega (arith, n.within, stays.stays)) s e)

@@ -14,7 +14,7 @@ use Rattle.ans_players.specs.Situations.{kind_if, situations, spelled}
 use Rattle.ans_players.specs.declared.kind.Kind.{Kind}
 use Rattle.ans_players.specs.declared.kind.Kind.TheVariants.{OwnColours}
 use Rattle.ans_tokens.specs.Walk.{Front, IsRunNext, front_past, is_plain}
-use Rattle.ans_tokens.proofs.Runs.{IsByteNext, KeptByByte, kept_past}
+use Rattle.ans_tokens.proofs.Runs.{IsByteNext, KeptByBytes, kept_past}
 use Rattle.ans_walks.specs.CalmWalked.{HasStayedCalm, StaysCalmInRow}
 use Rattle.ans_walks.specs.Counted.{counted, counted_times}
 use Rattle.ans_walks.specs.KindsUsed.{is_used, used_of}
@@ -54,7 +54,7 @@ module _ (first old new : KindsWalk) (front : Front) (run behind : List ℕ) (of
   abbrev kept : ℕ → Front → Type 0
   kept k front = FoundSoFar z old.content.now front (further old.pen k) Firm old.names (uses k)
 
-  step_by_byte : KeptByByte kept offset run behind
+  step_by_byte : KeptByBytes kept offset run behind
   step_by_byte k byte front rest n found =
       let inside : old.pen.cursor.column + suc k < z.width = omega (arith, n.within, stays.stays) in
       found_token z old.content.now front (Glyph byte) (byte ∷ []) rest (further old.pen k) Firm old.names (uses k) found
@@ -117,7 +117,7 @@ module _ (first old : CalmWalk) (front : Front) (run behind : List ℕ) (offset 
       rw stays.firm (sym (ap (list_all (is_used old.used.now)) (plain_kinds byte plain old.size s (shown_names old.names))
       ∙ stays.agreed))
 
-  calm_by_byte : KeptByByte kept_calm offset run behind
+  calm_by_byte : KeptByBytes kept_calm offset run behind
   calm_by_byte k byte front rest n calm =
       walked_on first (calm_at k) (calm_at (suc k)) front (Glyph byte) (byte ∷ []) rest calm n.whole refl refl refl true
       (λ s e. agreed_at byte n.plain s) (calm.on refl) (λ e. absurd (false≢true (sym e)))
@@ -145,7 +145,7 @@ module _ (first old : ClearedPlay) (front : Front) (run behind : List ℕ) (offs
   abbrev play_at : ℕ → ClearedPlay
   play_at k = record old { pen = further old.pen k }
 
-  play_by_byte : KeptByByte (λ k front. HasPlayed first front.tokens true (play_at k)) offset run behind
+  play_by_byte : KeptByBytes (λ k front. HasPlayed first front.tokens true (play_at k)) offset run behind
   play_by_byte k byte front rest n h =
       play_goes_on first (play_at k) front.tokens (Glyph byte) h (omega (arith, stays.stays)) (play_at (suc k)) refl
       (λ s e. subst (λ (p : Pen). p.cursor.row < old.size.lines) e stays.above)
@@ -164,7 +164,7 @@ module _ (first old : Moves) (front : Front) (run behind : List ℕ) (offset : �
   abbrev pub moves_at : ℕ → Moves
   moves_at k = record old { low = further old.low k; high = further old.high k }
 
-  moves_by_byte : KeptByByte (λ k front. HasMoved first front.tokens true (moves_at k)) offset run behind
+  moves_by_byte : KeptByBytes (λ k front. HasMoved first front.tokens true (moves_at k)) offset run behind
   moves_by_byte k byte front rest n h =
       goes_on_over first (moves_at k) front.tokens (Glyph byte) h (omega (arith, stays.low)) (moves_at (suc k)) refl tt
       (λ s e. byte_further old.size old.low k byte (omega (arith, n.within, stays.low)) s e)

@@ -1,4 +1,4 @@
-use Rattle.std.proofs.Common.{arith, ap, subst, sym}
+use Rattle.std.proofs.Common.{arith, ap, subst, sym, true}
 use Rattle.ans_walks.specs.Walkers.{HasPlayed}
 use Rattle.ans_walks.specs.declared.lines.ClearedPlay.{ClearedPlay}
 use Rattle.ans_walks.specs.declared.pen.Pen.{Pen}
@@ -11,5 +11,5 @@ returns-clause-walked c first front behind next h =
     let old = c.args.self.now in
     subst (λ (w : ClearedPlay). HasPlayed first (front_past front c.args.run.now behind).tokens true w)
     (sym (ap (λ (p : Pen). record old { pen = p }) c.go_on.ensures.pen))
-    (walked_play first old front c.args.run.now behind c.args.offset h (λ k l. omega (arith, c.type_inv.run k)) next
+    (walked_play first old front c.args.run.now behind c.args._offset h (λ k l. omega (arith, c.type_inv.run k)) next
     c.requires.takes)
