@@ -231,9 +231,11 @@ module _ (content : List ℕ) (first now : CalmWalk) (s : State) (tokens : List 
     told true calm stopped =
         let at = subst (λ (b : Bool). IsCalmTo used size s played b now) calm (h.calm s begun) in
         let alike = stands_alike (h.stops stopped calm) at.1 at.2 in
-        let whole = rw all at from_cleared in
-        (λ yes. rw all (with_rest s at.0 (agreed_alike used size ys (stand_of size s played) (stand_of size (cleared size) played) alike
-        (of_rest (cleared size) whole))), λ each. refl)
+        let whole = rw all at from_cleared in (
+          λ yes. rw all (with_rest s at.0 (agreed_alike used size ys (stand_of size s played) (stand_of size (cleared size) played) alike
+              (of_rest (cleared size) whole))),
+          λ each. refl,
+        )
     told false calm stopped =
         let apart = subst (λ (b : Bool). IsCalmTo used size s played b now) calm (h.calm s begun) in (
           λ yes. absurd (false≢true yes),

@@ -120,12 +120,10 @@ module _ (first old : CalmWalk) (front : Front) (run behind : List ℕ) (offset 
   calm_by_byte : KeptByBytes kept_calm offset run behind
   calm_by_byte k byte front rest n calm =
       walked_on first (calm_at k) (calm_at (suc k)) front (Glyph byte) (byte ∷ []) rest calm n.whole refl refl refl true
-      (λ s e. agreed_at byte n.plain s) (calm.on refl) (λ e. absurd (false≢true (sym e)))
-      (
+      (λ s e. agreed_at byte n.plain s) (calm.on refl) (λ e. absurd (false≢true (sym e))) (
         λ s e. byte_further old.size old.pen k byte (omega (arith, n.within, stays.stays)) s e,
         λ s e. rw stays.firm (sym (byte_firm old.size old.pen k byte (omega (arith, n.within, stays.stays)) s e)),
-      )
-      (
+      ) (
         λ s e. byte_further old.size old.cleared k byte (omega (arith, n.within, stays.cleared_stays)) s e,
         λ s e. rw stays.cleared_firm
             (sym (byte_firm old.size old.cleared k byte (omega (arith, n.within, stays.cleared_stays)) s e)),

@@ -200,7 +200,8 @@ impl Walker for KindsWalk<'_> {
 
     #[inline(always)]
     fn take(&mut self, run: &[u8], offset: usize) {
-        self.used.count_run(!self.names.are_both(), run.len(), offset);
+        self.used
+            .count_run(!self.names.are_both(), run.len(), offset);
         self.pen.go_on(self.size, run.len());
     }
 }

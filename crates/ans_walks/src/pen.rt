@@ -45,7 +45,8 @@ impl Pen {
     pub(crate) fn columns_left(&self, size: Size) -> usize
         ensures { (count : ℕ) → 0 < count → count ≤ result → self.now.cursor.column + count < size.width }
     {
-        size.width().saturating_sub(self.cursor.column + 1)
+        let columns = size.width().saturating_sub(self.cursor.column);
+        columns.saturating_sub(1)
     }
 
     /// So many bytes are printed, which take the cursor no further than to the last column.

@@ -31,13 +31,11 @@ returns-clause-walked c first front text next h =
     (λ s e. sym c.if-not-have_all.false ∙ c.have_all.ensures
     ∙ ap (λ (kinds : List Kind). list_all (is_used old.used.now) kinds)
     (rw (c.kind-kind.ensures, text_is) at (c.of-situations.ensures s e)))
-    (h.on refl) (λ stops. c.stand_alike.ensures (not-false _ stops))
-    (
+    (h.on refl) (λ stops. c.stand_alike.ensures (not-false _ stops)) (
       rw c.kind-kind.ensures at c.step.ensures.pen,
       λ s e. rw c.kind-kind.ensures at
           (c.after-self.ensures old.size s (ap (λ (p : Pen). p.cursor) e) (c.step.ensures.pen s e)),
-    )
-    (
+    ) (
       rw c.kind-kind.ensures at c.step-2.ensures.pen,
       λ s e. rw c.kind-kind.ensures at
           (c.after-self-2.ensures old.size s (ap (λ (p : Pen). p.cursor) e) (c.step-2.ensures.pen s e)),
