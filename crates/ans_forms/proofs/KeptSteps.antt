@@ -1,20 +1,24 @@
 -- A walk over tokens that stay, token by token, and what its front is.
-use Rattle.std.proofs.Common.{◌≡◌, ℕ, ◌≤◌, Bool, true, false, ◌&&◌, List, [], ◌∷◌, ◌++◌, length, drop}
+use Rattle.std.proofs.Common.{◌≡◌, ℕ, zero, suc, ◌<◌, ◌≤◌, Bool, true, false, ◌&&◌, List, [], ◌∷◌, ◌++◌, length, drop}
+use Rattle.std.proofs.Common.{get_or}
 use Rattle.std.proofs.Common.{refl, sym, ap, ap₂, ◌∙◌, subst, append_assoc, length-append, arith}
 use Rattle.std.specs.Prelude.{Result, Ok, Err}
 use Rattle.std.specs.List.{concat}
+use Rattle.std.proofs.lemmas.Bool.{or_right}
 use Rattle.std.proofs.lemmas.List.{append-nil}
 use Rattle.std.proofs.lemmas.List.Folds.{concat-append, list_all-append}
 use Rattle.std.proofs.lemmas.List.Sums.{fold-append}
 use Rattle.std.proofs.Math.Seq.{drop-append_seam, take-length}
 use Rattle.ans_model.specs.declared.fault.Fault.{Fault}
 use Rattle.ans_model.specs.Inside.ShownKind.{shown_kind}
-use Rattle.ans_model.specs.Sequence.TokenKind.{TokenKind}
+use Rattle.ans_model.specs.Bytes.{IsByte}
+use Rattle.ans_model.specs.Sequence.TokenKind.{TokenKind, Glyph}
 use Rattle.ans_model.specs.Sequence.Reads.{SpellsToken}
 use Rattle.ans_tokens.specs.Token.{kind_of, length_of, start_of}
-use Rattle.ans_tokens.specs.Walk.{Front, HasNoReading, IsNext, Walks, WalksTo, front_with}
+use Rattle.ans_tokens.specs.Walk.{Front, HasNoReading, IsNext, IsRunNext, Walks, WalksTo, front_past, front_with}
 use Rattle.ans_tokens.specs.declared.token.Token.{Token}
 use Rattle.ans_tokens.proofs.Readable.{reads_as_more}
+use Rattle.ans_tokens.proofs.Runs.{KeptByBytes, kept_past}
 use Rattle.ans_forms.proofs.SomeText.{some_text}
 use Rattle.ans_forms.proofs.HereLemmas.{nothing_goes, nothing_stays, refused_stays, stopped_stays}
 use Rattle.ans_forms.specs.Here.{IsGoingHere, IsTokenHere, NoneGoesHere, is_keys}
@@ -26,6 +30,9 @@ use Rattle.ans_forms.specs.declared.kinds.Going.{Going}
 use Rattle.ans_forms.specs.declared.next.Keeping.{Keeping}
 
 -- ---- one token more
+abbrev before_of : Bool → Bool → Before
+before_of shown coloured = record { is_shown = shown; is_coloured = coloured }
+
 all_stay_with : (tokens : List TokenKind) (texts : List (List ℕ)) (t : TokenKind) (text : List ℕ)
     → AllStay tokens texts → SpellsToken t text → stays t ≡ true → AllStay (tokens ++ t ∷ []) (texts ++ text ∷ [])
 all_stay_with tokens texts t text h spelled stay =
@@ -63,6 +70,42 @@ module _ (before : Before) (front : Front) (old : Keeping) (token : Token) (text
     length_is = long ∙ next.long;
     keys = keys;
   }
+
+-- ---- plain bytes
+-- a glyph more stays
+glyph_stays : (before : Before) (front : Front) (old new : Keeping) (byte : ℕ) (rest : List ℕ)
+    → AllKept before front old → SpellsToken (Glyph byte) (byte ∷ [])
+    → new.before ≡ record { is_shown = true; is_coloured = false }
+    → AllKept before (front_with front (Glyph byte) (byte ∷ []) rest) new
+glyph_stays before front old new byte rest h spelled is = record {
+  all_stay = all_stay_with front.tokens front.texts (Glyph byte) (byte ∷ []) h.all_stay spelled refl;
+  before_is = is ∙ sym (ap (λ (shown : Bool). before_of shown false)
+      (or_right (before_after before front.tokens).is_shown true refl))
+      ∙ sym (fold-append before_with before front.tokens (Glyph byte ∷ []));
+}
+
+-- the walker as it was before the first byte of a run, and as it is after each
+abbrev kept_after : Before → Keeping → Keeping → ℕ → Front → Type 0
+kept_after before old new zero front = AllKept before front old
+kept_after before old new (suc k) front = AllKept before front new
+
+stays_each : (before : Before) (old new : Keeping) (offset : ℕ) (run behind : List ℕ)
+    → new.before ≡ record { is_shown = true; is_coloured = false }
+    → KeptByBytes (kept_after before old new) offset run behind
+stays_each before old new offset run behind is zero byte front rest next h =
+    glyph_stays before front old new byte rest h next.spelled is
+stays_each before old new offset run behind is (suc k) byte front rest next h =
+    glyph_stays before front new new byte rest h next.spelled is
+
+-- a run stays
+pub stays_past : (before : Before) (old new : Keeping) (offset : ℕ) (run behind : List ℕ) (front : Front)
+    → ((k : ℕ) → k < length run → IsByte (get_or run k 0)) → 0 < length run
+    → new.before ≡ record { is_shown = true; is_coloured = false } → IsRunNext front offset run behind
+    → AllKept before front old → AllKept before (front_past front run behind) new
+stays_past before old new offset [] behind front bytes some is next h = absurd (omega (arith, some))
+stays_past before old new offset (b ∷ run) behind front bytes some is next h =
+    kept_past (kept_after before old new) offset (b ∷ run) behind front bytes
+    (stays_each before old new offset (b ∷ run) behind is) next h
 
 -- ---- the whole walk
 -- The bytes are tokens that stay, up to the place.

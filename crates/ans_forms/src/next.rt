@@ -40,6 +40,8 @@ impl Walker for Keeping {
 
     ghost walked = { λ first front now goes_on. HasKept first.before front now goes_on };
 
+    ghost takes = { λ keeping count. Unit {0} };
+
     #[inline(always)]
     fn token(&mut self, token: &Token, _behind: &[u8]) -> bool {
         let kind = token.kind();
@@ -51,6 +53,19 @@ impl Walker for Keeping {
         self.length = token.length();
         self.is_keys = is_keys(kind);
         false
+    }
+
+    #[inline(always)]
+    fn room(&self) -> usize {
+        usize::MAX
+    }
+
+    #[inline(always)]
+    fn take(&mut self, _run: &[u8], _offset: usize) {
+        self.before = Before {
+            is_shown: true,
+            is_coloured: false,
+        };
     }
 }
 

@@ -7,6 +7,7 @@ ghost use Rattle.ans_model.specs.Bytes.{longest_file};
 ghost use Rattle.ans_model.specs.declared.fault.Fault.{Fault};
 ghost use Rattle.ans_model.specs.Inside.ShownKind.{shown_kind};
 ghost use Rattle.ans_model.specs.Text.TokensText.{TokensText, token_name};
+ghost use Rattle.ans_tokens.specs.Walk.{StaysPast};
 ghost use Rattle.ans_write.specs.Tried.{has_failed, inner_of};
 ghost use Rattle.ans_write.specs.Writes.{AppendsPrefix};
 ghost use Rattle.ans_write.specs.Puts.{Puts};
@@ -109,10 +110,18 @@ impl<W: Write> Walker for TokenLines<'_, '_, W> {
 
     ghost walked = { PutsLines W.contents };
 
+    ghost takes = { StaysPast (PutsLines W.contents) };
+
     fn token(&mut self, token: &Token, _behind: &[u8]) -> bool {
         put_token(self.out, token);
         !self.out.has_failed()
     }
+
+    fn room(&self) -> usize {
+        0
+    }
+
+    fn take(&mut self, _run: &[u8], _offset: usize) {}
 }
 
 /// Puts the tokens of the content, as [`write_tokens`] writes them, and returns the fault that ends

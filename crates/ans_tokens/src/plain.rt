@@ -75,7 +75,11 @@ pub(crate) fn count_run(bytes: &[u8], most: usize) -> usize
     ensures plain { All (λ byte. IsTrue (is_plain byte)) (take result bytes.now) }
     ensures ends { 0 < result → IsTrue (begins_plainly (drop result bytes.now)) }
 {
-    if most == 0 {
+    let [first, ..] = bytes else {
+        return 0;
+    };
+    // ESC comes next most often, and no chunk is looked at for it.
+    if most == 0 || *first < 0x20 {
         return 0;
     }
     let count = count_plain(bytes, most);

@@ -20,6 +20,8 @@ impl Walker for Expected<'_> {
 
     ghost walked = { λ first front now on. ⊤ };
 
+    ghost takes = { λ expected count. ⊤ };
+
     fn token(&mut self, token: &Token, behind: &[u8]) -> bool {
         let Some((span, later)) = self.spans.split_first() else {
             return false;
@@ -27,6 +29,12 @@ impl Walker for Expected<'_> {
         self.spans = later;
         *span == (token.start(), token.length(), behind.len())
     }
+
+    fn room(&self) -> usize {
+        0
+    }
+
+    fn take(&mut self, _run: &[u8], _offset: usize) {}
 }
 
 /// Walks over the first `end` bytes of the content: how that ended, and how many spans are left.
@@ -114,6 +122,85 @@ fn walks_end_where_they_are_told(rt: HostRuntime) {
     ];
     let ends = [(Ok(true), 1), (Ok(true), 0), (Err(cut), 0), (Ok(false), 0)];
     assert_eq!(rt; walks, ends);
+}
+
+/// Counts the tokens and the bytes of runs that it is handed. No run may be longer than `most`.
+#[derive(Drop)]
+struct Counting {
+    most: usize,
+    tokens: usize,
+    taken: usize,
+    /// Where the next token or run is to stand.
+    at: usize,
+    is_whole: bool,
+}
+
+impl Walker for Counting {
+    ghost ready = { λ counting offset. ⊤ };
+
+    ghost walked = { λ first front now on. ⊤ };
+
+    ghost takes = { λ counting count. ⊤ };
+
+    fn token(&mut self, token: &Token, _behind: &[u8]) -> bool {
+        self.is_whole = self.is_whole && token.start() == self.at;
+        self.at = token.start().wrapping_add(token.length());
+        self.tokens = self.tokens.wrapping_add(1);
+        true
+    }
+
+    fn room(&self) -> usize {
+        self.most
+    }
+
+    fn take(&mut self, run: &[u8], offset: usize) {
+        self.is_whole = self.is_whole && offset == self.at && run.len() <= self.most;
+        self.at = offset.wrapping_add(run.len());
+        self.taken = self.taken.wrapping_add(run.len());
+    }
+}
+
+/// Twenty letters and a sequence.
+const LETTERS: &[u8] = b"abcdefghijklmnopqrst\x1b[m";
+
+/// Contents, how many bytes are walked over, and the most at once; then how many tokens come, and how
+/// many bytes of runs.
+const RUNS: [(&[u8], usize, usize, usize, usize); 6] = [
+    (LETTERS, 23, usize::MAX, 5, 16),
+    (LETTERS, 23, 3, 12, 9),
+    (LETTERS, 23, 0, 21, 0),
+    (LETTERS, 10, usize::MAX, 0, 10),
+    (b"ab\r\ncdefghijklmnopqrst", 22, usize::MAX, 4, 18),
+    (
+        b"ab\xc3\xa9@|\x7f\x80\xdf\xe0 cdefghijklmnopqrstuvwxyz",
+        35,
+        usize::MAX,
+        16,
+        19,
+    ),
+];
+
+#[test]
+fn plain_bytes_are_taken_at_once(rt: HostRuntime) {
+    for (content, end, most, tokens, taken) in RUNS {
+        assert!(rt; content.len() <= MAX_FILE && end <= content.len());
+        let mut counting = Counting {
+            most,
+            tokens: 0,
+            taken: 0,
+            at: 0,
+            is_whole: true,
+        };
+        let walked = walk(content, end, &mut counting);
+        assert_eq!(rt; walked, Ok(true), "in {content:?}");
+        let counted = (
+            counting.tokens,
+            counting.taken,
+            counting.at,
+            counting.is_whole,
+        );
+        assert_eq!(rt; counted, (tokens, taken, end, true), "in {content:?}");
+    }
 }
 
 #[test]
