@@ -14,7 +14,8 @@ use crate::task::Task;
 use ans_mend::{Draft, MendError, Mended, Unmended, mend_on, room_for};
 use ans_model::beginning::SAFE_BEGINNING;
 use ans_options::Mends;
-use ans_verdict::KeptScreens;
+use ans_screen::PlaneGrid;
+use ans_verdict::NewScreens;
 use ans_write::Outbox;
 use std::alloc::{AllocError, Global};
 use std::io::Write;
@@ -49,7 +50,7 @@ fn mend_in<W: Write>(
     ensures { PutsTold W.contents (TellsMended mends.now (take count memory.old)) out.old out.new result }
 {
     let mut draft = Draft::new(memory, count);
-    match mend_on(&mut KeptScreens::new(alloc), &mut draft, mends) {
+    match mend_on(&mut NewScreens::<PlaneGrid>::new(alloc), &mut draft, mends) {
         Ok(mended) => {
             put_file(out, mended.front, draft.file());
             Ok(Ok(mended))

@@ -10,12 +10,13 @@ ghost use Rattle.ans_mend.specs.EndMark.{end_mark_put, with_end_mark};
 
 use crate::draft::Draft;
 use ans_sauce::fields::END_MARK;
-use ans_sauce::{body_before, cut_record};
+use ans_sauce::{body_before, cut_content, cut_record};
 
 fn has_end_mark(body: &[u8]) -> bool
     ensures { result ≡ list_any is_end_mark body.now }
 {
-    body.iter().any(|byte| *byte == END_MARK)
+    let (content, _) = cut_content(body);
+    content.len() != body.len()
 }
 
 /// Where the end mark is to be put, in bytes from the file's start.

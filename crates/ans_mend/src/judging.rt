@@ -11,7 +11,6 @@ ghost use Rattle.ans_model.specs.Sequence.TokenKind.{TokenKind};
 ghost use Rattle.ans_model.specs.Sequence.Reads.{Reads};
 ghost use Rattle.ans_mend.specs.MendingSteps.{IsJudgement, IsRefused, reading_by, reading_in};
 ghost use Rattle.ans_mend.specs.declared.outcome.MendError.TheVariants.{Memory};
-ghost use Rattle.ans_verdict.specs.ScreenRoom.{TakesRoom};
 
 use crate::name_search::begins_unnamed;
 use crate::new_record::refusal_of;
@@ -21,9 +20,8 @@ use ans_model::mends::Mends;
 use ans_model::size::Size;
 use ans_model::start::Start;
 use ans_sauce::{Parts, split};
-use ans_verdict::Screens;
+use ans_verdict::{Screens, cleared_fault};
 use ans_walks::is_same_where_cleared;
-use std::alloc::AllocError;
 
 /// What is read of a file that is told or set anew later, of its record and of its content.
 #[derive(Clone, Copy)]
@@ -103,25 +101,8 @@ fn wants_mending(parts: &Parts<'_>, fault: Option<Fault>, mends: &Mends) -> bool
     }
 }
 
-/// The fault of a content from the cleared start, by its fault from all starts. It is not played again where
-/// it passes from all.
-fn cleared_fault<S: Screens>(
-    screens: &mut S,
-    parts: &Parts<'_>,
-    fault: Option<Fault>,
-) -> Result<Option<Fault>, AllocError>
-    requires length { length (content_of parts.now) ≤ longest_file }
-    requires ends { EndsFrom (size_of parts.now) (content_of parts.now) none_known fault }
-    ensures fault { IfOk result (EndsFrom (size_of parts.now) (content_of parts.now) all_known) }
-    ensures room { TakesRoom S.has_room S.may_lack (size_of parts.now) screens.old screens.new result }
-{
-    match fault {
-        Some(_) => screens.fault_from(parts, Start::CLEARED),
-        None => Ok(None),
-    }
-}
-
-/// Plays the content of a file from all starts, and where that fails from the cleared one.
+/// Plays the content of a file from all starts, and where its fault depends on the start from the cleared
+/// one.
 pub(crate) fn judge<S: Screens>(
     screens: &mut S,
     file: &[u8],

@@ -1,3 +1,4 @@
+pub mod CertainFaults
 pub mod PlayLemmas
 pub mod VerdictLemmas
 pub mod RoomLemmas

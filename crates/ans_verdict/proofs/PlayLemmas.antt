@@ -48,7 +48,7 @@ pub SamePlay-then : (a b c : PlayerView) → SamePlay a b → SamePlay b c → S
 SamePlay-then a b c p q = record { size = q.size ∙ p.size; start = q.start ∙ p.start }
 
 -- a fault that is the content's first or last is deserved
-deserved : (z : Size) (start : Start) (content : List ℕ) (f : Fault)
+pub deserved : (z : Size) (start : Start) (content : List ℕ) (f : Fault)
     → IsFirstFault z start content f ⊎ IsLastFault z start content f → Deserves z start content f
 deserved z start content f (inl first) = record {
   deserved = inl first;

@@ -166,21 +166,23 @@ fn class_by_parts<S: Screens>(
     })
 }
 
-/// Finds the least class of a content that passes from the cleared start. It is played from all
-/// starts first. Where that fails, a class from which it passes is looked for by the faults, and then
-/// each part of that class is tried: the content is played without it.
+/// Finds the least class of a content that passes from the cleared start, by its fault from all starts.
+/// Where it has one, a class from which it passes is looked for by the faults, and then each part of that
+/// class is tried: the content is played without it.
 ///
 /// Fails where there is no room for a screen.
 pub(crate) fn least_class<S: Screens>(
     screens: &mut S,
     parts: &Parts<'_>,
+    fault_from_any: Option<Fault>,
 ) -> Result<Least, AllocError>
     requires length { length (content_of parts.now) ≤ longest_file }
     requires good { IsGood (size_of parts.now) all_known (content_of parts.now) }
+    requires ends { EndsFrom (size_of parts.now) (content_of parts.now) none_known fault_from_any }
     ensures room { TakesRoom S.has_room S.may_lack (size_of parts.now) screens.old screens.new result }
     ensures least { IfOk result (IsLeastOf parts.now) }
 {
-    let Some(fault) = screens.fault_from(parts, Start::ANY)? else {
+    let Some(fault) = fault_from_any else {
         return Ok(Least {
             class: Start::ANY,
             fault: None,

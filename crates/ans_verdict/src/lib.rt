@@ -8,6 +8,7 @@
 //! `specs/FileNeeds.antt`, and when there is no room for a screen in `specs/ScreenRoom.antt`.
 #![tactic(auto)]
 
+mod certain_faults;
 mod least_class;
 mod part;
 mod parts_needed;
@@ -16,6 +17,7 @@ mod screens;
 mod verdict;
 mod why;
 
+pub use certain_faults::cleared_fault;
 pub use parts_needed::{needs, needs_on};
 pub use screens::{KeptScreens, LentScreens, NewScreens, Screens};
 pub use verdict::{Verdict, check, play_on};
