@@ -2,6 +2,7 @@
 use Rattle.std.proofs.Common.{◌≡◌, ℕ, zero, suc, ◌<◌, ◌≤◌, true, false, refl, ap, ap₂, sym, ◌∙◌, arith}
 use Rattle.std.proofs.Common.{List, [], ◌∷◌, ◌++◌, length, take, drop, get_or, eq-eqb}
 use Rattle.std.specs.Prelude.{◌==◌}
+use Rattle.std.specs.List.{list_all}
 use Rattle.std.specs.Simd.Lanes.{zip2}
 use Rattle.ans_model.specs.declared.cell.Cell.{Cell}
 use Rattle.ans_model.specs.Screen.State.{cell}
@@ -15,6 +16,20 @@ no_colours : (a : ℕ) → [] ≡ texts (colours_to a a)
 no_colours a =
     let same : (a == a) ≡ true = eq-eqb a a refl in
     rw same refl
+
+-- n blanks, and the cells behind them
+pub blanks_passed : (n : ℕ) (bytes attributes : List ℕ) → n ≤ length bytes → n ≤ length attributes
+    → ((k : ℕ) → k < n → get_or bytes k 0 ≡ 0x20) → ((k : ℕ) → k < n → get_or attributes k 0 ≡ 0x07)
+    → list_all is_blank (zip2 cell (drop n bytes) (drop n attributes))
+    ≡ list_all is_blank (zip2 cell bytes attributes)
+blanks_passed zero bytes attributes le le' space grey = refl
+blanks_passed (suc n) [] attributes le le' space grey = absurd (let no : ⊥ = omega arith in no)
+blanks_passed (suc n) (b ∷ bytes) [] le le' space grey = absurd (let no : ⊥ = omega arith in no)
+blanks_passed (suc n) (b ∷ bytes) (c ∷ attributes) le le' space grey =
+    let row : List Cell = zip2 cell bytes attributes in
+    blanks_passed n bytes attributes (omega arith) (omega arith)
+    (λ k lt. space (suc k) (omega arith)) (λ k lt. grey (suc k) (omega arith))
+    ∙ ap₂ (λ (u v : ℕ). list_all is_blank (cell u v ∷ row)) (sym (space 0 (omega arith))) (sym (grey 0 (omega arith)))
 
 module _ (a : ℕ) where
   -- a cell of the attribute is drawn by its byte

@@ -9,7 +9,7 @@ ghost use Rattle.ans_redraw.specs.Form.{drawn, glyph, is_blank, over, pen, pen_b
 use crate::colours::{GREY, write_colours};
 use crate::pen::RowPen;
 use crate::piece::write;
-use crate::run::write_run;
+use crate::run::{count_blanks, write_run};
 use crate::way::write_over;
 
 pub(crate) fn is_blank(byte: u8, attribute: u8) -> bool
@@ -23,7 +23,7 @@ pub(crate) fn are_blank(bytes: &[u8], attributes: &[u8]) -> bool
     requires { length attributes.now ≡ length bytes.now }
     ensures { result ≡ list_all is_blank (zip2 cell bytes.now attributes.now) }
 {
-    for i in 0..bytes.len() {
+    for i in count_blanks(bytes, attributes)..bytes.len() {
         if !is_blank(bytes[i], attributes[i]) {
             return false;
         }

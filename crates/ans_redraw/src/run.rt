@@ -1,5 +1,7 @@
 //! Cells of one attribute, one after the other.
-ghost use Rattle.std.specs.Prelude.{◌≡◌, ◌+◌, ◌≤◌, ◌<◌, ◌==◌, ◌++◌, ℕ, false, not, length, take, drop, map, slice_index_or};
+ghost use Rattle.std.specs.Prelude.{◌≡◌, ◌+◌, ◌≤◌, ◌<◌, ◌==◌, ◌++◌, ℕ, IsTrue, false, not};
+ghost use Rattle.std.specs.Prelude.{length, take, drop, map, slice_index_or};
+ghost use Rattle.std.specs.List.{list_all};
 ghost use Rattle.std.specs.Simd.Lanes.{mask_l, zip2};
 ghost use Rattle.ans_model.specs.Screen.State.{cell};
 ghost use Rattle.ans_redraw.specs.Form.{drawn, is_blank, pen, pen_behind, texts};
@@ -54,7 +56,8 @@ fn count_before(bytes: &[u8], byte: u8) -> usize
     }
 }
 
-/// How many of the first 16 cells stand before the first one that has another attribute, or is a blank.
+/// How many of the first 16 cells stand before the first one that has another attribute, or is a
+/// blank.
 #[inline(always)]
 fn count_run(attribute: u8, bytes: &[u8], attributes: &[u8]) -> usize
     requires bytes { 16 ≤ length bytes.now }
@@ -71,8 +74,8 @@ fn count_run(attribute: u8, bytes: &[u8], attributes: &[u8]) -> usize
     same.min(count_before(bytes, b' '))
 }
 
-/// Writes cells at the front that have this attribute and are no blanks, by their bytes alone, to a text from
-/// `end` on. Returns how many: at most 16, and none where there are fewer than 16 cells.
+/// Writes cells at the front that have this attribute and are no blanks, by their bytes alone, to a
+/// text from `end` on. Returns how many: at most 16, and none if there are fewer than 16 cells.
 #[inline(always)]
 pub(crate) fn write_run(
     text: &mut [u8],
@@ -87,8 +90,10 @@ pub(crate) fn write_run(
     ensures length { length text.new ≡ length text.old }
     ensures text { take (end + result) text.new ++ texts (drawn (pen attribute 0)
         (zip2 cell (drop result bytes.now) (drop result attributes.now)))
-        ≡ take end text.old ++ texts (drawn (pen attribute 0) (zip2 cell bytes.now attributes.now)) }
-    ensures pen { pen_behind (pen attribute 0) (zip2 cell (drop result bytes.now) (drop result attributes.now))
+        ≡ take end text.old
+        ++ texts (drawn (pen attribute 0) (zip2 cell bytes.now attributes.now)) }
+    ensures pen { pen_behind (pen attribute 0)
+        (zip2 cell (drop result bytes.now) (drop result attributes.now))
         ≡ pen_behind (pen attribute 0) (zip2 cell bytes.now attributes.now) }
 {
     if bytes.len() < 16 {
@@ -96,5 +101,31 @@ pub(crate) fn write_run(
     }
     let count = count_run(attribute, bytes, attributes);
     write(text, end, &u8x16::from_slice(bytes).to_array(), count);
+    count
+}
+
+/// Whether the first 16 cells are blanks.
+#[inline(always)]
+fn begins_with_blanks(bytes: &[u8], attributes: &[u8]) -> bool
+    requires bytes { 16 ≤ length bytes.now }
+    requires attributes { 16 ≤ length attributes.now }
+    ensures { IsTrue result
+        → list_all is_blank (zip2 cell (drop 16 bytes.now) (drop 16 attributes.now))
+        ≡ list_all is_blank (zip2 cell bytes.now attributes.now) }
+{
+    count_same(bytes, b' ') == 16 && count_same(attributes, GREY) == 16
+}
+
+/// How many cells at the front are blanks, as far as whole chunks of 16 tell.
+pub(crate) fn count_blanks(bytes: &[u8], attributes: &[u8]) -> usize
+    requires { length attributes.now ≡ length bytes.now }
+    ensures within { result ≤ length bytes.now }
+    ensures blanks { list_all is_blank (zip2 cell (drop result bytes.now) (drop result attributes.now))
+        ≡ list_all is_blank (zip2 cell bytes.now attributes.now) }
+{
+    let mut count = 0;
+    while bytes.len() - count >= 16 && begins_with_blanks(&bytes[count..], &attributes[count..]) {
+        count += 16;
+    }
     count
 }
