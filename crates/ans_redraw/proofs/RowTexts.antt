@@ -24,7 +24,8 @@ next_cell bytes attributes i lt same =
 -- those some columns behind
 pub cells_behind : (bytes attributes : List ℕ) (i n : ℕ)
     → zip2 cell (drop n (drop i bytes)) (drop n (drop i attributes)) ≡ cells_from bytes attributes (i + n)
-cells_behind bytes attributes i n = ap₂ (λ (u v : List ℕ). zip2 cell u v) (drop-drop n i bytes) (drop-drop n i attributes)
+cells_behind bytes attributes i n =
+    ap₂ (λ (u v : List ℕ). zip2 cell u v) (drop-drop n i bytes) (drop-drop n i attributes)
 
 -- there are none at the end
 pub no_cells : (bytes attributes : List ℕ) (i : ℕ) → length bytes ≤ i → cells_from bytes attributes i ≡ []

@@ -25,7 +25,8 @@ loop-i-preserved c =
     let printed : is_blank here ≡ false = sym c.is_blank.ensures ∙ c.if-is_blank.false in
     let after : RowPen = pen here.attribute 0 in
     let written = take (c.write_cell-end.result + run.result) run.new.text in
-    let bytes_left : take (length bytes - (i + 1)) (drop (i + 1) bytes) ≡ drop (i + 1) bytes = take_rest bytes (i + 1) in
+    let bytes_left : take (length bytes - (i + 1)) (drop (i + 1) bytes) ≡ drop (i + 1) bytes =
+    take_rest bytes (i + 1) in
     let attributes_left : take (length attributes - (i + 1)) (drop (i + 1) attributes) ≡ drop (i + 1) attributes =
     take_rest attributes (i + 1) in
     let behind = cells_behind bytes attributes (i + 1) run.result in
