@@ -3,6 +3,8 @@ pub mod ColourLengths
 pub mod NumberTexts
 pub mod WayTexts
 pub mod RowTexts
+pub mod RunTexts
+pub mod Places
 pub mod RowEnds
 pub mod RowsGiven
 pub mod CopyLemmas

@@ -1,8 +1,8 @@
 -- The texts of a row's cells, as they are written.
-use Rattle.std.proofs.Common.{◌≡◌, ℕ, ◌+◌, ◌<◌, true, false, refl, ap₂, ◌∙◌}
+use Rattle.std.proofs.Common.{◌≡◌, ℕ, ◌+◌, ◌<◌, ◌≤◌, true, false, refl, ap, ap₂, ◌∙◌}
 use Rattle.std.proofs.Common.{arith, List, [], ◌∷◌, ◌++◌, length, drop, get_or}
 use Rattle.std.specs.Simd.Lanes.{zip2}
-use Rattle.std.proofs.lemmas.List.{drop_more}
+use Rattle.std.proofs.lemmas.List.{drop_more, drop_all, drop-drop}
 use Rattle.ans_model.specs.declared.cell.Cell.{Cell}
 use Rattle.ans_model.specs.Screen.State.{cell}
 use Rattle.ans_redraw.specs.declared.pen.RowPen.{RowPen}
@@ -20,6 +20,16 @@ pub next_cell : (bytes attributes : List ℕ) (i : ℕ) → i < length bytes →
 next_cell bytes attributes i lt same =
     ap₂ (λ (u v : List ℕ). zip2 cell u v) (drop_more bytes i 0 lt)
     (drop_more attributes i 0 (omega (arith, lt, same)))
+
+-- those some columns behind
+pub cells_behind : (bytes attributes : List ℕ) (i n : ℕ)
+    → zip2 cell (drop n (drop i bytes)) (drop n (drop i attributes)) ≡ cells_from bytes attributes (i + n)
+cells_behind bytes attributes i n =
+    ap₂ (λ (u v : List ℕ). zip2 cell u v) (drop-drop n i bytes) (drop-drop n i attributes)
+
+-- there are none at the end
+pub no_cells : (bytes attributes : List ℕ) (i : ℕ) → length bytes ≤ i → cells_from bytes attributes i ≡ []
+no_cells bytes attributes i le = ap (λ (v : List ℕ). zip2 cell v (drop i attributes)) (drop_all i bytes le)
 
 module _ (p : RowPen) (c : Cell) (row : List Cell) where
   -- the first cell is passed over

@@ -14,7 +14,7 @@ use Rattle.ans_model.specs.Bytes.{escape}
 use Rattle.ans_model.specs.declared.cell.Cell.{Cell}
 use Rattle.ans_model.specs.Screen.State.{cell}
 use Rattle.ans_model.specs.Screen.Step.{blank_cell}
-use Rattle.ans_model.specs.Text.ReportText.{rows, rows_of}
+use Rattle.ans_model.specs.Text.ReportText.{rows_of}
 use Rattle.ans_model.specs.Verdict.Good.{Picture, IsPictureOf}
 use Rattle.ans_players.specs.Situations.{Spelled}
 use Rattle.ans_players.specs.Mends.{mending_spelled}

@@ -1,6 +1,6 @@
 -- The texts of the way over blanks, as they are written.
 use Rattle.std.proofs.Common.{◌&&◌, ◌≡◌, ℕ, zero, suc, ◌+◌, ◌*◌, ◌/◌, ◌%◌, ◌<◌, ◌≤◌, Bool, true, false}
-use Rattle.std.proofs.Common.{refl, ap, sym, ◌∙◌, arith, List, [], ◌∷◌, ◌++◌, take, replicate, codes}
+use Rattle.std.proofs.Common.{refl, ap, ap₂, sym, ◌∙◌, arith, List, [], ◌∷◌, ◌++◌, take, replicate, codes}
 use Rattle.std.proofs.Common.{append_assoc, append-nil}
 use Rattle.std.specs.Prelude.{decimal, nat_le, ◌||◌, ◌==◌, if◌then◌else◌}
 use Rattle.std.specs.Fmt.{digits}
@@ -71,6 +71,15 @@ few_printed attribute n grey few =
     let short : nat_le n 4 ≡ true = grind (arith, nat_tests) in
     let printed : over_few attribute n ≡ replicate n (glyph blank) = rw (grey, short) refl in
     blanks_printed n few ∙ ap texts (sym printed)
+
+-- up to four are few
+pub near_printed : (attribute n : ℕ) → attribute ≡ 0x07 → n ≤ 4
+    → take n (blank ∷ blank ∷ blank ∷ blank ∷ []) ≡ texts (over attribute n)
+near_printed attribute n grey few =
+    let none : n / 255 ≡ 0 = omega arith in
+    let all : n % 255 ≡ n = omega arith in
+    few_printed attribute n grey few
+    ∙ ap₂ (λ (k m : ℕ). texts (replicate k (skip 255) ++ over_few attribute m)) (sym none) (sym all)
 
 -- whole skips, and what is left
 pub over_texts : (attribute n : ℕ)

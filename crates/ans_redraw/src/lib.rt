@@ -26,6 +26,7 @@ mod pen;
 mod piece;
 mod redrawn_text;
 mod row;
+mod run;
 mod sink;
 mod way;
 

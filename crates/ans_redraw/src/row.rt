@@ -9,6 +9,7 @@ ghost use Rattle.ans_redraw.specs.Form.{drawn, glyph, is_blank, over, pen, pen_b
 use crate::colours::{GREY, write_colours};
 use crate::pen::RowPen;
 use crate::piece::write;
+use crate::run::{count_blanks, write_run};
 use crate::way::write_over;
 
 pub(crate) fn is_blank(byte: u8, attribute: u8) -> bool
@@ -22,7 +23,7 @@ pub(crate) fn are_blank(bytes: &[u8], attributes: &[u8]) -> bool
     requires { length attributes.now ≡ length bytes.now }
     ensures { result ≡ list_all is_blank (zip2 cell bytes.now attributes.now) }
 {
-    for i in 0..bytes.len() {
+    for i in count_blanks(bytes, attributes)..bytes.len() {
         if !is_blank(bytes[i], attributes[i]) {
             return false;
         }
@@ -62,11 +63,18 @@ pub(crate) fn write_row(text: &mut [u8], pen: &mut RowPen, bytes: &[u8], attribu
 {
     let mut at = *pen;
     let mut end = 0;
-    for i in 0..bytes.len() {
-        if is_blank(bytes[i], attributes[i]) {
+    let mut i = 0;
+    while i < bytes.len() {
+        let attribute = attributes[i];
+        if is_blank(bytes[i], attribute) {
             at.passed += 1;
+            i += 1;
         } else {
-            end = write_cell(text, end, &mut at, bytes[i], attributes[i]);
+            end = write_cell(text, end, &mut at, bytes[i], attribute);
+            i += 1;
+            let run = write_run(text, end, attribute, &bytes[i..], &attributes[i..]);
+            end += run;
+            i += run;
         }
     }
     *pen = at;

@@ -104,5 +104,8 @@ pub(crate) fn write_over(text: &mut [u8], end: usize, attribute: u8, blanks: usi
     if blanks == 0 {
         return end;
     }
+    if attribute == GREY && blanks <= 4 {
+        return write(text, end, b"    ", blanks);
+    }
     write_way(text, end, attribute, blanks)
 }
