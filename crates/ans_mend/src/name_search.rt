@@ -7,6 +7,7 @@ ghost use Rattle.ans_model.specs.Sequence.Reads.{Reads, ReadsAs};
 ghost use Rattle.ans_players.specs.Situations.{spelled};
 ghost use Rattle.ans_mend.specs.NamedColours.{begins_unnamed};
 ghost use Rattle.ans_players.specs.Names.{are_both};
+ghost use Rattle.ans_tokens.specs.Walk.{StaysPast};
 ghost use Rattle.ans_walks.specs.NamesShown.{shown_names};
 ghost use Rattle.ans_mend.specs.NameSearch.{IsNamedFirst, NoneIsNamed, WaitsIn, taking_after};
 
@@ -77,6 +78,8 @@ impl Walker for NameSearch {
 
     ghost walked = { λ first front now goes_on. HasSearched first front goes_on now };
 
+    ghost takes = { StaysPast (λ first front now goes_on. HasSearched first front goes_on now) };
+
     fn token(&mut self, token: &Token, behind: &[u8]) -> bool {
         self.behind = behind.len();
         if paints(token.kind()) {
@@ -87,6 +90,12 @@ impl Walker for NameSearch {
         self.named = self.named.after(token.kind());
         true
     }
+
+    fn room(&self) -> usize {
+        0
+    }
+
+    fn take(&mut self, _run: &[u8], _offset: usize) {}
 }
 
 /// A sequence that waits when something is printed or cleared while not both colours are named.
@@ -168,6 +177,8 @@ impl Walker for First {
 
     ghost walked = { λ first front now goes_on. HasLookedAtFirst first front goes_on now };
 
+    ghost takes = { StaysPast (λ first front now goes_on. HasLookedAtFirst first front goes_on now) };
+
     fn token(&mut self, token: &Token, _behind: &[u8]) -> bool {
         let kind = token.kind();
         if paints(kind) {
@@ -180,6 +191,12 @@ impl Walker for First {
         self.named = self.named.after(kind);
         true
     }
+
+    fn room(&self) -> usize {
+        0
+    }
+
+    fn take(&mut self, _run: &[u8], _offset: usize) {}
 }
 
 /// Whether something is printed or cleared while not both colours are named, before a sequence takes the

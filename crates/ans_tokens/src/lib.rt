@@ -3,7 +3,8 @@
 //! A `Scanner` is given one byte at a time. It returns a token where the bytes since the last one
 //! spell it, nothing where they begin a spelling, and a fault where they begin none.
 //!
-//! [`walk`] goes over a content and hands its tokens to a [`Walker`], common ones read whole.
+//! [`walk`] goes over a content and hands its tokens to a [`Walker`], common ones read whole, and plain
+//! bytes at once.
 //!
 //! Other functions are for a caller that plays as it reads and makes no token. [`count_glyphs`]
 //! counts a run, and [`count_text`] one of which only the first bytes are wanted. [`read_sequence`]

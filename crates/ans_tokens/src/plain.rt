@@ -66,8 +66,8 @@ fn begins_plainly(bytes: &[u8]) -> bool
     }
 }
 
-/// How many plain bytes stand first among the first `most`, as far as whole chunks of 16 bytes tell, and
-/// no such letter after them: where one comes next, the byte before it is left too.
+/// How many plain bytes a walker takes at once, of the first `most` and as far as whole chunks of 16
+/// bytes tell. If such a letter comes next, the byte before it is left too.
 #[inline(always)]
 pub(crate) fn count_run(bytes: &[u8], most: usize) -> usize
     ensures most { result ≤ most }

@@ -37,13 +37,13 @@ pub trait Walker {
             → IsNext front token.now text behind.now → walked first front self.old true → walked first
             (front_with front (shown_kind (kind_of token.now)) text behind.now) self.new result };
 
-    /// How many plain bytes it takes at once where they come next: the bytes from 20h on that no walk
-    /// looks at one by one. 0 is always right.
+    /// How many plain bytes it takes at once if they come next: the bytes from 20h on but `@`, `|`, 7Fh,
+    /// C3h, and E0h and above, from which letters of other systems begin. 0 is always right.
     fn room(&self) -> usize
         ensures { (count : ℕ) → 0 < count → count ≤ result → takes self.now count };
 
     /// Takes plain bytes, as it would take their tokens one after the other. The first stands at this
-    /// offset.
+    /// offset, and no letter of another system begins after the last.
     fn take(&mut self, run: &[u8], offset: usize)
         requires room { offset + length run.now ≤ longest_file }
         requires some { 0 < length run.now }
@@ -85,9 +85,10 @@ fn token_by_bytes(bytes: &[u8], offset: usize) -> Result<Option<Token>, Fault>
     Ok(None)
 }
 
-/// Hands a walker the tokens of the first `end` bytes of a content, one after the other. True where
-/// it went on up to the end, and false where it stopped before. Where the reading refuses what stands
-/// next, or the bytes end in a sequence, the fault is returned, F9 to F14.
+/// Hands a walker the tokens of the first `end` bytes of a content, one after the other, and plain bytes
+/// at once if it takes them. True where it went on up to the end, and false where it stopped before.
+/// Where the reading refuses what stands next, or the bytes end in a sequence, the fault is returned,
+/// F9 to F14.
 pub fn walk<W: Walker>(content: &[u8], end: usize, walker: &mut W) -> Result<bool, Fault>
     requires length { length content.now ≤ longest_file }
     requires end { end ≤ length content.now }
