@@ -1,11 +1,12 @@
 //! The text of the content's tokens.
 ghost use Rattle.std.specs.Prelude.{◌≡◌, ◌↔◌, ◌+◌, ◌≤◌, ◌++◌, ⊤, ℕ, List, Option};
-ghost use Rattle.std.specs.Prelude.{false, length, IsTrue, IsErr, IfOk, IfErr};
+ghost use Rattle.std.specs.Prelude.{false, length, IsTrue, IsErr, IfOk, IfErr, codes, decimal};
 ghost use Rattle.std.specs.List.{flat_map};
 ghost use Rattle.std.specs.Io.KnownBytes.{Appends};
 ghost use Rattle.ans_model.specs.Bytes.{longest_file};
 ghost use Rattle.ans_model.specs.declared.fault.Fault.{Fault};
 ghost use Rattle.ans_model.specs.Inside.ShownKind.{shown_kind};
+ghost use Rattle.ans_model.specs.Text.Hexadecimal.{hex_byte};
 ghost use Rattle.ans_model.specs.Text.TokensText.{TokensText, token_name};
 ghost use Rattle.ans_tokens.specs.Walk.{StaysPast};
 ghost use Rattle.ans_write.specs.Tried.{has_failed, inner_of};
@@ -86,17 +87,38 @@ fn put_numbers_of<W: Write>(out: &mut Outbox<'_, W>, kind: &Kind)
     }
 }
 
-fn put_token<W: Write>(out: &mut Outbox<'_, W>, token: &Token)
-    ensures { Puts W.contents out.old out.new (token_text token.now) }
+/// What follows the offset in the line of a glyph that one byte spells.
+fn rest_of_glyph(byte: u8) -> [u8; 12]
+    ensures { result ≡ codes " 1 glyph " ++ (hex_byte byte ++ codes "\n") }
 {
-    let kind = token.kind();
-    out.put_decimal(token.start() as u64);
+    let [high, low] = hex_byte(byte);
+    [
+        b' ', b'1', b' ', b'g', b'l', b'y', b'p', b'h', b' ', high, low, b'\n',
+    ]
+}
+
+/// Puts what follows the offset in the line of a token.
+fn put_rest<W: Write>(out: &mut Outbox<'_, W>, length: usize, kind: &Kind)
+    ensures { Puts W.contents out.old out.new (codes " "
+        ++ (decimal length ++ (codes " " ++ (token_name (shown_kind kind.now) ++ codes "\n")))) }
+{
     out.put(b" ");
-    out.put_decimal(token.length() as u64);
+    out.put_decimal(length as u64);
     out.put(b" ");
     out.put(kind_word(kind));
     put_numbers_of(out, kind);
     out.put(b"\n");
+}
+
+fn put_token<W: Write>(out: &mut Outbox<'_, W>, token: &Token)
+    ensures { Puts W.contents out.old out.new (token_text token.now) }
+{
+    out.put_decimal(token.start() as u64);
+    match token.kind() {
+        // most tokens are such, and one piece is put faster than six
+        Kind::Glyph(byte) if token.length() == 1 => out.put(&rest_of_glyph(*byte)),
+        kind => put_rest(out, token.length(), kind),
+    }
 }
 
 /// Puts the line of each token, up to where the device has failed.
