@@ -3,12 +3,14 @@
 
 Run it in `crates/anscheck`, after `rt run -- check --cleared data/hi.ans` has built the program:
 
-    python3 ../../tools/bench/speed.py out/anscheck
+    python3 ../../tools/bench/speed.py out/anscheck [DRAWING]
 
 It writes each file to a folder of its own, runs each command five times, and prints the least time of
-each in seconds. The plain player, `plain_player.rs`, is built with rustc; it knows one screen, proves
-nothing and refuses next to nothing. The files that are made to be slow are checked alone. Nothing here
-is a test: no answer depends on a time.
+each in seconds, and how many times that of `check --cleared` it is. The plain player, `plain_player.rs`,
+is built with rustc; it knows one screen, proves nothing and refuses next to nothing. The files that are
+made to be slow are checked, and `needs`, `why` and `mend` are run on them once. In the end comes a table
+of 10,000 drawings, copies of the first one that is named, `data/harbour.ans` where none is. Nothing here is
+a test: no answer depends on a time.
 """
 import os
 import shutil
@@ -59,16 +61,21 @@ def slow_files():
     yield "wrap", repeated(b"\x1b[?7l\x1b[?7h")
 
 
-def least(command):
-    """The least time, and what is said where the file is refused, as by mend where it has no room."""
-    times = []
-    for _ in range(5):
+def seconds(command, times=5, given=None):
+    """The least time, and whether the file is refused, as by mend where it has no room."""
+    took = []
+    for _ in range(times):
         start = time.monotonic()
-        status = subprocess.run(command, stdout=subprocess.DEVNULL, stderr=subprocess.DEVNULL).returncode
-        times.append(time.monotonic() - start)
+        status = subprocess.run(command, input=given, stdout=subprocess.DEVNULL, stderr=subprocess.DEVNULL).returncode
+        took.append(time.monotonic() - start)
         if status not in (0, 1):
             sys.exit(f"{command[0]} ended with status {status}")
-    return f"{min(times):.3f} s{', refused' if status else ''}"
+    return min(took), status == 1
+
+
+def line(name, took, check):
+    """The line of a command: its time, and that as a multiple of the check's."""
+    return f"  {name} {took[0]:.3f} s, {took[0] / check:.1f} x{', refused' if took[1] else ''}"
 
 
 def saved(room, content):
@@ -89,26 +96,54 @@ def plain_player(room):
     return path
 
 
+CHECK = ["check", "--cleared"]
+FLAGS = ["--take-out", "--line-ends", "--full-rows", "--least-lines", "--name-colours"]
 COMMANDS = [
-    ["check"], ["check", "--cleared"], ["show"], ["show", "--vga"], ["show", "--html"], ["needs"], ["mend"], ["redraw"], ["sauce"], ["tokens"],
+    ["check"], ["show"], ["show", "--vga"], ["show", "--html"], ["needs"], ["why"], ["mend"],
+    *(["mend", flag] for flag in FLAGS), ["redraw"], ["sauce"], ["tokens"],
 ]
+DRAWINGS = 10_000
 
 
-def main(program):
+def print_drawing(program, player, room, name, content):
+    """The lines of a file on which every command is run."""
+    path = saved(room, content)
+    copy, _ = seconds(["cp", path, os.path.join(room, "copy")])
+    check = seconds([program, *CHECK, path])
+    print(f"{name}: {os.path.getsize(path)} bytes, copy {copy:.3f} s")
+    print(line(" ".join(CHECK), check, check[0]))
+    if player:
+        print(line("plain player", seconds([player, path]), check[0]))
+    for command in COMMANDS:
+        print(line(" ".join(command), seconds([program, *command, path]), check[0]), flush=True)
+
+
+def print_slow_file(program, room, name, content):
+    """The line of a file that is made to be slow."""
+    path = saved(room, content)
+    check, _ = seconds([program, *CHECK, path])
+    others = (f"{command} {seconds([program, command, path], 1)[0]:.3f} s" for command in ("needs", "why", "mend"))
+    print(f"{name}: check --cleared {check:.3f} s, {', '.join(others)}", flush=True)
+
+
+def print_table(program, room, drawing):
+    """The line of a table of many copies."""
+    names = [os.path.join(room, f"{number}.ans") for number in range(DRAWINGS)]
+    for name in names:
+        shutil.copy(drawing, name)
+    took, _ = seconds([program, "table"], 3, "\0".join(names).encode())
+    print(f"table of {DRAWINGS} copies of {os.path.basename(drawing)}: {took:.3f} s")
+
+
+def main(program, drawing):
     with tempfile.TemporaryDirectory() as room:
         player = plain_player(room)
         for name, content in drawings():
-            path = saved(room, content)
-            size = os.path.getsize(path)
-            print(f"{name}: {size} bytes, copy {least(['cp', path, os.path.join(room, 'copy')])}")
-            if player:
-                print(f"  plain player {least([player, path])}")
-            for command in COMMANDS:
-                print(f"  {' '.join(command)} {least([program, *command, path])}")
+            print_drawing(program, player, room, name, content)
         for name, content in slow_files():
-            path = saved(room, content)
-            print(f"{name}: check {least([program, 'check', path])}", flush=True)
+            print_slow_file(program, room, name, content)
+        print_table(program, room, drawing)
 
 
 if __name__ == "__main__":
-    main(shutil.which(sys.argv[1]) or sys.argv[1])
+    main(shutil.which(sys.argv[1]) or sys.argv[1], *(sys.argv[2:] or ["data/harbour.ans"]))

@@ -32,6 +32,7 @@ struct Watching {
 }
 
 impl Walker for Watching {
+    ghost use Rattle.ans_tokens.specs.Walk.{StaysPast};
     ghost use Rattle.ans_model.specs.Screen.State.{IsOnScreen};
     ghost use Rattle.ans_walks.specs.Watched.{BothStandOn, HasWatched};
 
@@ -39,7 +40,7 @@ impl Walker for Watching {
 
     ghost walked = { λ first front now goes_on. HasWatched first front.tokens goes_on now };
 
-    ghost takes = { λ walk count. ⊥ };
+    ghost takes = { StaysPast (λ first front now goes_on. HasWatched first front.tokens goes_on now) };
 
     #[inline(always)]
     fn token(&mut self, token: &Token, _behind: &[u8]) -> bool {

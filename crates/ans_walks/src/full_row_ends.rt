@@ -95,6 +95,7 @@ pub(crate) struct Search {
 }
 
 impl Walker for Search {
+    ghost use Rattle.ans_tokens.specs.Walk.{StaysPast};
     ghost use Rattle.std.specs.Prelude.{◌≤◌};
     ghost use Rattle.ans_model.specs.Bytes.{longest_file};
     ghost use Rattle.ans_walks.specs.FullRowSearch.{HasSought};
@@ -104,7 +105,7 @@ impl Walker for Search {
 
     ghost walked = { λ first front now goes_on. HasSought first front goes_on now };
 
-    ghost takes = { λ walk count. ⊥ };
+    ghost takes = { StaysPast (λ first front now goes_on. HasSought first front goes_on now) };
 
     fn token(&mut self, token: &Token, _behind: &[u8]) -> bool {
         let kind = token.kind();
