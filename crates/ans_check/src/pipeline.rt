@@ -23,7 +23,7 @@ use ans_report::{Report, Tried, put_needs, put_record, put_refusal, put_report, 
 use ans_sauce::{Parts, split};
 use ans_screen::{PlaneGrid, Screen};
 use ans_show::{put_page, put_terminal};
-use ans_verdict::{NewScreens, Verdict, check, needs_on, why_on};
+use ans_verdict::{FileScreens, Verdict, check, needs_on, why_on};
 use ans_why::put_why;
 use ans_write::Outbox;
 use std::alloc::{AllocError, Global};
@@ -149,7 +149,7 @@ fn tell_needs<W: Write>(
     requires { length file.now ≤ longest_file }
     ensures { PutsTold W.contents (ReportsNeeds file.now) out.old out.new result }
 {
-    let found = needs_on(&mut NewScreens::<PlaneGrid>::new(alloc), file)?;
+    let found = needs_on(&mut FileScreens::<PlaneGrid>::new(alloc), file)?;
     put_needs(out, &found);
     Ok(found.is_pass())
 }
@@ -163,7 +163,7 @@ fn tell_why<W: Write>(
     requires { length file.now ≤ longest_file }
     ensures { PutsTold W.contents (ReportsWhy file.now) out.old out.new result }
 {
-    let why = why_on(&mut NewScreens::<PlaneGrid>::new(alloc), file)?;
+    let why = why_on(&mut FileScreens::<PlaneGrid>::new(alloc), file)?;
     put_why(out, &why);
     Ok(why.is_pass())
 }

@@ -160,3 +160,34 @@ impl Screens for KeptScreens {
         lent.fault_from(parts, start)
     }
 }
+
+/// Screens for the plays of one file: a new one for the first play, of which only what is written is
+/// touched, and one memory for all that follow.
+#[derive(Drop)]
+pub struct FileScreens<G> {
+    first: Option<NewScreens<G>>,
+    others: KeptScreens,
+}
+
+impl<G: Grid> FileScreens<G> {
+    /// Asks for no memory yet.
+    pub fn new(alloc: Global) -> FileScreens<G> {
+        FileScreens {
+            first: Some(NewScreens::new(alloc)),
+            others: KeptScreens::new(alloc),
+        }
+    }
+}
+
+impl<G: Grid> Screens for FileScreens<G> {
+    ghost has_room = { λ s z. ⊥ };
+
+    ghost may_lack = { λ s z. ⊤ };
+
+    fn fault_from(&mut self, parts: &Parts<'_>, start: Start) -> Result<Option<Fault>, AllocError> {
+        match self.first.take() {
+            Some(mut screens) => screens.fault_from(parts, start),
+            None => self.others.fault_from(parts, start),
+        }
+    }
+}
