@@ -6,9 +6,9 @@ Run it anywhere, with the names of crates or with none for all:
     python3 tools/edits/try_all.py [CRATE..]
     python3 tools/edits/try_all.py --kept CRATE[/EDIT]..
 
-The gate tries the edits in the `must-fail/` of the crates that `check` is made of. Those here are of other crates, or
-tell less than one there, or as much. They are kept apart because each takes 6 to 40 seconds of a processor, and the
-gate is to end within three hours on two slow cores. They are tried on a copy of the repository, in which the crates below are built. Run it for each crate that
+The gate tries the edits in each crate's `must-fail/`. Those here tell less, or as much as one there. They are
+kept apart because each takes 6 to 40 seconds of a processor, and the gate is to end within three hours on two slow
+cores. They are tried on a copy of the repository, in which the crates below are built. Run it for each crate that
 changes, before work on it is called done.
 
 With `--kept` each edit is tried over what `rt check` has kept of its crate, and its line is printed at once. So it
