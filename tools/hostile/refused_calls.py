@@ -32,7 +32,9 @@ A table goes on behind a file that it could not read. So of `table` an allocatio
 may also end thus: status 2, the row of that file says so, all other rows are as without it, and standard error
 counts the rows; where all allocations from one on are refused, the rows of the files behind it say so too. Or,
 where memory is refused for the text of a row, the table ends before it, with `out of memory`. Where a read of
-the names fails there are the rows of the names before, and `cannot read the names`.
+the names fails there are the rows of the names before, and `cannot read the names`. The row of a file that cannot
+be opened anyway stays as it is, and where the memory for reading is there already that of a file without a record
+may: no other memory is asked for these.
 
 Of a test: the error `AllocError` or `AllocFailed`, for each allocation. A test process that ends with a signal,
 or passes, is wrong: in the one case memory that is not there was used, in the other an answer came where it
@@ -159,17 +161,29 @@ def counts_of(rows):
     return f"anscheck: {files} file{plural}: {passed} pass, {refused} refused, {unread} not read\n".encode()
 
 
+def is_played(row):
+    """Whether the content of a row's file is played, for which memory is asked: it passes, or has none of F1 to F8."""
+    return row.verdict == "pass" or row.fault.startswith("F") and int(row.fault[1:]) > 8
+
+
 def is_told_in_rows(kind, whole, ran):
     """Whether a table is as without the refused call but for one row, which says what was refused; with all
-    allocations refused from one on, but for the last rows, which all say so."""
+    allocations refused from one on, but for the last rows of those files that are played, which all say so. A file
+    that cannot be opened anyway has its row, whatever is refused."""
     lines, whole_lines = ran.out.splitlines(), whole.out.splitlines()
     if ran.status != 2 or len(lines) != len(whole_lines) or ran.out[-1:] != b"\n":
         return False
-    rows, names = rows_of(ran.out), [row.name for row in rows_of(whole.out)]
+    rows, whole_rows = rows_of(ran.out), rows_of(whole.out)
     changed = [i for i in range(len(lines)) if lines[i] != whole_lines[i]]
-    are_told = all(rows[i] == Row("error", IN_ROWS[kind], names[i]) for i in changed)
-    are_those = len(changed) == 1 if kind != "alloc-from" else changed == list(range(len(lines)))[-len(changed):]
-    return bool(changed) and are_those and are_told and ran.err == counts_of(rows)
+    are_told = all(rows[i] == Row("error", IN_ROWS[kind], whole_rows[i].name) for i in changed)
+    if kind == "alloc-from":
+        later = range(changed[0], len(lines)) if changed else []
+        are_those = bool(changed) and all(i in changed or not is_played(whole_rows[i]) for i in later)
+    elif kind == "open" and not changed:
+        are_those = any(row.fault == IN_ROWS["open"] for row in whole_rows)
+    else:
+        are_those = len(changed) == 1
+    return are_those and are_told and ran.err == counts_of(rows)
 
 
 def ends_behind_a_row(whole, ran, said):

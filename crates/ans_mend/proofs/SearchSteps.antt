@@ -1,21 +1,24 @@
 -- What a search has found.
-use Rattle.std.proofs.Common.{◌≡◌, ℕ, ◌+◌, ◌-◌, ◌<◌, ◌≤◌, Bool, true, false, not, List, [], ◌∷◌, ◌++◌, length}
+use Rattle.std.proofs.Common.{◌≡◌, ℕ, zero, suc, ◌+◌, ◌-◌, ◌<◌, ◌≤◌, Bool, true, false, not, List, [], ◌∷◌, ◌++◌}
+use Rattle.std.proofs.Common.{length}
 use Rattle.std.proofs.Common.{take, drop, refl, sym, ap, ◌∙◌, arith, subst, append_assoc, length-append, length-drop}
-use Rattle.std.proofs.Common.{Option, None, Some, append-nil, is_none, is_some}
+use Rattle.std.proofs.Common.{Option, None, Some, append-nil, get_or, is_none, is_some}
 use Rattle.std.specs.Prelude.{if◌then◌else◌}
 use Rattle.std.proofs.lemmas.Bool.{false≢true}
 use Rattle.std.specs.List.{AllZip, concat}
 use Rattle.std.proofs.Math.Seq.{take-append_seam, take-append-add, drop-append-add, drop-append_seam}
 use Rattle.std.proofs.lemmas.List.{take-append-le, drop-append-le}
+use Rattle.ans_model.specs.Bytes.{IsByte}
 use Rattle.ans_model.specs.Inside.ShownKind.{shown_kind}
-use Rattle.ans_model.specs.Sequence.TokenKind.{TokenKind}
+use Rattle.ans_model.specs.Sequence.TokenKind.{TokenKind, Glyph}
 use Rattle.ans_model.specs.Sequence.Reads.{ReadsAs, SpellsToken}
 use Rattle.ans_model.proofs.Reading.{token_nonempty}
 use Rattle.ans_players.specs.Names.{Names, are_both, names_after, paints}
 use Rattle.ans_players.specs.Situations.{Spelled, spelled}
 use Rattle.ans_tokens.specs.Token.{kind_of, start_of, length_of}
-use Rattle.ans_tokens.specs.Walk.{Front, front_with}
+use Rattle.ans_tokens.specs.Walk.{Front, IsRunNext, front_past, front_with}
 use Rattle.ans_tokens.specs.declared.token.Token.{Token}
+use Rattle.ans_tokens.proofs.Runs.{KeptByBytes, kept_past}
 use Rattle.ans_walks.specs.Counted.{counted}
 use Rattle.ans_walks.specs.declared.times.Times.{Times}
 use Rattle.ans_walks.proofs.KindsFound.{one, spelled_more}
@@ -23,7 +26,7 @@ use Rattle.ans_walks.specs.NamesShown.{shown_names}
 use Rattle.ans_mend.specs.NamedColours.{missing_numbers, named_content, named_sequence, named_text}
 use Rattle.ans_mend.specs.NamedColours.{numbers_to_zero, takes_names, through_numbers, times_named}
 use Rattle.ans_mend.specs.NameSearch.{IsNamedFirst, HasSearched, IsSearched, NoneIsNamed}
-use Rattle.ans_mend.specs.NameSearch.{Waits, bytes_of, taking_after}
+use Rattle.ans_mend.specs.NameSearch.{Waits, bytes_of, taking_after, taking_behind}
 use Rattle.ans_mend.specs.declared.name_search.NamingPlace.{NamingPlace}
 use Rattle.ans_mend.specs.declared.name_search.NameSearch.{NameSearch}
 use Rattle.ans_mend.specs.declared.name_search.Taking.{Taking}
@@ -131,6 +134,35 @@ module _ (first old : NameSearch) (front : Front) (t : TokenKind) (text behind :
           let now : taking_after old.taking token ≡ old.taking = rw (kind_is, is) refl in
           subst (λ (v : Option Taking). IsSearched true v (names_after n t) (xs ++ one t text ∷ [])) (sym now)
           (searched_other xs (one t text) n old.taking other is h.searched)
+
+-- ---- plain bytes
+-- the search after each byte of a run, where nothing waits after the first
+abbrev pub search_after : NameSearch → ℕ → NameSearch
+search_after old zero = old
+search_after old (suc k) = record old { taking = None; behind = old.behind - suc k }
+
+still_none : (both : Bool) → ◌≡◌ {A = Option Taking} None (if both then None else None)
+still_none true = refl
+still_none false = refl
+
+prints_each : (first old : NameSearch) (offset : ℕ) (run behind : List ℕ) → taking_behind old ≡ None
+    → KeptByBytes (λ k front. HasSearched first front true (search_after old k)) offset run behind
+prints_each first old offset run behind nothing zero byte front rest next h =
+    printed first old front (Glyph byte) (byte ∷ []) rest h (search_after old 1) true refl
+    (omega (arith, h.behind, ap length next.whole)) (sym nothing) refl refl
+prints_each first old offset run behind nothing (suc k) byte front rest next h =
+    printed first (search_after old (suc k)) front (Glyph byte) (byte ∷ []) rest h (search_after old (suc (suc k)))
+    true refl (omega (arith, h.behind, ap length next.whole)) (still_none (are_both (shown_names old.named))) refl refl
+
+pub printed_past : (first old new : NameSearch) (offset : ℕ) (run behind : List ℕ) (front : Front)
+    → ((k : ℕ) → k < length run → IsByte (get_or run k 0)) → taking_behind old ≡ None → 0 < length run
+    → new ≡ record old { taking = None; behind = old.behind - length run } → IsRunNext front offset run behind
+    → HasSearched first front true old → HasSearched first (front_past front run behind) true new
+printed_past first old new offset [] behind front bytes nothing some is next h = absurd (omega (arith, some))
+printed_past first old new offset (b ∷ run) behind front bytes nothing some is next h =
+    subst (λ (v : NameSearch). HasSearched first (front_past front (b ∷ run) behind) true v) (sym is)
+    (kept_past (λ k front. HasSearched first front true (search_after old k)) offset (b ∷ run) behind front bytes
+    (prints_each first old offset (b ∷ run) behind nothing) next h)
 
 -- ---- in the end
 -- whatever waits at the end stays

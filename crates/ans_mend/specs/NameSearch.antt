@@ -56,6 +56,10 @@ taking_after taking token =
     then Some (record { start = start_of token; length = length_of token; numbers = numbers_to_zero kind })
     else taking
 
+-- what waits after something is printed or cleared
+abbrev pub taking_behind : NameSearch → Option Taking
+taking_behind search = if are_both (shown_names search.named) then None else search.taking
+
 -- the last sequence that takes the names away waits; where the search stopped, something is printed with these names
 abbrev pub IsSearched : Bool → Option Taking → Names → List Spelled → Type 0
 IsSearched true None n xs = NoneWaits xs

@@ -12,6 +12,7 @@ ghost use Rattle.ans_mend.specs.LineEnds.{with_returns};
 use crate::draft::Draft;
 use ans_sauce::{body_before, cut_content, cut_record};
 use ans_walks::Times;
+use memchr::memchr;
 
 fn is_line_feed(byte: u8) -> bool
     ensures { result ≡ is_line_feed byte }
@@ -91,7 +92,7 @@ fn has_return(bytes: &[u8]) -> bool
 fn first_line_feed(bytes: &[u8]) -> Option<usize>
     ensures { result ≡ position is_line_feed bytes.now }
 {
-    bytes.iter().position(|byte| is_line_feed(*byte))
+    memchr(b'\n', bytes)
 }
 
 /// The line feeds that want a return: how many, and the first one's place.

@@ -9,7 +9,7 @@ ghost use Rattle.ans_mend.specs.NamedColours.{begins_unnamed};
 ghost use Rattle.ans_players.specs.Names.{are_both};
 ghost use Rattle.ans_tokens.specs.Walk.{StaysPast};
 ghost use Rattle.ans_walks.specs.NamesShown.{shown_names};
-ghost use Rattle.ans_mend.specs.NameSearch.{IsNamedFirst, NoneIsNamed, WaitsIn, taking_after};
+ghost use Rattle.ans_mend.specs.NameSearch.{IsNamedFirst, NoneIsNamed, WaitsIn, taking_after, taking_behind};
 
 use crate::names::{has_zero, takes_names};
 use crate::naming::{count_to_zero, naming_of};
@@ -78,7 +78,7 @@ impl Walker for NameSearch {
 
     ghost walked = { λ first front now goes_on. HasSearched first front goes_on now };
 
-    ghost takes = { StaysPast (λ first front now goes_on. HasSearched first front goes_on now) };
+    ghost takes = { λ search count. taking_behind search ≡ None };
 
     fn token(&mut self, token: &Token, behind: &[u8]) -> bool {
         self.behind = behind.len();
@@ -92,10 +92,17 @@ impl Walker for NameSearch {
     }
 
     fn room(&self) -> usize {
-        0
+        if after_print(self.taking, self.named).is_none() {
+            usize::MAX
+        } else {
+            0
+        }
     }
 
-    fn take(&mut self, _run: &[u8], _offset: usize) {}
+    fn take(&mut self, run: &[u8], _offset: usize) {
+        self.taking = None;
+        self.behind = self.behind.saturating_sub(run.len());
+    }
 }
 
 /// A sequence that waits when something is printed or cleared while not both colours are named.

@@ -2,9 +2,9 @@
 use Rattle.std.specs.Prelude.{◌≡◌, ℕ, ◌+◌, Bool, false, not, ◌&&◌, ◌||◌, ◌==◌, nat_lt, List, [], ◌∷◌, ◌++◌}
 use Rattle.std.specs.Prelude.{fold, take, slice_get, Some, if◌then◌else◌, IsTrue}
 use Rattle.std.specs.List.{list_all}
-use Rattle.ans_model.specs.Bytes.{bracket, semicolon}
 use Rattle.ans_model.specs.Sequence.TokenKind.{TokenKind, Glyph, Bell, BackSpace, Tab, Down, Forward, Clear}
 use Rattle.ans_model.specs.Sequence.TokenKind.{EraseLine, Restore, Colours, Wrap}
+use Rattle.ans_model.specs.Sequence.Spelling.{omits}
 use Rattle.ans_model.specs.Screen.State.{Size, State}
 use Rattle.ans_model.specs.Screen.StartClass.{IsStart}
 use Rattle.ans_model.specs.declared.start.Start.{Start}
@@ -61,11 +61,6 @@ pub record Spelled : Type 0 where
 abbrev pub spelled : List TokenKind → List (List ℕ) → List Spelled
 spelled (t ∷ ts) (x ∷ xs) = record { token = t; text = x } ∷ spelled ts xs
 spelled _ _ = []
-
--- a number of a colour sequence is omitted: `;` or `m` stands behind `[` or `;`
-abbrev pub omits : List ℕ → Bool
-omits (a ∷ b ∷ rest) = ((a == bracket || a == semicolon) && (b == semicolon || b == 0x6D)) || omits (b ∷ rest)
-omits _ = false
 
 -- The kinds of how a token is spelled. An omitted colour is 0 to the profile and nothing to some player, which is the
 -- same where it is white on black already.

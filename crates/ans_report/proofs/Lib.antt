@@ -4,6 +4,7 @@ pub mod RecordLemmas
 pub mod StartNames
 pub mod CellsTold
 pub mod TokensPut
+pub mod GlyphsPut
 pub mod TokensFinished
 pub mod QuotedTexts
 pub mod RowTexts

@@ -29,7 +29,7 @@ use Rattle.ans_report.specs.declared.tokens_text.TokenLines.{TokenLines}
 
 -- ---- lines
 -- the lines of tokens and then of more
-token_lines-append : (start : ℕ) (ts us : List token.TokenKind) (xs zs : List (List ℕ)) → AllZip SpellsToken ts xs
+pub token_lines-append : (start : ℕ) (ts us : List token.TokenKind) (xs zs : List (List ℕ)) → AllZip SpellsToken ts xs
     → token_lines start (ts ++ us) (xs ++ zs)
     ≡ token_lines start ts xs ++ token_lines (start + length (concat xs)) us zs
 token_lines-append start [] us [] zs h =

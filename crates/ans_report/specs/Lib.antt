@@ -1,4 +1,5 @@
 pub mod Words
+pub mod GlyphLines
 pub mod Headings
 pub mod Rows
 pub mod ReportBytes

@@ -16,7 +16,7 @@ use crate::counts::Outcome;
 use ans_model::fault::Fault;
 use ans_model::start::Start;
 use ans_sauce::{Judged, Parts, Record, cut_record};
-use ans_walks::{Players, cursors_before, is_taller};
+use ans_walks::{Overview, Players, cursors_before};
 
 /// Why a file was not read.
 #[derive(Debug, Clone, Copy, PartialEq, Eq)]
@@ -121,10 +121,11 @@ impl PassFinding {
     {
         let size = parts.size();
         let content = parts.content();
+        let overview = Overview::of(size, needs, parts.sauce().is_non_blink(), content);
         PassFinding {
             needs,
-            players: Players::of(size, needs, content),
-            taller: is_taller(size, needs, content),
+            players: overview.players,
+            taller: overview.taller,
         }
     }
 }

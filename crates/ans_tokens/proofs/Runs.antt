@@ -1,31 +1,31 @@
 -- A run of plain bytes, byte by byte: what each of them keeps holds past all of them.
-use Rattle.std.proofs.Common.{◌≡◌, ℕ, suc, ◌+◌, ◌<◌, ◌≤◌, ◌&&◌, ◌==◌, nat_le, not, List, [], ◌∷◌, ◌++◌}
-use Rattle.std.proofs.Common.{length, drop, map, get_or, IsTrue, All, refl, sym, ap, ◌∙◌, subst, arith}
+use Rattle.std.proofs.Common.{◌≡◌, ℕ, suc, ◌+◌, ◌-◌, ◌<◌, ◌≤◌, ◌&&◌, ◌==◌, nat_le, not, List, [], ◌∷◌, ◌++◌}
+use Rattle.std.proofs.Common.{length, drop, take, map, get_or, false, IsTrue, All, refl, sym, ap, ◌∙◌, subst, arith}
 use Rattle.std.proofs.Common.{append_assoc, length-append}
 use Rattle.std.specs.List.{AllZip, concat}
 use Rattle.std.proofs.lemmas.Bool.{and_parts, le-ltb, leb-true}
-use Rattle.std.proofs.lemmas.List.{append-nil}
+use Rattle.std.proofs.lemmas.List.{append-nil, length-drop, take_all}
 use Rattle.std.proofs.lemmas.List.Elements.{All-head, All-tail}
 use Rattle.ans_model.specs.Bytes.{IsByte}
 use Rattle.ans_model.specs.Sequence.TokenKind.{TokenKind, Glyph}
 use Rattle.ans_model.specs.Sequence.Reads.{SpellsToken, ReadsAs}
 use Rattle.ans_tokens.specs.Glyphs.{IsGlyphByte}
-use Rattle.ans_tokens.specs.Walk.{Front, IsRunNext, begins_plainly, front_of, front_past, front_with, is_foreign}
+use Rattle.ans_tokens.specs.Walk.{Front, IsRunNext, begins_as_code, begins_plainly, front_of, front_past, front_with}
+use Rattle.ans_tokens.specs.Walk.{is_foreign}
 use Rattle.ans_tokens.specs.Walk.{is_plain}
 use Rattle.ans_tokens.proofs.Readable.{reads_as_more}
 use Rattle.ans_tokens.proofs.TextFront.{not_low}
+
+-- the bytes from an offset on
+pub rest_of : (content : List ℕ) (at : ℕ) → take (length content - at) (drop at content) ≡ drop at content
+rest_of content at = take_all (length content - at) (drop at content) (omega (arith, length-drop at content))
 
 -- ---- plain bytes
 -- a plain byte is no control, and not foreign
 pub plain_parts : (b : ℕ) → IsTrue (is_plain b) → (0x20 ≤ b) × IsTrue (not (is_foreign b))
 plain_parts b plain =
-    let printed = nat_le 0x20 b in
-    let no_sign = not (b == 0x40) in
-    let no_bar = not (b == 0x7C) in
-    let all = and_parts (printed && no_sign && no_bar && not (b == 0x7F)) (not (is_foreign b)) plain in
-    let first = and_parts (printed && no_sign && no_bar) (not (b == 0x7F)) all.0 in
-    let second = and_parts (printed && no_sign) no_bar first.0 in
-    (leb-true 0x20 b (and_parts printed no_sign second.0).0, all.1)
+    let all = and_parts (nat_le 0x20 b && not (b == 0x7F)) (not (is_foreign b)) plain in
+    (leb-true 0x20 b (and_parts (nat_le 0x20 b) (not (b == 0x7F)) all.0).0, all.1)
 
 pub plain_glyph : (b : ℕ) → IsByte b → IsTrue (is_plain b) → IsGlyphByte b
 plain_glyph b byte plain = not_low b byte (le-ltb b 0x20 (plain_parts b plain).0)
@@ -48,6 +48,7 @@ pub record IsByteNext (run behind : List ℕ) (front : Front) (offset k byte : �
   pub starts : offset + k ≡ length (concat front.texts)
   pub spelled : SpellsToken (Glyph byte) (byte ∷ [])
   pub plain : IsTrue (is_plain byte)
+  pub no_code : begins_as_code (byte ∷ rest) ≡ false
   pub ends : IsTrue (begins_plainly rest)
 
 -- what is kept of the bytes so far and of the front past them is kept with one byte more
@@ -74,6 +75,7 @@ module _ (b : ℕ) (run behind : List ℕ) (front : Front) (offset : ℕ) (byte 
     starts = omega (arith, h.starts);
     spelled = plain_glyph b byte plain_first;
     plain = plain_first;
+    no_code = h.codes 0 (omega arith);
     ends = plainly_before run behind plain_later h.ends;
   }
 
@@ -87,6 +89,7 @@ module _ (b : ℕ) (run behind : List ℕ) (front : Front) (offset : ℕ) (byte 
         whole = refl;
         starts = omega (arith, h.starts, ap length more.whole, length-append (concat front.texts) (b ∷ []));
         plain = plain_later;
+        codes = λ k early. h.codes (suc k) (omega (arith, early));
         ends = h.ends;
       }
 
@@ -103,6 +106,7 @@ one_before b run behind front offset k byte rest h = record {
   starts = omega (arith, h.starts);
   spelled = h.spelled;
   plain = h.plain;
+  no_code = h.no_code;
   ends = h.ends;
 }
 

@@ -1,36 +1,28 @@
 -- A walk over a content, token by token.
-use Rattle.std.proofs.Common.{◌≡◌, ℕ, ◌+◌, ◌-◌, ◌<◌, ◌≤◌, Bool, true, List, ◌++◌, length, take, drop, get_or, sym, ap}
+use Rattle.std.proofs.Common.{◌≡◌, ℕ, ◌+◌, ◌-◌, ◌<◌, ◌≤◌, Bool, true, false, List, ◌++◌, length, take, drop, get_or, sym, ap}
 use Rattle.std.proofs.Common.{◌∙◌, arith, subst, append_assoc, length-append, IsTrue, All}
-use Rattle.std.proofs.lemmas.List.{take_all, take-append-drop, take-take, drop-append-le, drop-drop, drop-take}
+use Rattle.std.proofs.lemmas.List.{take-append-drop, take-take, drop-append-le, drop-drop, drop-take}
 use Rattle.std.proofs.lemmas.List.{length-take-le, length-drop, get_or-take, get_or-drop}
 use Rattle.std.proofs.lemmas.List.Elements.{All-from_get_or}
 use Rattle.ans_model.specs.Bytes.{IsByte}
-use Rattle.ans_model.specs.Inside.ShownKind.{shown_kind}
+use Rattle.std.specs.List.{AllZip, concat}
+use Rattle.ans_model.specs.Sequence.TokenKind.{TokenKind}
+use Rattle.ans_model.specs.Sequence.Reads.{SpellsToken}
 use Rattle.ans_model.specs.declared.fault.Fault.{Fault}
+use Rattle.ans_tokens.specs.Handed.{StandsAt}
 use Rattle.ans_tokens.specs.Walk.{IsFaultAt}
-use Rattle.ans_tokens.specs.Token.{kind_of, start_of, length_of}
 use Rattle.ans_tokens.specs.Glyphs.{IsGlyphByte}
-use Rattle.ans_tokens.specs.Walk.{Front, IsNext, IsRunNext, Walks, begins_plainly, front_past, front_with, is_plain}
-use Rattle.ans_tokens.specs.WholeToken.{IsTokenAt}
-use Rattle.ans_tokens.specs.declared.token.Token.{Token}
+use Rattle.ans_tokens.specs.Walk.{Front, IsRunNext, NoCodeBegins, Walks, begins_as_code, begins_plainly, front_past}
+use Rattle.ans_tokens.specs.Walk.{front_with, is_plain}
+use Rattle.ans_tokens.specs.WholeToken.{IsTokenFront}
 use Rattle.ans_tokens.proofs.Readable.{reads_as_more}
-use Rattle.ans_tokens.proofs.Runs.{past_behind, plain_glyph, reads_past}
+use Rattle.ans_tokens.proofs.Runs.{past_behind, plain_glyph, reads_past, rest_of}
 
 -- the bytes from an offset on
-part_of : (content : List ℕ) (at end : ℕ) → at ≤ end → take (end - at) (drop at content) ≡ drop at (take end content)
+pub part_of : (content : List ℕ) (at end : ℕ) → at ≤ end → take (end - at) (drop at content) ≡ drop at (take end content)
 part_of content at end room =
     let whole : at + (end - at) ≡ end = omega (arith, room) in
     sym (drop-take at (end - at) content) ∙ ap (λ (k : ℕ). drop at (take k content)) whole
-
-rest_of : (content : List ℕ) (at : ℕ) → take (length content - at) (drop at content) ≡ drop at content
-rest_of content at = take_all (length content - at) (drop at content) (omega (arith, length-drop at content))
-
--- the walker has been over the tokens before an offset, and goes on there or stops
-pub record StandsAt {W : Type 0} (walked : W → Front → W → Bool → Type 0) (ready : W → ℕ → Type 0) (content : List ℕ)
-    (end : ℕ) (first : W) (at : ℕ) (now : W) (goes_on : Bool) : Type 0 where
-  pub within : at ≤ end
-  pub can_go : ready now at
-  pub so_far : Walks walked content end (drop at (take end content)) first now goes_on
 
 module _ {W : Type 0} (walked : W → Front → W → Bool → Type 0) (content : List ℕ) (end : ℕ) (first : W)
     (within : end ≤ length content) (at : ℕ) (old : W)
@@ -61,62 +53,71 @@ module _ {W : Type 0} (walked : W → Front → W → Bool → Type 0) (content 
     rw front_is_long (subst (λ (v : List ℕ). IsFaultAt at v fault) (part_of content at end room) fails),
   )
 
-  module _ (token : Token) (here : IsTokenAt at (take (end - at) (drop at content)) token) where
-    next : IsTokenAt at (drop at (take end content)) token
-    next = subst (λ (v : List ℕ). IsTokenAt at v token) (part_of content at end room) here
+  -- one token more, by its kind and how many bytes spell it
+  module _ (t : TokenKind) (size : ℕ) (here : IsTokenFront (take (end - at) (drop at content)) t size) where
+    next : IsTokenFront (drop at (take end content)) t size
+    next = subst (λ (v : List ℕ). IsTokenFront v t size) (part_of content at end room) here
 
     abbrev text : List ℕ
-    text = take (length_of token) (drop at (take end content))
+    text = take size (drop at (take end content))
 
     abbrev left : List ℕ
-    left = drop (at + length_of token) (take end content)
+    left = drop (at + size) (take end content)
+
+    abbrev rest : List ℕ
+    rest = take (length content - (at + size)) (drop (at + size) content)
 
     -- the token and what is left after it
     token_left : drop at (take end content) ≡ text ++ left
-    token_left = sym (take-append-drop (length_of token) (drop at (take end content)))
-        ∙ ap (λ (v : List ℕ). text ++ v) (drop-drop (length_of token) at (take end content))
+    token_left = sym (take-append-drop size (drop at (take end content)))
+        ∙ ap (λ (v : List ℕ). text ++ v) (drop-drop size at (take end content))
 
-    ends_within : at + length_of token ≤ end
-    ends_within = omega (
+    token_ends_within : at + size ≤ end
+    token_ends_within = omega (
       arith,
-      next.front.within,
+      next.within,
       room,
       length-drop at (take end content),
       length-take-le end content within,
     )
 
-    -- the walker has been over it too, and may be handed the token behind it
-    pub walks_token : (ready : W → ℕ → Type 0) (new : W) (on : Bool)
-        → ready new (start_of token + length_of token)
-        → ((first : W) (front : Front) (text : List ℕ)
-        → IsNext front token text (take (length content - (at + length_of token)) (drop (at + length_of token) content))
-        → walked first front old true → walked first (front_with front (shown_kind (kind_of token)) text
-        (take (length content - (at + length_of token)) (drop (at + length_of token) content))) new on)
-        → StandsAt walked ready content end first (at + length_of token) new on
-    walks_token ready new on stands step =
-        let kind = shown_kind (kind_of token) in
-        let behind = take (length content - (at + length_of token)) (drop (at + length_of token) content) in
-        let goes_on : behind ≡ left ++ drop end content = rest_of content (at + length_of token) ∙ parted (at + length_of token) ends_within in
-        let size = length-take-le (length_of token) (drop at (take end content)) next.front.within in
-        record {
-          within = ends_within;
-          can_go = subst (λ (k : ℕ). ready new (k + length_of token)) next.starts stands;
-          so_far = record {
-            front = front_with h.front kind text behind;
-            read = h.read ++ text;
-            whole = h.whole ∙ ap (λ (v : List ℕ). h.read ++ v) token_left ∙ sym (append_assoc h.read text left);
-            reads = reads_as_more h.read text h.front.tokens h.front.texts kind h.reads next.front.spelled;
-            behind = goes_on;
-            over = step first h.front text (record {
-              each = h.reads.each;
-              whole = h.behind ∙ ap (λ (v : List ℕ). v ++ drop end content) token_left
-                  ∙ append_assoc text left (drop end content) ∙ ap (λ (v : List ℕ). text ++ v) (sym goes_on);
-              spelled = next.front.spelled;
-              starts = next.starts ∙ sym front_is_long ∙ ap length h.reads.whole;
-              long = sym size;
-            }) h.over;
-          };
-        }
+    rest_is : rest ≡ left ++ drop end content
+    rest_is = rest_of content (at + size) ∙ parted (at + size) token_ends_within
+
+    -- what is said of the front where a token comes next
+    pub record ComesNext : Type 0 where
+      pub each : AllZip SpellsToken h.front.tokens h.front.texts
+      pub whole : h.front.behind ≡ text ++ rest
+      pub spelled : SpellsToken t text
+      pub starts : at ≡ length (concat h.front.texts)
+      pub long : size ≡ length text
+
+    comes_next : ComesNext
+    comes_next = record {
+      each = h.reads.each;
+      whole = h.behind ∙ ap (λ (v : List ℕ). v ++ drop end content) token_left
+          ∙ append_assoc text left (drop end content) ∙ ap (λ (v : List ℕ). text ++ v) (sym rest_is);
+      spelled = next.spelled;
+      starts = sym front_is_long ∙ ap length h.reads.whole;
+      long = sym (length-take-le size (drop at (take end content)) next.within);
+    }
+
+    -- the walker has been over it too, and may be handed what comes after it
+    pub walks_one : (ready : W → ℕ → Type 0) (new : W) (on : Bool) → ready new (at + size)
+        → (ComesNext → walked first h.front old true → walked first (front_with h.front t text rest) new on)
+        → StandsAt walked ready content end first (at + size) new on
+    walks_one ready new on stands step = record {
+      within = token_ends_within;
+      can_go = stands;
+      so_far = record {
+        front = front_with h.front t text rest;
+        read = h.read ++ text;
+        whole = h.whole ∙ ap (λ (v : List ℕ). h.read ++ v) token_left ∙ sym (append_assoc h.read text left);
+        reads = reads_as_more h.read text h.front.tokens h.front.texts t h.reads next.spelled;
+        behind = rest_is;
+        over = step comes_next h.over;
+      };
+    }
 
   module _ (count : ℕ) (ends_within : at + count ≤ end) where
     abbrev run : List ℕ
@@ -155,12 +156,13 @@ module _ {W : Type 0} (walked : W → Front → W → Bool → Type 0) (content 
     pub walks_run : (ready : W → ℕ → Type 0) (new : W)
         → ((k : ℕ) → k < length content → IsByte (get_or content k 0))
         → All (λ byte. IsTrue (is_plain byte)) (take count (take (length content - at) (drop at content)))
+        → NoCodeBegins count (take (length content - at) (drop at content))
         → IsTrue (begins_plainly (drop count (take (length content - at) (drop at content))))
         → ready new (at + length run)
         → ((first : W) (front : Front) (behind : List ℕ) → IsRunNext front at run behind
         → walked first front old true → walked first (front_past front run behind) new true)
         → StandsAt walked ready content end first (at + count) new true
-    walks_run ready new are_bytes plain ends stands step =
+    walks_run ready new are_bytes plain codes ends stands step =
         let rest = rest_of content at in
         let behind = drop (at + count) content in
         let left = drop (at + count) (take end content) in
@@ -172,6 +174,11 @@ module _ {W : Type 0} (walked : W → Front → W → Bool → Type 0) (content 
           starts = sym front_is_long ∙ ap length h.reads.whole;
           plain = subst (λ (v : List ℕ). All (λ byte. IsTrue (is_plain byte)) v)
               (ap (take count) rest ∙ sym run_is) plain;
+          codes = λ k early. subst (λ (v : List ℕ). begins_as_code (drop k v) ≡ false)
+              (rest ∙ parted at room ∙ ap (λ (v : List ℕ). v ++ drop end content) run_left
+              ∙ append_assoc run left (drop end content)
+              ∙ ap (λ (v : List ℕ). run ++ v) (sym (parted (at + count) ends_within)))
+              (codes k (omega (arith, early, run_is_long)));
           ends = subst (λ (v : List ℕ). IsTrue (begins_plainly v)) (ap (drop count) rest ∙ drop-drop count at content)
               ends;
         } in

@@ -1,5 +1,6 @@
 -- Bytes that are printed as they stand, one token each.
-use Rattle.std.specs.Prelude.{◌≡◌, ℕ, ◌+◌, ◌≤◌, Bool, not, nat_lt, List, [], ◌∷◌, length, take, slice_get, All}
+use Rattle.std.specs.Prelude.{◌≡◌, ◌||◌, ◌==◌, ℕ, ◌+◌, ◌≤◌, Bool, not, nat_lt, List, [], ◌∷◌, length, take, slice_get}
+use Rattle.std.specs.Prelude.{All}
 use Rattle.std.specs.Prelude.{Some, None}
 use Rattle.ans_model.specs.Sequence.TokenKind.{Glyph}
 use Rattle.ans_model.specs.Sequence.Reads.{SpellsToken}
@@ -14,9 +15,13 @@ IsGlyphByte b = SpellsToken (Glyph b) (b ∷ [])
 abbrev pub is_low : ℕ → Bool
 is_low byte = nat_lt byte 0x20
 
--- a byte at which a run of plain bytes ends
+-- a byte with which a colour code of a bulletin board begins
+abbrev pub is_sign : ℕ → Bool
+is_sign byte = byte == 0x40 || byte == 0x7C
+
+-- a byte at which a run of plain bytes may end
 abbrev pub is_stop : ℕ → Bool
-is_stop byte = not (is_plain byte)
+is_stop byte = not (is_plain byte) || is_sign byte
 
 -- the first `count` bytes are glyphs, and the next one, where there is one, is not
 pub record IsGlyphFront (bytes : List ℕ) (count : ℕ) : Type 0 where

@@ -9,3 +9,4 @@ pub mod ScannerInside
 pub mod WholeToken
 pub mod Scanning
 pub mod Walk
+pub mod Handed

@@ -1,16 +1,18 @@
 -- What a walk over the tokens of a content has been over.
-use Rattle.std.specs.Prelude.{◌≡◌, ◌⊎◌, ◌&&◌, ◌||◌, ◌==◌, ℕ, Bool, true, false, not, nat_le, IsTrue, All}
-use Rattle.std.specs.Prelude.{List, [], ◌∷◌, ◌++◌, length, take, drop, Result, Ok, Err}
+use Rattle.std.specs.Prelude.{◌≡◌, ◌<◌, ◌⊎◌, ◌&&◌, ◌||◌, ◌==◌, ℕ, Bool, true, false, not, nat_le, IsTrue, All}
+use Rattle.std.specs.Prelude.{List, [], ◌∷◌, ◌++◌, length, take, drop, slice_index, Result, Ok, Err}
+use Rattle.std.specs.Int.{is_in_range}
 use Rattle.std.specs.List.{AllZip, concat}
-use Rattle.ans_model.specs.Sequence.TokenKind.{TokenKind, Glyph}
+use Rattle.ans_model.specs.Sequence.TokenKind.{TokenKind, Colours, Glyph}
 use Rattle.ans_model.specs.Sequence.Reads.{SpellsToken, ReadsAs}
 use Rattle.ans_model.specs.Inside.ShownKind.{shown_kind}
-use Rattle.ans_model.specs.Sequence.Spelling.{IsUnfinished}
+use Rattle.ans_model.specs.Sequence.Spelling.{IsUnfinished, omits}
 use Rattle.ans_model.specs.Verdict.FirstFault.{IsRefused}
 use Rattle.ans_model.specs.declared.fault.Cause.{Cause}
 use Rattle.ans_model.specs.declared.fault.Cause.TheVariants.{EndInSequence}
 use Rattle.ans_model.specs.declared.fault.Fault.{Fault}
 use Rattle.ans_tokens.specs.Token.{kind_of, start_of, length_of}
+use Rattle.ans_tokens.specs.declared.colours.ColourSequence.{ColourSequence}
 use Rattle.ans_tokens.specs.declared.token.Token.{Token}
 
 -- a front of a content: its tokens, the text of each, and the bytes behind them
@@ -35,6 +37,15 @@ pub record IsNext (front : Front) (token : Token) (text behind : List ℕ) : Typ
   pub starts : start_of token ≡ length (concat front.texts)
   pub long : length_of token ≡ length text
 
+-- The colour sequence comes next: its text stands behind the front, and these bytes stand behind it.
+pub record AreColoursNext (front : Front) (colours : ColourSequence) (text behind : List ℕ) : Type 0 where
+  pub each : AllZip SpellsToken front.tokens front.texts
+  pub whole : front.behind ≡ text ++ behind
+  pub spelled : SpellsToken (Colours colours.numbers.now) text
+  pub starts : colours.start ≡ length (concat front.texts)
+  pub long : colours.length ≡ length text
+  pub omits_is : colours.omits ≡ omits text
+
 -- with one token more
 abbrev pub front_with : Front → TokenKind → List ℕ → List ℕ → Front
 front_with front token text behind = front_of (front.tokens ++ token ∷ []) (front.texts ++ text ∷ []) behind
@@ -45,22 +56,33 @@ front_with front token text behind = front_of (front.tokens ++ token ∷ []) (fr
 abbrev pub is_foreign : ℕ → Bool
 is_foreign byte = byte == 0xC3 || nat_le 0xE0 byte
 
--- a byte that is printed, and no control, `@`, `|`, nor such a letter's first
+-- a byte that is printed, and no control nor such a letter's first
 abbrev pub is_plain : ℕ → Bool
-is_plain byte =
-    nat_le 0x20 byte && not (byte == 0x40) && not (byte == 0x7C) && not (byte == 0x7F) && not (is_foreign byte)
+is_plain byte = nat_le 0x20 byte && not (byte == 0x7F) && not (is_foreign byte)
 
 -- the bytes do not begin with such a letter
 abbrev pub begins_plainly : List ℕ → Bool
 begins_plainly [] = true
 begins_plainly (byte ∷ bytes) = not (is_foreign byte)
 
--- plain bytes come next, which are a token each, and no letter of another system after the last
+-- The bytes begin as a colour code of programs for bulletin boards does: with `@X`, or with `|` and a digit.
+abbrev pub begins_as_code : List ℕ → Bool
+begins_as_code bytes =
+    (slice_index bytes 0 == 0x40 && slice_index bytes 1 == 0x58)
+    || (slice_index bytes 0 == 0x7C && is_in_range 0x30 0x39 (slice_index bytes 1))
+
+-- at none of the first `count` bytes a code begins
+abbrev pub NoCodeBegins : ℕ → List ℕ → Type 0
+NoCodeBegins count bytes = (k : ℕ) → k < count → begins_as_code (drop k bytes) ≡ false
+
+-- Plain bytes come next, which are a token each. No code of a bulletin board begins at any of them, and no letter of
+-- another system after the last.
 pub record IsRunNext (front : Front) (offset : ℕ) (run behind : List ℕ) : Type 0 where
   pub each : AllZip SpellsToken front.tokens front.texts
   pub whole : front.behind ≡ run ++ behind
   pub starts : offset ≡ length (concat front.texts)
   pub plain : All (λ byte. IsTrue (is_plain byte)) run
+  pub codes : NoCodeBegins (length run) (run ++ behind)
   pub ends : IsTrue (begins_plainly behind)
 
 -- with the tokens of a run more

@@ -1,10 +1,10 @@
 -- A token that is taken whole from the bytes that begin with it.
-use Rattle.std.specs.Prelude.{◌≡◌, ℕ, ◌<◌, ◌≤◌, IsTrue, false, List, length, map, take, slice_index_or}
+use Rattle.std.specs.Prelude.{◌≡◌, ℕ, ◌-◌, ◌<◌, ◌≤◌, IsTrue, true, false, List, length, map, take, slice_index_or}
 use Rattle.std.specs.List.{list_all, list_any}
 use Rattle.std.specs.Char.{is_ascii_digit}
 use Rattle.std.specs.Str.Parse.{digits_value}
 use Rattle.ans_model.specs.Bytes.{largest_number}
-use Rattle.ans_model.specs.Sequence.Spelling.{Raw, Spells}
+use Rattle.ans_model.specs.Sequence.Spelling.{Raw, Spells, omits, opens_member}
 use Rattle.ans_model.specs.declared.mark.Mark.{Mark}
 use Rattle.ans_model.specs.Sequence.TokenKind.{TokenKind}
 use Rattle.ans_model.specs.Sequence.Meaning.{colour_number, is_quoted}
@@ -30,6 +30,13 @@ pub record IsSequenceFront (bytes : List ℕ) (mark : Mark) (numbers : List ℕ)
   pub numbers_are : map colour_number raw.members ≡ numbers
   pub no_string : list_any is_quoted raw.members ≡ false
   pub letter_is : raw.letter ≡ letter
+
+-- at this index a member begins, and none before it is omitted
+pub record OpensMember (bytes : List ℕ) (index : ℕ) : Type 0 where
+  pub some : 0 < index
+  pub within : index ≤ length bytes
+  pub opens : opens_member (slice_index_or bytes (index - 1) 0) ≡ true
+  pub none_omitted : omits (take index bytes) ≡ false
 
 -- the first `count` bytes, at least one, spell the token
 pub record IsTokenFront (bytes : List ℕ) (token : TokenKind) (count : ℕ) : Type 0 where

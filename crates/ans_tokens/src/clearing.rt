@@ -3,6 +3,7 @@
 ghost use Rattle.std.specs.Prelude.{◌≤◌, ⊤, length};
 ghost use Rattle.ans_model.specs.Bytes.{longest_file};
 
+use crate::colours::ColourSequence;
 use crate::token::Token;
 use crate::walker::{Walker, walk};
 use ans_model::kind::Kind;
@@ -20,6 +21,10 @@ impl Walker for UpToClear {
 
     fn token(&mut self, token: &Token, _behind: &[u8]) -> bool {
         !matches!(token.kind(), Kind::Clear)
+    }
+
+    fn colours(&mut self, _colours: &ColourSequence<'_>, _behind: &[u8]) -> bool {
+        true
     }
 
     fn room(&self) -> usize {

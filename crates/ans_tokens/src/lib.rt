@@ -15,7 +15,9 @@
 #![tactic(auto)]
 
 mod clearing;
+mod colours;
 mod glyphs;
+mod handing;
 pub mod laws;
 mod mark;
 mod meaning;
@@ -29,6 +31,7 @@ mod whole;
 pub use ans_model::fault::{Cause, Fault};
 pub use ans_model::kind::Kind;
 pub use clearing::is_cleared;
+pub use colours::ColourSequence;
 pub use glyphs::{count_glyphs, count_text};
 pub use meaning::{distance, is_just, place};
 pub use scanner::{ESCAPE, Scanner};

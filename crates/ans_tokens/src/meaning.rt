@@ -1,6 +1,6 @@
 //! What a sequence means, by its letter.
 
-ghost use Rattle.std.specs.Prelude.{◌≡◌, ℕ, map, Ok, Err, MatchResult, IfErr, IfOk, true, false};
+ghost use Rattle.std.specs.Prelude.{◌≡◌, ◌≢◌, ◌↔◌, IsTrue, ℕ, map, Ok, Err, MatchResult, IfErr, IfOk, true, false};
 ghost use Rattle.ans_model.specs.Sequence.Spelling.{Number};
 ghost use Rattle.ans_model.specs.Sequence.TokenKind.{TokenKind, EraseLine, Place};
 ghost use Rattle.ans_model.specs.Sequence.Meaning.{
@@ -14,6 +14,7 @@ ghost use Rattle.ans_model.specs.Sequence.Meaning.{
   wrap_or_mode,
 };
 ghost use Rattle.ans_model.specs.Inside.ShownKind.{shown_kind};
+ghost use Rattle.ans_model.specs.declared.mark.Mark.TheVariants.{Unmarked};
 ghost use Rattle.ans_tokens.specs.PlainSequence.{Means, TakesNumbersAlone, plain_sequence};
 
 use crate::mark::has_mark;
@@ -113,6 +114,43 @@ fn wrap_or_mode(mark: Mark, numbers: &[u8], quoted: bool, on: bool) -> Result<Ki
     }
 }
 
+fn takes_numbers_alone(letter: u8) -> bool
+    ensures { IsTrue result ↔ TakesNumbersAlone letter }
+{
+    matches!(
+        letter,
+        b'A'..=b'D' | b'H' | b'f' | b'J' | b'K' | b's' | b'u' | b'm' | b'n'
+    )
+}
+
+/// What a letter means that takes numbers alone, with neither a mark nor a string: any but `m`. Where it is
+/// refused, the cause is `UnknownSequence` or `WrongParameters`.
+#[inline(always)]
+#[tactic(auto, using(crate::proofs::PlainSequences::no_string))]
+pub(crate) fn letter_meant(letter: u8, numbers: &[u8]) -> Result<Kind, Cause>
+    ensures meant { IfOk result (λ kind. meaning (plain_sequence Unmarked numbers.now false letter)
+        ≡ Ok (shown_kind kind)) }
+    ensures refused { IfErr result (λ cause. letter ≢ 0x6D → TakesNumbersAlone letter
+        → meaning (plain_sequence Unmarked numbers.now false letter) ≡ Err cause) }
+{
+    match letter {
+        b'A' => Ok(Kind::Up(distance(numbers)?)),
+        b'B' => Ok(Kind::Down(distance(numbers)?)),
+        b'C' => Ok(Kind::Forward(distance(numbers)?)),
+        b'D' => Ok(Kind::Backward(distance(numbers)?)),
+        b'H' | b'f' => {
+            let (row, column) = place(numbers)?;
+            Ok(Kind::Place(row, column))
+        }
+        b'J' => only_if(is_just(2, numbers), Kind::Clear),
+        b'K' => only_if(numbers.is_empty() || is_just(0, numbers), Kind::EraseLine),
+        b's' => only_if(numbers.is_empty(), Kind::Save),
+        b'u' => only_if(numbers.is_empty(), Kind::Restore),
+        b'n' => only_if(is_just(6, numbers), Kind::Ask),
+        _ => Err(Cause::UnknownSequence),
+    }
+}
+
 /// What a sequence means: its mark, a number for each member, whether a string was among them, and
 /// its letter. Where it is refused, the cause is `UnknownSequence` or `WrongParameters`.
 #[inline(always)]
@@ -127,21 +165,6 @@ pub(crate) fn kind_meant(
 {
     let plain = plain_numbers(mark, &numbers, quoted);
     match letter {
-        b'A' => Ok(Kind::Up(distance(plain?)?)),
-        b'B' => Ok(Kind::Down(distance(plain?)?)),
-        b'C' => Ok(Kind::Forward(distance(plain?)?)),
-        b'D' => Ok(Kind::Backward(distance(plain?)?)),
-        b'H' | b'f' => {
-            let (row, column) = place(plain?)?;
-            Ok(Kind::Place(row, column))
-        }
-        b'J' => only_if(is_just(2, plain?), Kind::Clear),
-        b'K' => {
-            let plain = plain?;
-            only_if(plain.is_empty() || is_just(0, plain), Kind::EraseLine)
-        }
-        b's' => only_if(plain?.is_empty(), Kind::Save),
-        b'u' => only_if(plain?.is_empty(), Kind::Restore),
         b'm' => {
             plain?;
             Ok(colours(numbers))
@@ -149,7 +172,7 @@ pub(crate) fn kind_meant(
         b'h' => wrap_or_mode(mark, &numbers, quoted, true),
         b'l' => wrap_or_mode(mark, &numbers, quoted, false),
         b'p' if !has_mark(mark) => Ok(Kind::Keys),
-        b'n' => only_if(is_just(6, plain?), Kind::Ask),
+        _ if takes_numbers_alone(letter) => letter_meant(letter, plain?),
         _ => Err(Cause::UnknownSequence),
     }
 }

@@ -1,14 +1,14 @@
 //! Plain bytes, which a walker may take at once.
 
 ghost use Rattle.std.specs.Prelude.{◌≡◌, ◌+◌, ◌<◌, ◌≤◌, ℕ, IsTrue, false, All, length, map, take};
-ghost use Rattle.std.specs.Prelude.{drop, slice_index_or};
+ghost use Rattle.std.specs.Prelude.{drop, slice_index, slice_index_or};
 ghost use Rattle.std.specs.Simd.Lanes.{mask_l};
 ghost use Rattle.ans_tokens.specs.Glyphs.{is_stop};
-ghost use Rattle.ans_tokens.specs.Walk.{begins_plainly, is_foreign, is_plain};
+ghost use Rattle.ans_tokens.specs.Walk.{NoCodeBegins, begins_as_code, begins_plainly, is_plain};
 
 use std::simd::prelude::*;
 
-/// A bit for each of 16 bytes that is not plain.
+/// A bit for each of 16 bytes that is not plain, or `@` or `|`.
 #[inline(always)]
 fn stops(bytes: u8x16) -> u64
     ensures { result ≡ mask_l (map is_stop bytes) }
@@ -20,7 +20,7 @@ fn stops(bytes: u8x16) -> u64
     (outside | signs | others).to_bitmask()
 }
 
-/// How many of the 16 bytes from `from` on stand before the first one that is not plain.
+/// How many of the 16 bytes from `from` on stand before the first one that is not plain, or `@` or `|`.
 #[inline(always)]
 fn plain_of_chunk(bytes: &[u8], from: usize) -> usize
     requires { from + 16 ≤ length bytes.now }
@@ -36,20 +36,45 @@ fn plain_of_chunk(bytes: &[u8], from: usize) -> usize
     }
 }
 
-/// How many of the first `most` bytes stand before the first one that is not plain, as far as whole
-/// chunks of 16 bytes tell.
+/// Whether the bytes begin with `@` or `|`, and with no colour code of a bulletin board.
+#[inline(always)]
+fn begins_with_sign(bytes: &[u8]) -> bool
+    requires { 1 < length bytes.now }
+    ensures plain { IsTrue result → IsTrue (is_plain (slice_index bytes.now 0)) }
+    ensures code { IsTrue result → begins_as_code bytes.now ≡ false }
+{
+    // What stops a run most often is below both: ESC, and the ends of lines.
+    let byte = bytes[0];
+    if byte < b'@' {
+        return false;
+    }
+    match byte {
+        b'@' => bytes[1] != b'X',
+        b'|' => bytes[1] < b'0' || bytes[1] > b'9',
+        _ => false,
+    }
+}
+
+/// How many of the first `most` bytes stand before the first one that is not plain, or with which a code
+/// may begin, as far as whole chunks of 16 bytes tell.
 #[inline(always)]
 fn count_plain(bytes: &[u8], most: usize) -> usize
+    requires { 0 < length bytes.now }
     ensures most { result ≤ most }
-    ensures within { result ≤ length bytes.now }
+    ensures within { result < length bytes.now }
     ensures plain { All (λ byte. IsTrue (is_plain byte)) (take result bytes.now) }
+    ensures codes { NoCodeBegins result bytes.now }
 {
     let mut count = 0;
-    while count < most && bytes.len() - count >= 16 {
+    // There is a byte behind each chunk, so a byte stands at the count, and one behind a sign.
+    while count < most && bytes.len() - count > 16 {
         let plain = plain_of_chunk(bytes, count);
         count += plain;
         if plain < 16 {
-            break;
+            if !begins_with_sign(&bytes[count..]) {
+                break;
+            }
+            count += 1;
         }
     }
     count.min(most)
@@ -58,12 +83,10 @@ fn count_plain(bytes: &[u8], most: usize) -> usize
 /// Whether the bytes begin with no letter of UTF-8 or of Latin-1.
 #[inline(always)]
 fn begins_plainly(bytes: &[u8]) -> bool
+    requires { 0 < length bytes.now }
     ensures { result ≡ begins_plainly bytes.now }
 {
-    match bytes {
-        [byte, ..] => *byte != 0xC3 && *byte < 0xE0,
-        [] => true,
-    }
+    bytes[0] != 0xC3 && bytes[0] < 0xE0
 }
 
 /// How many plain bytes a walker takes at once, of the first `most` and as far as whole chunks of 16
@@ -73,6 +96,7 @@ pub(crate) fn count_run(bytes: &[u8], most: usize) -> usize
     ensures most { result ≤ most }
     ensures within { result ≤ length bytes.now }
     ensures plain { All (λ byte. IsTrue (is_plain byte)) (take result bytes.now) }
+    ensures codes { NoCodeBegins result bytes.now }
     ensures ends { 0 < result → IsTrue (begins_plainly (drop result bytes.now)) }
 {
     let [first, ..] = bytes else {

@@ -2,17 +2,18 @@
 
 ghost use Rattle.std.specs.Prelude.{◌≡◌, ◌≢◌, ◌+◌, ◌<◌, ◌≤◌, ℕ, Bool, List, [], length, true, MatchOption};
 ghost use Rattle.std.specs.Prelude.{IfOk, IfErr, slice_index_or};
-ghost use Rattle.ans_model.specs.Bytes.{escape, longest_file};
+ghost use Rattle.ans_model.specs.Bytes.{escape, longest_file, most_parameters};
+ghost use Rattle.ans_model.specs.Sequence.TokenKind.{Colours};
 ghost use Rattle.ans_model.specs.Inside.ShownKind.{shown_kind};
 ghost use Rattle.ans_tokens.specs.Token.{kind_of, start_of, length_of};
-ghost use Rattle.ans_tokens.specs.Walk.{Front, IsFaultAt, IsNext, IsRunNext, WalksTo, front_past};
+ghost use Rattle.ans_tokens.specs.Walk.{AreColoursNext, Front, IsFaultAt, IsNext, IsRunNext, WalksTo, front_past};
 ghost use Rattle.ans_tokens.specs.Walk.{front_with, no_front};
 ghost use Rattle.ans_tokens.specs.WholeToken.{IsTokenAt};
 
-use crate::plain::count_run;
-use crate::scanner::{ESCAPE, Scanner, kind_of_byte};
+use crate::colours::ColourSequence;
+use crate::handing::{Here, Step, rare_token};
+use crate::scanner::ESCAPE;
 use crate::token::Token;
-use crate::whole::whole_sequence;
 use ans_model::fault::Fault;
 
 /// What is handed the tokens of a content one after the other.
@@ -37,8 +38,23 @@ pub trait Walker {
             → IsNext front token.now text behind.now → walked first front self.old true → walked first
             (front_with front (shown_kind (kind_of token.now)) text behind.now) self.new result };
 
-    /// How many plain bytes it takes at once if they come next: the bytes from 20h on but `@`, `|`, 7Fh,
-    /// C3h, and E0h and above, from which letters of other systems begin. 0 is always right.
+    /// Takes a sequence of colours, as it would take its token. `behind` are the content's bytes behind it.
+    fn colours(&mut self, colours: &ColourSequence<'_>, behind: &[u8]) -> bool
+        requires room { colours.now.start < longest_file }
+        requires some { 0 < colours.now.length }
+        requires few { length colours.now.numbers.now ≤ most_parameters }
+        requires ready { ready self.old colours.now.start }
+        ensures ready { ready self.new (colours.now.start + colours.now.length) }
+        ensures walked { (first : Self) (front : Front) (text : List ℕ)
+            → AreColoursNext front colours.now text behind.now → walked first front self.old true
+            → walked first (front_with front (Colours colours.now.numbers.now) text behind.now) self.new result }
+    {
+        self.token(&colours.token(), behind)
+    }
+
+    /// How many plain bytes it takes at once if they come next: the bytes from 20h on but 7Fh, C3h, and
+    /// E0h and above, from which letters of other systems begin. No colour code of a bulletin board begins
+    /// at any of those that it is handed. 0 is always right.
     fn room(&self) -> usize
         ensures { (count : ℕ) → 0 < count → count ≤ result → takes self.now count };
 
@@ -55,36 +71,6 @@ pub trait Walker {
             → walked first (front_past front run.now behind) self.new true };
 }
 
-/// The token that the bytes begin with, which stands at this offset; it is a byte outside sequences.
-#[inline(always)]
-fn next_byte(bytes: &[u8], offset: usize) -> Token
-    requires some { 1 ≤ length bytes.now }
-    requires outside { slice_index_or bytes.now 0 0 ≢ escape }
-    ensures { IsTokenAt offset bytes.now result }
-{
-    Token::new(kind_of_byte(bytes[0]), offset, 1)
-}
-
-/// The token that the bytes begin with, which stands at this offset: they are taken one by one. None
-/// where there is no byte, and else a fault at the offset, F9 to F14.
-#[inline(never)]
-fn token_by_bytes(bytes: &[u8], offset: usize) -> Result<Option<Token>, Fault>
-    requires { offset + length bytes.now ≤ longest_file }
-    ensures token { IfOk result (λ token. MatchOption token (bytes.now ≡ [])
-        (IsTokenAt offset bytes.now)) }
-    ensures fault { IfErr result (IsFaultAt offset bytes.now) }
-{
-    let mut scanner = Scanner::new();
-    scanner.skip(offset);
-    for byte in bytes {
-        if let Some(token) = scanner.byte(*byte)? {
-            return Ok(Some(token));
-        }
-    }
-    scanner.end()?;
-    Ok(None)
-}
-
 /// Hands a walker the tokens of the first `end` bytes of a content, one after the other, and plain bytes
 /// at once if it takes them. True where it went on up to the end, and false where it stopped before.
 /// Where the reading refuses what stands next, or the bytes end in a sequence, the fault is returned,
@@ -97,37 +83,25 @@ pub fn walk<W: Walker>(content: &[u8], end: usize, walker: &mut W) -> Result<boo
     ensures { WalksTo W.walked content.now end walker.old walker.new result }
 {
     let mut at = 0;
-    'tokens: loop {
-        let count = count_run(&content[at..], walker.room().min(end - at));
-        if count > 0 {
-            walker.take(&content[at..at + count], at);
-            at += count;
-            continue 'tokens;
-        }
-        let bytes = &content[at..end];
-        // A token is large, so each is handed on at once: it would be copied where ways join.
-        let goes_on = match bytes {
-            [byte, ..] if *byte != ESCAPE => {
-                let token = next_byte(bytes, at);
-                at += token.length;
-                walker.token(&token, &content[at..])
-            }
-            _ => match whole_sequence(bytes, at) {
-                Some(token) => {
-                    at += token.length;
-                    walker.token(&token, &content[at..])
-                }
+    while at < end {
+        let here = Here { content, end, at };
+        let Step { length, goes_on } = match content[at] {
+            0x20.. => here.hand_glyphs(walker),
+            ESCAPE => match here.hand_sequence(walker) {
+                Some(step) => step,
                 None => {
-                    let Some(token) = token_by_bytes(bytes, at)? else {
+                    let Some(token) = rare_token(&content[at..end], at)? else {
                         return Ok(true);
                     };
-                    at += token.length;
-                    walker.token(&token, &content[at..])
+                    here.hand_token(&token, walker)
                 }
             },
+            byte => here.hand_low(byte, walker),
         };
+        at += length;
         if !goes_on {
             return Ok(false);
         }
     }
+    Ok(true)
 }

@@ -10,7 +10,8 @@ ghost use Rattle.ans_model.specs.Bytes.{most_parameters, escape};
 ghost use Rattle.arrayvec.specs.ArrayVec.{array_vec_len};
 ghost use Rattle.ans_model.specs.declared.mark.Mark.TheVariants.{Unmarked};
 ghost use Rattle.ans_tokens.specs.ScannerView.{Keeps, Sequence, Fresh};
-ghost use Rattle.ans_tokens.specs.WholeToken.{IsNumberFront, IsSequenceFront, IsTokenAt};
+ghost use Rattle.ans_tokens.specs.WholeToken.{IsNumberFront, IsSequenceFront, IsTokenAt, OpensMember};
+ghost use Rattle.ans_model.specs.Sequence.Spelling.{omits};
 
 use crate::mark::mark_of_byte;
 use crate::meaning::kind_meant;
@@ -24,6 +25,8 @@ use arrayvec::ArrayVec;
 pub struct Letter {
     pub byte: u8,
     pub end: usize,
+    /// Whether a number is omitted, as in `;1` or in nothing at all.
+    pub omits: bool,
 }
 
 /// The value of the digits that the bytes begin with, and their count: 0 and 0 where there are
@@ -114,15 +117,19 @@ fn read_members(
     requires within { from ≤ length bytes.now }
     requires begun { Keeps (Sequence mark [] false Fresh) (take from bytes.now) }
     requires empty { numbers.old.items ≡ [] }
-    ensures { IfSome result (λ letter.
+    ensures front { IfSome result (λ letter.
         IsSequenceFront bytes.now mark numbers.new.items letter.byte letter.end) }
+    ensures omits { OpensMember bytes.now from → IfSome result (λ letter. letter.byte ≡ 0x6D
+        → letter.omits ≡ omits (take letter.end bytes.now)) }
 {
     let mut at = from;
+    let mut omits = false;
     for _ in 0..MAX_PARAMETERS {
         let (value, digits) = read_number(bytes, at)?;
         let stop = at + digits;
         let byte = bytes[stop];
         at = stop + 1;
+        omits |= digits == 0;
         if byte == b';' {
             numbers.push(value);
             continue;
@@ -131,9 +138,33 @@ fn read_members(
             return None;
         }
         add_last(numbers, value, digits);
-        return Some(Letter { byte, end: at });
+        return Some(Letter {
+            byte,
+            end: at,
+            omits,
+        });
     }
     None
+}
+
+/// Reads the sequence that the bytes begin with if a letter is all that it has, as `ESC[s`, and returns the
+/// letter. It declines any other bytes.
+#[inline(always)]
+pub(crate) fn read_letter(bytes: &[u8]) -> Option<Letter>
+    ensures front { IfSome result (λ letter.
+        IsSequenceFront bytes.now Unmarked [] letter.byte letter.end) }
+    ensures omits { IfSome result (λ letter. letter.byte ≡ 0x6D
+        → letter.omits ≡ omits (take letter.end bytes.now)) }
+{
+    match bytes {
+        // mostly it is a digit
+        [0x1B, b'[', byte, ..] if *byte > b'9' && byte.is_ascii_alphabetic() => Some(Letter {
+            byte: *byte,
+            end: 3,
+            omits: true,
+        }),
+        _ => None,
+    }
 }
 
 /// Reads the sequence that the bytes begin with, where it is whole and has neither a mark nor a
@@ -142,8 +173,10 @@ fn read_members(
 #[inline(always)]
 pub fn read_sequence(bytes: &[u8], numbers: &mut ArrayVec<u8, MAX_PARAMETERS>) -> Option<Letter>
     requires { numbers.old.items ≡ [] }
-    ensures { IfSome result (λ letter.
+    ensures front { IfSome result (λ letter.
         IsSequenceFront bytes.now Unmarked numbers.new.items letter.byte letter.end) }
+    ensures omits { IfSome result (λ letter. letter.byte ≡ 0x6D
+        → letter.omits ≡ omits (take letter.end bytes.now)) }
 {
     match bytes {
         [0x1B, b'[', _, ..] => read_members(bytes, Mark::Unmarked, 2, numbers),

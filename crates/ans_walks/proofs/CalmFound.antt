@@ -41,7 +41,6 @@ use Rattle.ans_walks.specs.KindsWalked.{StandsAt}
 use Rattle.ans_walks.specs.Pens.{pen_of}
 use Rattle.ans_walks.specs.declared.calm.CalmWalk.{CalmWalk}
 use Rattle.ans_walks.specs.declared.grip.Grip.{Grip}
-use Rattle.ans_walks.specs.declared.names.Names.{Names}
 use Rattle.ans_walks.specs.declared.pen.Pen.{Pen}
 use Rattle.ans_walks.proofs.PlaysAlike.{StandAlike, agreed_alike}
 use Rattle.ans_walks.proofs.KindsFound.{one, spelled_behind, spelled_more, text_there, whole_more}

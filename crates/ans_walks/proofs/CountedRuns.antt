@@ -1,8 +1,8 @@
 -- Times that are counted along a run.
-use Rattle.std.proofs.Common.{◌≡◌, ℕ, zero, suc, ◌+◌, ◌≤◌, Bool, true, false, refl, sym, ap, ap₂, ◌∙◌, arith, Option}
+use Rattle.std.proofs.Common.{◌≡◌, ℕ, zero, suc, ◌+◌, Bool, true, false, refl, ap, ap₂, ◌∙◌, arith, Option}
 use Rattle.std.proofs.Common.{None, Some}
 use Rattle.std.specs.Prelude.{if◌then◌else◌}
-use Rattle.ans_walks.specs.Counted.{count_of, counted, counted_along, counted_times, so_many}
+use Rattle.ans_walks.specs.Counted.{counted, counted_along, counted_times, so_many}
 use Rattle.ans_walks.specs.declared.times.Times.{Times}
 
 -- one time more at the byte after those that were counted

@@ -1,5 +1,5 @@
 -- The hints of a front with one token more.
-use Rattle.std.proofs.Common.{◌≡◌, ℕ, ◌+◌, Bool, true, false, not, List, [], ◌∷◌, ◌++◌, length, take, drop}
+use Rattle.std.proofs.Common.{◌≡◌, ℕ, ◌+◌, ◌≤◌, Bool, true, false, not, List, [], ◌∷◌, ◌++◌, length, take, drop}
 use Rattle.std.proofs.Common.{refl, sym, ap}
 use Rattle.std.proofs.Common.{ap₂, arith, ◌∙◌, subst, append_assoc, append-nil, length-append, Option, None, Some}
 use Rattle.std.specs.Prelude.{◌&&◌, if◌then◌else◌, Result}
@@ -25,7 +25,7 @@ use Rattle.ans_walks.specs.Counted.{counted}
 use Rattle.ans_walks.specs.Hints.{AreHints}
 use Rattle.ans_walks.specs.RowMoves.{moved_with}
 use Rattle.ans_walks.specs.Rows.{empty_with, empty_after}
-use Rattle.ans_walks.specs.Walks.{HasWalked, hints_with}
+use Rattle.ans_walks.specs.Walks.{GoesOver, HasWalked, IsAt, hints_with}
 use Rattle.ans_walks.specs.declared.row_ends.RowEnds.{RowEnds}
 use Rattle.ans_walks.specs.declared.times.Times.{Times}
 use Rattle.ans_walks.specs.declared.walk.Walk.{Walk}
@@ -154,26 +154,51 @@ module _ (first old : Walk) (front : Front) (t : TokenKind) (text behind : List 
   }
 
   -- over one token more
-  pub walked_token : (new : Walk) (start : ℕ) → start ≡ offset → new.size ≡ old.size → new.non_blink ≡ old.non_blink
-      → ((s : State) → old.pen ≡ pen_of s → new.pen ≡ pen_of (step old.size s t))
-      → ((s : State) → old.pen ≡ pen_of s → new.row ≡ row_with old.size s start old.row t)
-      → ((s : State) → old.pen ≡ pen_of s → new.hints ≡ hints_with old s start t behind)
+  pub walked_token : (new : Walk) (start : ℕ) → start ≡ offset → GoesOver old new start t behind
       → HasWalked first (front_with front t text behind) true new
-  walked_token new start at size non_blink steps rows looks =
+  walked_token new start at over =
       let is : new.hints ≡ hints_with (record old { size = z; non_blink = first.non_blink }) here offset t behind =
-      rw (h.size, h.non_blink, at) at (looks here h.pen) in
+      rw (h.size, h.non_blink, at) at (over.hints here h.pen) in
       record {
         never_stops = refl;
-        size = size ∙ h.size;
-        non_blink = non_blink ∙ h.non_blink;
+        size = over.size ∙ h.size;
+        non_blink = over.non_blink ∙ h.non_blink;
         texts = omega (arith, h.texts, length-append front.texts (text ∷ []), length-append front.tokens (t ∷ []));
-        row = rw (h.size, at) at (rows here h.pen)
+        row = rw (h.size, at) at (over.row here h.pen)
             ∙ ap (λ (row : Row). row_with z here offset row t) h.row ∙ sym (ap (λ (w : Written). w.row) written);
-        pen = subst (λ (y : Size). new.pen ≡ pen_of (step y here t)) h.size (steps here h.pen)
+        pen = subst (λ (y : Size). new.pen ≡ pen_of (step y here t)) h.size (over.pen here h.pen)
             ∙ ap pen_of (sym (fold-append (step z) (cleared z) front.tokens (t ∷ [])));
         hints = subst (AreHints z first.non_blink (front.tokens ++ t ∷ []) (front.texts ++ text ∷ []) behind)
             (sym is) hints_more;
       }
+
+-- no more was counted than the bytes up to a later offset
+pub is_at_later : (walk : Walk) (n m : ℕ) → IsAt walk n → n ≤ m → IsAt walk m
+is_at_later walk n m h later =
+    let w = h.within in
+    record {
+      stands = h.stands;
+      within = record {
+        loose_line_feeds = omega (arith, w.loose_line_feeds, later);
+        row_ends = record {
+          full = omega (arith, w.row_ends.full, later);
+          line_ends = omega (arith, w.row_ends.line_ends, later);
+          ended = omega (arith, w.row_ends.ended, later);
+          over = omega (arith, w.row_ends.over, later);
+          as_wide = omega (arith, w.row_ends.as_wide, later);
+          overprints = omega (arith, w.row_ends.overprints, later);
+        };
+        wide_characters = omega (arith, w.wide_characters, later);
+        two_byte_letters = omega (arith, w.two_byte_letters, later);
+        latin_letters = omega (arith, w.latin_letters, later);
+        board_codes = omega (arith, w.board_codes, later);
+        later_colours = omega (arith, w.later_colours, later);
+        blinking_glyphs = omega (arith, w.blinking_glyphs, later);
+        seen_glyphs = omega (arith, w.seen_glyphs, later);
+        dark_glyphs = omega (arith, w.dark_glyphs, later);
+      };
+      wraps = omega (arith, h.wraps, later);
+    }
 
 -- over the first bytes of a content
 pub walked_hints : (content : List ℕ) (end : ℕ) (first now : Walk) (result : Result Bool Fault)

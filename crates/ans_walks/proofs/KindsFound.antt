@@ -2,10 +2,11 @@
 use Rattle.std.proofs.Common.{◌≡◌, ℕ, zero, suc, ◌+◌, ◌<◌, ◌≤◌, Bool, true, false, List, [], ◌∷◌, ◌++◌, length, map}
 use Rattle.std.proofs.Common.{take, fold, refl, sym, ap, ◌∙◌, arith, subst, Option, None, Some, append_assoc}
 use Rattle.std.proofs.Common.{append-nil, length-append}
-use Rattle.std.specs.Prelude.{◌≢◌, IsTrue, is_none, Result, slice_get, slice_index_or, if◌then◌else◌}
+use Rattle.std.specs.Prelude.{◌≢◌, ◌==◌, IsTrue, is_none, Result, slice_get, slice_index_or, if◌then◌else◌}
 use Rattle.std.specs.List.{concat, list_all, list_any}
 use Rattle.std.proofs.Math.Seq.{take-append_seam, take-length}
 use Rattle.std.proofs.lemmas.Bool.{and_parts, false≢true}
+use Rattle.std.proofs.lemmas.Bool.Decides.{nat_tests}
 use Rattle.std.proofs.lemmas.List.{take-append-le}
 use Rattle.std.proofs.lemmas.List.Folds.{concat-append}
 use Rattle.std.proofs.lemmas.List.Sums.{fold-append}
@@ -172,12 +173,6 @@ one_more_few times false offset most few = omega (arith, few)
 one_more_few None true offset most few = omega arith
 one_more_few (Some t) true offset most few = omega (arith, few)
 
--- of no kind more than once more was counted
-pub few_more : (old new : KindsUsed) (more : ℕ → Bool) (offset : ℕ) → AreFew old offset
-    → ((n : ℕ) → n < 13 → used_at new n ≡ counted (used_at old n) (more n) offset) → AreFew new (offset + 1)
-few_more old new more offset few each n within =
-    rw (each n within) (one_more_few (used_at old n) (more n) offset offset (few n within))
-
 no_times : (times : Option Times) → IsTrue (is_none times) → times ≡ None
 no_times None h = refl
 no_times (Some times) h = absurd (let no : false ≡ true = h in let none : ⊥ = cc in none)
@@ -189,6 +184,11 @@ none_at (first ∷ all) zero zero h within = absurd (omega (arith, within))
 none_at (first ∷ all) zero (suc n) h within = no_times first (and_parts _ _ h).0
 none_at (first ∷ all) (suc k) zero h within = absurd (omega (arith, within))
 none_at (first ∷ all) (suc k) (suc n) h within = none_at all k n (and_parts _ _ h).1 (omega (arith, within))
+
+-- before the first token none is found
+pub none_found : (z : Size) (used : KindsUsed) → IsTrue (list_all is_none (take 13 used.times)) → (kind : Kind)
+    → IsFound z [] kind (used_of used kind)
+none_found z used none kind = rw (none_at used.times (kind_number kind) 13 none (number_within kind)) refl
 
 pub each_other_none : (used : KindsUsed) → IsTrue (has_no_others used) → (kind : Kind)
     → IsTrue (all_but OwnColours kind) → used_of used kind ≡ None
@@ -213,6 +213,21 @@ other_of (suc (suc (suc (suc (suc (suc (suc (suc (suc (suc zero)))))))))) within
 other_of (suc (suc (suc (suc (suc (suc (suc (suc (suc (suc (suc zero))))))))))) within = (TerminalControls, refl, refl)
 other_of (suc (suc (suc (suc (suc (suc (suc (suc (suc (suc (suc (suc k)))))))))))) within =
     absurd (omega (arith, within))
+
+kind_at : (n : ℕ) (last : Bool) → (n == 12) ≡ last → n < 13 → (kind : Kind) × (kind_number kind ≡ n)
+kind_at n true is within = (OwnColours, let e : n ≡ 12 = grind (arith, nat_tests, is) in sym e)
+kind_at n false is within =
+    let below : n < 12 = grind (arith, nat_tests, is, within) in
+    let (kind, number_is, other) = other_of n below in
+    (kind, number_is)
+
+-- of no kind more than once more was counted
+pub few_more : (old new : KindsUsed) (more : Kind → Bool) (offset : ℕ) → AreFew old offset
+    → ((kind : Kind) → used_of new kind ≡ counted (used_of old kind) (more kind) offset) → AreFew new (offset + 1)
+few_more old new more offset few each n within =
+    let (kind, number_is) = kind_at n (n == 12) refl within in
+    let here = subst (λ (m : ℕ). used_at new m ≡ counted (used_at old m) (more kind) offset) number_is (each kind) in
+    rw here (one_more_few (used_at old n) (more kind) offset offset (few n within))
 
 all_none : (all : List (Option Times)) (n : ℕ) → ((k : ℕ) → k < n → slice_index_or all k None ≡ None)
     → IsTrue (list_all is_none (take n all))
@@ -321,7 +336,7 @@ module _ (first old : KindsWalk) (front : Front) (h : HasFoundKinds first front 
         next new.pen new.grip new.names (used_of new.used) offset at steps grips names uses)
 
 -- what is found in a whole content is told
-told : (z : Size) (content : List ℕ) (kind : Kind) (good : IsGood z all_known content) (found : Option Times)
+pub told : (z : Size) (content : List ℕ) (kind : Kind) (good : IsGood z all_known content) (found : Option Times)
     → IsFound z (spelled good.1.tokens good.1.reads.0) kind found → IsTold z content kind found
 told z content kind good None none =
     record { good = good; count_is = none; first = λ some. absurd (let no : ⊥ = omega (arith, some) in no) }

@@ -25,3 +25,8 @@ pub mod NamedPlayers
 mod LineEndBytes
 mod FullRowsFound
 mod FullRowsEnded
+mod KindsCounted
+mod Effects
+mod SurveyFound
+mod SeenPieces
+mod NoMoves

@@ -1,7 +1,9 @@
 -- Plain bytes: what walks ask of a printed byte is not so of them.
-use Rattle.std.proofs.Common.{◌≡◌, ℕ, ◌<◌, ◌≤◌, Bool, true, false, not, List, [], ◌∷◌, ◌++◌, refl, sym, ap, ◌∙◌, arith}
+use Rattle.std.proofs.Common.{◌≡◌, ℕ, ◌<◌, ◌≤◌, Bool, false, not, List, [], ◌∷◌, refl, arith, inl, inr}
 use Rattle.std.specs.Prelude.{IsTrue, ◌&&◌, ◌||◌, ◌==◌, nat_le, slice_index}
-use Rattle.std.proofs.lemmas.Bool.{and_parts, leb-true, leb-false, lt-leb, ne_eqb, not-true, or_from, or_parts, and_left}
+use Rattle.std.specs.Int.{is_in_range}
+use Rattle.std.proofs.lemmas.Bool.{and_cases, and_parts, leb-true, leb-false, lt-leb, ne_eqb, not-true, or_from}
+use Rattle.std.proofs.lemmas.Bool.{or_parts, and_left}
 use Rattle.std.proofs.lemmas.Bool.{and_right}
 use Rattle.ans_model.specs.Sequence.TokenKind.{Glyph}
 use Rattle.ans_model.specs.Screen.State.{Size, State}
@@ -10,8 +12,9 @@ use Rattle.ans_players.specs.Grips.{Stand}
 use Rattle.ans_players.specs.Names.{Names, are_both}
 use Rattle.ans_players.specs.Situations.{is_page_control, is_terminal_control, kind_if, situations, token_kinds}
 use Rattle.ans_players.specs.declared.kind.Kind.TheVariants.{OwnColours}
-use Rattle.ans_tokens.specs.Walk.{begins_plainly, is_foreign, is_plain}
-use Rattle.ans_walks.specs.Conditions.{begins_with_two_byte_letter, begins_with_wide, is_latin_letter}
+use Rattle.ans_tokens.specs.Walk.{begins_as_code, begins_plainly, is_foreign, is_plain}
+use Rattle.ans_walks.specs.Conditions.{begins_with_two_byte_letter, begins_with_pipe_number, begins_with_wide}
+use Rattle.ans_walks.specs.Conditions.{begins_with_x_number, is_latin_letter}
 use Rattle.ans_walks.specs.Conditions.{board_code, latin_letter, two_byte_letter, wide_character}
 use Rattle.ans_walks.proofs.KindsFound.{one}
 
@@ -34,28 +37,20 @@ module _ (b : ℕ) (plain : IsTrue (is_plain b)) where
   abbrev printed : Bool
   printed = nat_le 0x20 b
 
-  abbrev no_sign : Bool
-  no_sign = not (b == 0x40)
-
-  abbrev no_bar : Bool
-  no_bar = not (b == 0x7C)
-
   abbrev no_delete : Bool
   no_delete = not (b == 0x7F)
 
-  parts : IsTrue printed × (IsTrue no_sign × (IsTrue no_bar × (IsTrue no_delete × IsTrue (not (is_foreign b)))))
+  parts : IsTrue printed × (IsTrue no_delete × IsTrue (not (is_foreign b)))
   parts =
-      let last = and_parts (printed && no_sign && no_bar && no_delete) (not (is_foreign b)) plain in
-      let third = and_parts (printed && no_sign && no_bar) no_delete last.0 in
-      let second = and_parts (printed && no_sign) no_bar third.0 in
-      let first = and_parts printed no_sign second.0 in
-      (first.0, (first.1, (second.1, (third.1, last.1))))
+      let last = and_parts (printed && no_delete) (not (is_foreign b)) plain in
+      let first = and_parts printed no_delete last.0 in
+      (first.0, (first.1, last.1))
 
   low : 0x20 ≤ b
   low = leb-true 0x20 b parts.0
 
   below : b < 0xE0
-  below = (foreign_parts b parts.1.1.1.1).1
+  below = (foreign_parts b parts.1.1).1
 
   no_page : is_page_control b ≡ false
   no_page =
@@ -69,7 +64,7 @@ module _ (b : ℕ) (plain : IsTrue (is_plain b)) where
       let first = outside_above b 0x01 0x06 (omega (arith, low)) in
       let second = outside_above b 0x0E 0x19 (omega (arith, low)) in
       let third = outside_above b 0x1C 0x1F (omega (arith, low)) in
-      or_from _ (b == 0x7F) (or_from _ _ (or_from _ _ first second) third) (not-true (b == 0x7F) parts.1.1.1.0)
+      or_from _ (b == 0x7F) (or_from _ _ (or_from _ _ first second) third) (not-true (b == 0x7F) parts.1.0)
 
   pub no_kinds : (z : Size) (s : State) → token_kinds z s (Glyph b) ≡ []
   no_kinds z s = rw (no_page, no_terminal) refl
@@ -87,8 +82,41 @@ module _ (b : ℕ) (plain : IsTrue (is_plain b)) where
   pub no_wide_character : (z : Size) (s : State) (rest : List ℕ) → wide_character z s (Glyph b) rest ≡ false
   no_wide_character z s rest = no_wide rest
 
-  pub no_board_code : (z : Size) (s : State) (rest : List ℕ) → board_code z s (Glyph b) rest ≡ false
-  no_board_code z s rest = rw (not-true (b == 0x7C) parts.1.1.0, not-true (b == 0x40) parts.1.0) refl
+-- the bytes do not begin as a code
+no_x_number : (b : ℕ) (rest : List ℕ) → (b == 0x40 && slice_index rest 0 == 0x58) ≡ false
+    → (b == 0x40 && begins_with_x_number rest) ≡ false
+no_x_number b rest none = elim (and_cases (b == 0x40) (slice_index rest 0 == 0x58) none) [
+  | inl other ↦ and_left _ _ other
+  | inr no_x ↦ and_right (b == 0x40) (begins_with_x_number rest) (and_left _ _ (and_left _ _ no_x))
+]
+
+no_pipe_digit : (c second : ℕ) → is_in_range 0x30 0x39 c ≡ false
+    → (is_in_range 0x30 0x31 c || (c == 0x32 && is_in_range 0x30 0x33 second)) ≡ false
+no_pipe_digit c second none = elim (and_cases (nat_le 0x30 c) (nat_le c 0x39) none) [
+  | inl low ↦
+      let below = leb-false 0x30 c low in
+      or_from _ _ (outside_below c 0x30 0x31 below)
+      (and_left _ _ (other_than c 0x32 (λ e. absurd (omega (arith, e, below)))))
+  | inr high ↦
+      let above = leb-false c 0x39 high in
+      or_from _ _ (outside_above c 0x30 0x31 (omega (arith, above)))
+      (and_left _ _ (other_than c 0x32 (λ e. absurd (omega (arith, e, above)))))
+]
+
+no_pipe_number : (b : ℕ) (rest : List ℕ) → (b == 0x7C && is_in_range 0x30 0x39 (slice_index rest 0)) ≡ false
+    → (b == 0x7C && begins_with_pipe_number rest) ≡ false
+no_pipe_number b rest none = elim (and_cases (b == 0x7C) (is_in_range 0x30 0x39 (slice_index rest 0)) none) [
+  | inl other ↦ and_left _ _ other
+  | inr no_digit ↦ and_right (b == 0x7C) (begins_with_pipe_number rest)
+      (and_right _ _ (no_pipe_digit (slice_index rest 0) (slice_index rest 1) no_digit))
+]
+
+pub no_board_code : (b : ℕ) (z : Size) (s : State) (rest : List ℕ) → begins_as_code (b ∷ rest) ≡ false
+    → board_code z s (Glyph b) rest ≡ false
+no_board_code b z s rest none =
+    let parts = or_parts (b == 0x40 && slice_index rest 0 == 0x58)
+    (b == 0x7C && is_in_range 0x30 0x39 (slice_index rest 0)) none in
+    or_from _ _ (no_pipe_number b rest parts.1) (no_x_number b rest parts.0)
 
 no_two_bytes : (rest : List ℕ) → IsTrue (begins_plainly rest) → begins_with_two_byte_letter rest ≡ false
 no_two_bytes [] h = refl

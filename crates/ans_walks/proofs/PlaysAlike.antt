@@ -1,11 +1,11 @@
 -- Plays that stand alike go on alike.
-use Rattle.std.proofs.Common.{◌≡◌, ℕ, zero, suc, ◌+◌, Bool, true, false, List, [], ◌∷◌, ◌++◌, refl, sym, ap, ap₂, ◌∙◌, subst}
+use Rattle.std.proofs.Common.{◌≡◌, ℕ, zero, suc, ◌+◌, Bool, true, false, List, [], ◌∷◌, ◌++◌, refl, ap, ap₂, ◌∙◌, subst}
 use Rattle.std.proofs.Common.{fold, replicate, take, Some}
 use Rattle.std.specs.Prelude.{IsTrue, slice_get, nat_lt, ◌==◌, ◌&&◌, if◌then◌else◌, not}
 use Rattle.std.specs.List.{list_all}
 use Rattle.ans_model.specs.Bytes.{blank}
 use Rattle.ans_model.specs.Sequence.TokenKind.{TokenKind, Glyph, Tab, LineFeed, CarriageReturn, Down, Forward, Clear}
-use Rattle.ans_model.specs.Sequence.TokenKind.{EraseLine, Save, Restore, Colours, Wrap, Bell}
+use Rattle.ans_model.specs.Sequence.TokenKind.{EraseLine, Save, Restore, Colours, Wrap}
 use Rattle.ans_model.specs.Screen.Attribute.{attribute_after_all}
 use Rattle.ans_model.specs.Screen.State.{Size, State, at}
 use Rattle.ans_model.specs.Screen.Step.{step, destination, line_feed, advanced, printed, put, tab_blanks, scrolled}

@@ -1,18 +1,18 @@
 -- The hints of a run of plain bytes.
-use Rattle.std.proofs.Common.{◌≡◌, ℕ, zero, suc, ◌+◌, ◌-◌, ◌<◌, ◌≤◌, Bool, true, false, not, List, [], ◌∷◌, length}
+use Rattle.std.proofs.Common.{◌≡◌, ℕ, zero, suc, ◌+◌, ◌-◌, ◌<◌, Bool, true, false, not, List, [], ◌∷◌, length}
 use Rattle.std.proofs.Common.{refl, sym, ap, ap₂, ◌∙◌, subst, arith, Option, get_or}
-use Rattle.std.specs.Prelude.{IsTrue, ◌&&◌, ◌==◌, min, nat_le, if◌then◌else◌}
+use Rattle.std.specs.Prelude.{◌&&◌, ◌==◌, min, nat_le}
 use Rattle.std.proofs.lemmas.Bool.{ne_eqb}
 use Rattle.ans_model.specs.Bytes.{IsByte}
 use Rattle.ans_model.specs.Sequence.TokenKind.{Glyph}
-use Rattle.ans_model.specs.Screen.State.{Size, State, at}
-use Rattle.ans_tokens.specs.Walk.{Front, IsRunNext, front_past, is_plain, begins_plainly}
+use Rattle.ans_model.specs.Screen.State.{State}
+use Rattle.ans_tokens.specs.Walk.{Front, IsRunNext, front_past}
 use Rattle.ans_tokens.proofs.Runs.{IsByteNext, KeptByBytes, kept_past}
-use Rattle.ans_walks.specs.Conditions.{board_code, is_seen, latin_letter, two_byte_letter, wide_character}
+use Rattle.ans_walks.specs.Conditions.{is_seen}
 use Rattle.ans_walks.specs.Counted.{counted, counted_along, counted_times}
 use Rattle.ans_walks.specs.Pens.{further, pen_of}
 use Rattle.ans_walks.specs.RowEnds.{is_stuck, printed_behind, row_with, with_glyph, wraps}
-use Rattle.ans_walks.specs.Walks.{HasWalked, StaysInRow, dark_at, hints_past, hints_with, seen_at}
+use Rattle.ans_walks.specs.Walks.{HasWalked, StaysInRow, dark_at, hints_with, seen_at, walk_past}
 use Rattle.ans_walks.specs.declared.hints.Hints.{Hints}
 use Rattle.ans_walks.specs.declared.pen.Pen.{Pen}
 use Rattle.ans_walks.specs.declared.row.Row.{Row}
@@ -137,7 +137,7 @@ module _ (first old : Walk) (front : Front) (run behind : List ℕ) (offset : �
         (not_so old.hints.wide_characters _ (offset + k) (no_wide_character byte n.plain old.size s rest))
         (not_so old.hints.two_byte_letters _ (offset + k + 1) (no_two_byte_letter byte old.size s rest n.ends))
         (not_so old.hints.latin_letters _ (offset + k + 1) (no_latin_letter byte old.size s rest n.ends))
-        (not_so old.hints.board_codes _ (offset + k) (no_board_code byte n.plain old.size s rest))
+        (not_so old.hints.board_codes _ (offset + k) (no_board_code byte old.size s rest n.no_code))
         (times_suc old.hints.blinking_glyphs blinks k offset
         ∙ ap (λ (p : Pen). counted (counted_times old.hints.blinking_glyphs blinks k offset)
         (not old.non_blink && nat_le 0x80 p.attribute) (offset + k)) here)
@@ -150,8 +150,13 @@ module _ (first old : Walk) (front : Front) (run behind : List ℕ) (offset : �
   step_by_byte : KeptByBytes (λ k front. HasWalked first front true (walk_at k)) offset run behind
   step_by_byte k byte front rest n h =
       walked_token first (walk_at k) front (Glyph byte) (byte ∷ []) rest h n.whole (walk_at (suc k)) (offset + k) n.starts
-      refl refl (λ s e. byte_further old.size old.pen k byte (omega (arith, n.within, stays.stays)) s e)
-      (λ s e. row_is k byte front rest n s e) (λ s e. hints_is k byte front rest n s e)
+      (record {
+        size = refl;
+        non_blink = refl;
+        pen = λ s e. byte_further old.size old.pen k byte (omega (arith, n.within, stays.stays)) s e;
+        row = λ s e. row_is k byte front rest n s e;
+        hints = λ s e. hints_is k byte front rest n s e;
+      })
 
   begins : HasWalked first front true (walk_at 0)
   begins =
@@ -160,12 +165,8 @@ module _ (first old : Walk) (front : Front) (run behind : List ℕ) (offset : �
       (times_zero old.hints.blinking_glyphs blinks offset))) h
 
   -- after the whole run, which has a byte
-  walk_past : (k : ℕ) → length run ≡ suc k → walk_at (length run) ≡ record old {
-    pen = further old.pen (length run);
-    row = record old.row { seam = Other };
-    hints = hints_past old run offset;
-  }
-  walk_past k long = ap₂ (λ (row : Row) (m : RowEnds × ℕ). record old {
+  is_past : (k : ℕ) → length run ≡ suc k → walk_at (length run) ≡ walk_past old run offset
+  is_past k long = ap₂ (λ (row : Row) (m : RowEnds × ℕ). record old {
     pen = further old.pen (length run);
     row = row;
     hints = record old.hints {
@@ -181,12 +182,9 @@ module _ (first old : Walk) (front : Front) (run behind : List ℕ) (offset : �
   one_before zero some = absurd (omega (arith, some))
   one_before (suc k) some = (k, refl)
 
-  pub walked_run : 0 < length run → (new : Walk) → new ≡ record old {
-    pen = further old.pen (length run);
-    row = record old.row { seam = Other };
-    hints = hints_past old run offset;
-  } → HasWalked first (front_past front run behind) true new
+  pub walked_run : 0 < length run → (new : Walk) → new ≡ walk_past old run offset
+      → HasWalked first (front_past front run behind) true new
   walked_run some new is =
       let (k, long) = one_before (length run) some in
-      subst (λ (w : Walk). HasWalked first (front_past front run behind) true w) (walk_past k long ∙ sym is)
+      subst (λ (w : Walk). HasWalked first (front_past front run behind) true w) (is_past k long ∙ sym is)
       (kept_past (λ k front. HasWalked first front true (walk_at k)) offset run behind front bytes step_by_byte next begins)

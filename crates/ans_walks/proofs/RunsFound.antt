@@ -1,27 +1,26 @@
 -- The kinds that arise at a run of plain bytes.
-use Rattle.std.proofs.Common.{◌≡◌, ℕ, zero, suc, ◌+◌, ◌<◌, Bool, true, false, not, List, [], ◌∷◌, ◌++◌, length, get_or}
-use Rattle.std.proofs.Common.{refl, sym, ap, ap₂, ◌∙◌, subst, arith, Option, None, Some}
+use Rattle.std.proofs.Common.{◌≡◌, ℕ, suc, ◌+◌, ◌<◌, Bool, true, not, List, [], ◌∷◌, length, get_or}
+use Rattle.std.proofs.Common.{refl, sym, ap, ap₂, ◌∙◌, subst, arith, Option}
 use Rattle.std.specs.Prelude.{IsTrue}
 use Rattle.std.proofs.lemmas.Bool.{false≢true}
-use Rattle.std.specs.List.{concat, list_all, list_any}
+use Rattle.std.specs.List.{list_all, list_any}
 use Rattle.ans_model.specs.Bytes.{IsByte}
 use Rattle.ans_model.specs.Sequence.TokenKind.{Glyph}
 use Rattle.ans_model.specs.Screen.State.{Size, State}
-use Rattle.ans_players.specs.Grips as grip
 use Rattle.ans_players.specs.Kinds.{is_kind}
 use Rattle.ans_players.specs.Names.{are_both}
 use Rattle.ans_players.specs.Situations.{kind_if, situations, spelled}
 use Rattle.ans_players.specs.declared.kind.Kind.{Kind}
 use Rattle.ans_players.specs.declared.kind.Kind.TheVariants.{OwnColours}
 use Rattle.ans_tokens.specs.Walk.{Front, IsRunNext, front_past, is_plain}
-use Rattle.ans_tokens.proofs.Runs.{IsByteNext, KeptByBytes, kept_past}
+use Rattle.ans_tokens.proofs.Runs.{KeptByBytes, kept_past}
 use Rattle.ans_walks.specs.CalmWalked.{HasStayedCalm, StaysCalmInRow}
 use Rattle.ans_walks.specs.Counted.{counted, counted_times}
 use Rattle.ans_walks.specs.KindsUsed.{is_used, used_of}
 use Rattle.ans_walks.specs.KindsWalked.{HasFoundKinds, IsFound, StaysFirmInRow}
 use Rattle.ans_walks.specs.GripsShown.{shown_grip}
 use Rattle.ans_walks.specs.NamesShown.{shown_names}
-use Rattle.ans_walks.specs.Pens.{further, pen_of}
+use Rattle.ans_walks.specs.Pens.{further}
 use Rattle.ans_walks.specs.Walkers.{HasMoved, HasPlayed, StayInRows, StaysAbove}
 use Rattle.ans_walks.specs.declared.calm.CalmWalk.{CalmWalk}
 use Rattle.ans_walks.specs.declared.grip.Grip.TheVariants.{Firm}

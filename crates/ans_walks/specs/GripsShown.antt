@@ -1,7 +1,6 @@
 -- The program's grips and situations as those of the definitions. Only private contracts cite them.
-use Rattle.std.specs.Prelude.{ℕ, Bool, ◌==◌, List, [], ◌∷◌, ◌++◌, Option, None, Some}
+use Rattle.std.specs.Prelude.{List, [], ◌∷◌, ◌++◌, Option, None, Some}
 use Rattle.ans_players.specs.Grips as grip
-use Rattle.ans_players.specs.Kinds.{kind_number}
 use Rattle.ans_players.specs.Situations.{kind_if}
 use Rattle.ans_players.specs.declared.kind.Kind.{Kind}
 use Rattle.ans_walks.specs.declared.grip.Grip.{Grip}
@@ -25,7 +24,3 @@ kinds_in (Some kind) = kind ∷ []
 -- all kinds of the situations, in the order of the definition
 abbrev pub kinds_of : Situations → List Kind
 kinds_of s = kinds_in s.loose ++ ((kinds_in s.own ++ kinds_in s.other) ++ kind_if s.unnamed OwnColours)
-
--- the kind has this number
-abbrev pub has_number : ℕ → Kind → Bool
-has_number number kind = number == kind_number kind

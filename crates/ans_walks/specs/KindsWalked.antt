@@ -1,5 +1,6 @@
 -- What the walk over the kinds in which players part has found so far. Only private contracts cite it.
 use Rattle.std.specs.Prelude.{◌≡◌, ℕ, ◌+◌, ◌<◌, ◌≤◌, Bool, is_none, IsTrue, List, ◌++◌, length, take, Option, None, Some}
+use Rattle.std.specs.Prelude.{not, ◌&&◌, ◌||◌, ◌==◌}
 use Rattle.std.specs.List.{concat, list_all}
 use Rattle.ans_model.specs.Screen.State.{Size}
 use Rattle.ans_model.specs.Screen.StartClass.{cleared}
@@ -8,6 +9,7 @@ use Rattle.ans_players.specs.Named.{ArisesFirst, times_cleared}
 use Rattle.ans_players.specs.Situations.{Spelled, spelled, stand_of}
 use Rattle.ans_players.specs.declared.kind.Kind.{Kind}
 use Rattle.ans_tokens.specs.Walk.{Front}
+use Rattle.ans_tokens.specs.declared.colours.ColourSequence.{ColourSequence}
 use Rattle.ans_walks.specs.Counted.{count_of}
 use Rattle.ans_walks.specs.GripsShown.{shown_grip}
 use Rattle.ans_walks.specs.NamesShown.{shown_names}
@@ -67,3 +69,9 @@ pub record IsReadyFor (walk : KindsWalk) (offset : ℕ) : Type 0 where
 pub record StaysFirmInRow (walk : KindsWalk) (count : ℕ) : Type 0 where
   pub firm : walk.grip ≡ Firm
   pub stays : walk.pen.cursor.column + count < walk.size.width
+
+-- players may part at a sequence of colours: not all its numbers are common, or one is omitted, and it is none that
+-- leaves white on black as it is
+abbrev pub parts_at : Bool → Bool → ColourSequence → Bool
+parts_at are_common is_grey colours =
+    not are_common || (colours.omits && not (is_grey && list_all (λ n. n == 0) colours.numbers.now))

@@ -19,5 +19,6 @@ pub mod GripsShown
 pub mod NamesShown
 pub mod KindsUsed
 pub mod KindsWalked
+pub mod Surveyed
 pub mod CalmWalked
 pub mod SaidOfPlayers

@@ -3,18 +3,20 @@ use Rattle.std.specs.Prelude.{◌≡◌, ℕ, ◌+◌, ◌-◌, ◌<◌, ◌≤�
 use Rattle.std.specs.Prelude.{IsTrue}
 use Rattle.ans_model.specs.Sequence.TokenKind.{TokenKind}
 use Rattle.ans_model.specs.Screen.State.{State}
-use Rattle.ans_model.specs.Screen.Step.{final}
+use Rattle.ans_model.specs.Screen.Step.{final, step}
 use Rattle.ans_model.specs.Screen.StartClass.{cleared}
-use Rattle.ans_walks.specs.Pens.{pen_of, StandsOn}
+use Rattle.ans_walks.specs.Pens.{further, pen_of, StandsOn}
 use Rattle.ans_tokens.specs.Walk.{Front}
 use Rattle.ans_walks.specs.Conditions.{loose_line_feed, wide_character, two_byte_letter, latin_letter, board_code}
 use Rattle.ans_walks.specs.Conditions.{later_colours, blinking_glyph, dark_glyph, is_seen, seen_glyph}
-use Rattle.ans_walks.specs.RowEnds.{CountsRows, is_stuck, nothing_written, printed_behind, row_ends_with, written_after}
+use Rattle.ans_walks.specs.RowEnds.{CountsRows, is_stuck, nothing_written, printed_behind, row_ends_with, row_with}
+use Rattle.ans_walks.specs.RowEnds.{written_after}
 use Rattle.ans_walks.specs.Counted.{count_of, counted, counted_along, counted_times}
 use Rattle.ans_walks.specs.Hints.{AreHints}
 use Rattle.ans_walks.specs.RowMoves.{moved_with}
 use Rattle.ans_walks.specs.Rows.{empty_with}
 use Rattle.ans_walks.specs.declared.hints.Hints.{Hints}
+use Rattle.ans_walks.specs.declared.row.Seam.TheVariants.{Other}
 use Rattle.ans_walks.specs.declared.walk.Walk.{Walk}
 
 -- the hints with one token more, which stands at this offset in this state, before these bytes
@@ -53,6 +55,14 @@ hints_past walk run offset = record walk.hints {
   empty_rows = min walk.hints.empty_rows (walk.size.lines - (walk.pen.cursor.row + 1));
 }
 
+-- the walk after such a run
+abbrev pub walk_past : Walk → List ℕ → ℕ → Walk
+walk_past walk run offset = record walk {
+  pen = further walk.pen (length run);
+  row = record walk.row { seam = Other };
+  hints = hints_past walk run offset;
+}
+
 -- so many bytes that are printed next stay in their row, and none is printed over another
 pub record StaysInRow (walk : Walk) (count : ℕ) : Type 0 where
   pub loose : is_stuck walk.row.seam ≡ false
@@ -76,6 +86,15 @@ pub record IsAt (walk : Walk) (offset : ℕ) : Type 0 where
   pub stands : StandsOn walk.size walk.pen
   pub within : CountsWithin walk.hints offset
   pub wraps : walk.row.wraps ≤ offset
+
+-- The first walk has gone over one token more, which stands at this offset before these bytes, and has become the
+-- other.
+pub record GoesOver (old new : Walk) (offset : ℕ) (t : TokenKind) (rest : List ℕ) : Type 0 where
+  pub size : new.size ≡ old.size
+  pub non_blink : new.non_blink ≡ old.non_blink
+  pub pen : (s : State) → old.pen ≡ pen_of s → new.pen ≡ pen_of (step old.size s t)
+  pub row : (s : State) → old.pen ≡ pen_of s → new.row ≡ row_with old.size s offset old.row t
+  pub hints : (s : State) → old.pen ≡ pen_of s → new.hints ≡ hints_with old s offset t rest
 
 -- Over the front the first walk has become the other, which goes on: it is the play of the front's tokens, and has
 -- their hints.

@@ -12,21 +12,30 @@ ghost use Rattle.ans_players.specs.declared.kind.Kind.{Kind};
 ghost use Rattle.ans_walks.specs.Counted.{counted, counted_times};
 ghost use Rattle.ans_walks.specs.GripsShown.{kinds_in, kinds_of};
 ghost use Rattle.ans_walks.specs.KindsUsed.{IsTold, is_used, used_of, words_used};
-ghost use Rattle.ans_players.specs.declared.kind.Kind.TheVariants.{OwnColours as own_colours};
-ghost use Rattle.ans_walks.specs.KindsWalked.{AreFew, has_no_others};
+ghost use Rattle.ans_players.specs.declared.kind.Kind.TheVariants.{DosColours, OwnColours as own_colours};
+ghost use Rattle.ans_walks.specs.KindsWalked.{AreFew, has_no_others, parts_at};
 
 use crate::grip::Grip;
+use crate::ink::Inked;
 use crate::names::Names;
 use crate::pen::Pen;
-use crate::situations::Situations;
+use crate::situations::{Situations, are_zero, kind_if, unless};
 use crate::times::{Times, count, count_times};
 use ans_model::size::Size;
 use ans_players::kind::Kind as PlayerKind;
-use ans_tokens::{Token, Walker, walk};
+use ans_tokens::{ColourSequence, Token, Walker, walk};
 use arrayvec::ArrayVec;
 
 /// The number of own colours, the last of the kinds.
 const OWN_COLOURS: usize = 12;
+
+/// Whether players may part at a sequence of colours.
+#[inline(always)]
+fn parts_at(are_common: bool, is_grey: bool, colours: &ColourSequence<'_>) -> bool
+    ensures { result ≡ parts_at are_common is_grey colours.now }
+{
+    !are_common || (colours.omits && !(is_grey && are_zero(colours.numbers)))
+}
 
 /// How often each kind in which players part arises in a content, and where first.
 #[derive(Debug, Clone, Copy, PartialEq, Eq)]
@@ -36,7 +45,7 @@ pub struct KindsUsed {
 }
 
 impl KindsUsed {
-    const NONE: KindsUsed = KindsUsed { times: [None; 13] };
+    pub(crate) const NONE: KindsUsed = KindsUsed { times: [None; 13] };
 
     /// How often this kind arises, and where first, in bytes from the content's start. None where it
     /// never does.
@@ -96,9 +105,40 @@ impl KindsUsed {
             && (!situations.unnamed || self.times[OWN_COLOURS].is_some())
     }
 
-    /// One time more of each kind of the situations.
-    #[cold]
-    #[inline(never)]
+    /// One time more of a kind, if there is one.
+    #[inline(always)]
+    fn count_kind(&mut self, some: Option<PlayerKind>, offset: usize)
+        requires few { AreFew self.old longest_file }
+        ensures used { (kind : Kind) → used_of self.new kind
+            ≡ counted (used_of self.old kind) (list_any (is_kind kind) (kinds_in some)) offset }
+    {
+        if let Some(kind) = some {
+            count(&mut self.times[kind.number()], true, offset);
+        }
+    }
+
+    /// One time more of DOS colours if players may part at a sequence of colours: not all its numbers are
+    /// common, or one is omitted, and then they are not all 0 in white on black.
+    #[inline(always)]
+    pub(crate) fn count_colours(
+        &mut self,
+        is_grey: bool,
+        are_common: bool,
+        colours: &ColourSequence<'_>,
+    )
+        requires room { colours.now.start < longest_file }
+        requires few { AreFew self.old colours.now.start }
+        ensures few { AreFew self.new (colours.now.start + 1) }
+        ensures used { (kind : Kind) → used_of self.new kind ≡ counted (used_of self.old kind)
+            (list_any (is_kind kind) (kind_if (parts_at are_common is_grey colours.now) DosColours))
+            colours.now.start }
+    {
+        let may_part = parts_at(are_common, is_grey, colours);
+        self.count_kind(kind_if(may_part, PlayerKind::DosColours), colours.start);
+    }
+
+    /// One time more of each kind of the situations. One that they have twice counts once.
+    #[inline(always)]
     fn count_each(&mut self, situations: &Situations, offset: usize)
         requires room { offset < longest_file }
         requires few { AreFew self.old offset }
@@ -106,14 +146,22 @@ impl KindsUsed {
         ensures used { (kind : Kind) → used_of self.new kind
             ≡ counted (used_of self.old kind) (list_any (is_kind kind) (kinds_of situations.now)) offset }
     {
-        for number in 0..self.times.len() {
-            situations.count(&mut self.times[number], number, offset);
-        }
+        let Situations {
+            loose,
+            own,
+            other,
+            ..
+        } = *situations;
+        let unnamed = kind_if(situations.unnamed, PlayerKind::OwnColours);
+        self.count_kind(loose, offset);
+        self.count_kind(unless(own, loose), offset);
+        self.count_kind(unless(unless(other, own), loose), offset);
+        self.count_kind(unless(unless(unless(unnamed, other), own), loose), offset);
     }
 
     /// Own colours arise at each of so many bytes from this offset on, or nothing does.
     #[inline(always)]
-    fn count_run(&mut self, is_unnamed: bool, more: usize, offset: usize)
+    pub(crate) fn count_run(&mut self, is_unnamed: bool, more: usize, offset: usize)
         requires room { offset + more ≤ longest_file }
         requires few { AreFew self.old offset }
         ensures few { AreFew self.new (offset + more) }
@@ -126,7 +174,7 @@ impl KindsUsed {
 
     /// The kinds that arise at a token at this offset count; mostly none does but own colours.
     #[inline(always)]
-    fn count(&mut self, situations: &Situations, offset: usize)
+    pub(crate) fn count(&mut self, situations: &Situations, offset: usize)
         requires room { offset < longest_file }
         requires few { AreFew self.old offset }
         ensures few { AreFew self.new (offset + 1) }
@@ -187,6 +235,16 @@ impl Walker for KindsWalk<'_> {
         self.pen.step(self.size, kind);
         self.grip = self.grip.after(before, &self.pen, kind);
         self.names = self.names.after(kind);
+        true
+    }
+
+    #[inline(always)]
+    fn colours(&mut self, colours: &ColourSequence<'_>, _behind: &[u8]) -> bool {
+        let is_grey = self.pen.attribute == 0x07;
+        let inked = Inked::by(self.pen.attribute, self.names, colours.numbers);
+        self.used.count_colours(is_grey, inked.are_common, colours);
+        self.pen.attribute = inked.attribute;
+        self.names = inked.names;
         true
     }
 

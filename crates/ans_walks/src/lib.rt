@@ -7,8 +7,8 @@
 //! [`Hints::of`] counts what is worth a look in a drawing, though it changes no verdict. [`kinds_used`]
 //! counts the kinds in which players part that a drawing makes use of, [`Players::of`] says on which
 //! players and from which starts it shows its picture, and [`is_same_where_cleared`] whether from every
-//! start as from the cleared one.
-//! Nothing here takes memory. What is proved of these walks is in `ans_play_laws`.
+//! start as from the cleared one. [`Overview::of`] tells hints, players and taller screens together, with
+//! fewer walks. Nothing here takes memory. What is proved of these walks is in `ans_play_laws`.
 //!
 //! A `Pen` is all of a state but its cells. No cell tells where a token takes it, so it goes on without
 //! them, also where the screen scrolls (`specs/Pens.antt`). What each hint is about stands in
@@ -22,6 +22,7 @@ mod evidence;
 mod full_row_ends;
 mod grip;
 mod hints;
+mod ink;
 mod kinds;
 mod lines;
 mod names;
@@ -32,6 +33,7 @@ mod row_ends;
 mod row_play;
 mod seen;
 mod situations;
+mod survey;
 mod taller;
 mod times;
 mod two_watches;
@@ -50,5 +52,6 @@ pub use row::{EndedRow, Row, Seam};
 pub use row_ends::{RowEnds, RowsOver, WiderRows};
 pub use row_play::RowPlay;
 pub use situations::omits_number;
+pub use survey::Overview;
 pub use taller::is_taller;
 pub use times::Times;

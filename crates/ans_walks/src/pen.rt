@@ -5,6 +5,7 @@ ghost use Rattle.ans_model.specs.Bytes.{blank};
 ghost use Rattle.ans_model.specs.Screen.State.{Size, State};
 ghost use Rattle.ans_model.specs.Screen.Step.{advanced, line_feed, put, step};
 ghost use Rattle.ans_model.specs.Inside.ShownKind.{shown_kind};
+ghost use Rattle.ans_model.specs.Sequence.TokenKind.{Colours};
 ghost use Rattle.ans_walks.specs.Pens.{pen_of, cleared_pen, before_last_blank, further, glyph_wraps, StandsOn};
 
 use ans_model::attribute::attribute_after_all;
@@ -121,6 +122,16 @@ impl Pen {
         let blanks = tab_blanks(self.cursor.column) - 1;
         last.blanks(size, blanks);
         last.cursor.row
+    }
+
+    /// A sequence of colours of these numbers.
+    #[inline(always)]
+    pub(crate) fn colour(&mut self, numbers: &[u8])
+        ensures stands { (z : Size) → StandsOn z self.old → StandsOn z self.new }
+        ensures pen { (z : Size) (s : State) → self.old ≡ pen_of s
+            → self.new ≡ pen_of (step z s (Colours numbers.now)) }
+    {
+        self.attribute = attribute_after_all(self.attribute, numbers);
     }
 
     /// One token, by the table of steps.

@@ -3,6 +3,8 @@
 ghost use Rattle.std.specs.Prelude.{◌≤◌, ◌↔◌, IsTrue, length};
 ghost use Rattle.ans_model.specs.Bytes.{longest_file};
 ghost use Rattle.ans_model.specs.Verdict.Needs.{IsLeast};
+ghost use Rattle.ans_players.specs.declared.kind.Kind as declared;
+ghost use Rattle.ans_walks.specs.KindsUsed.{IsTold, used_of};
 ghost use Rattle.ans_walks.specs.SaidOfPlayers.{IsSaidOfPlayers, IsSameWhereCleared};
 
 use crate::calm::least_class_for_players;
@@ -33,7 +35,16 @@ impl Players {
         requires needs { IsLeast size content.now needs }
         ensures { IsSaidOfPlayers size content.now result }
     {
-        let used = kinds_used(size, content);
+        Players::by(size, needs, kinds_used(size, content), content)
+    }
+
+    /// The same, from what is told of each kind: how often it arises from the cleared start, and where first.
+    pub(crate) fn by(size: Size, needs: Start, used: KindsUsed, content: &[u8]) -> Players
+        requires length { length content.now ≤ longest_file }
+        requires needs { IsLeast size content.now needs }
+        requires told { (kind : declared.Kind) → IsTold size content.now kind (used_of used kind) }
+        ensures { IsSaidOfPlayers size content.now result }
+    {
         if !used.are_own_colours_at_most() {
             return Players::Agreeing(used);
         }

@@ -8,14 +8,34 @@ ghost use Rattle.ans_walks.specs.Walks.{dark_at, seen_at};
 use crate::conditions::is_seen;
 use crate::times::{Times, count};
 
+/// How many bytes a piece of a run has at most: so few that a byte counts them, and many are looked at at
+/// once.
+const PIECE: usize = 240;
+
+/// How many of the bytes of a piece are seen.
+fn seen_in_piece(piece: &[u8]) -> u8
+    requires { length piece.now ≤ 240 }
+    ensures count { result ≡ so_many (seen_at piece.now) (length piece.now) }
+    ensures within { result ≤ length piece.now }
+{
+    let mut seen = 0u8;
+    for i in 0..piece.len() {
+        seen += u8::from(is_seen(piece[i]));
+    }
+    seen
+}
+
 /// How many of the bytes are seen.
 fn seen_in(run: &[u8]) -> usize
     ensures count { result ≡ so_many (seen_at run.now) (length run.now) }
     ensures within { result ≤ length run.now }
 {
     let mut seen = 0;
-    for i in 0..run.len() {
-        seen += usize::from(is_seen(run[i]));
+    let mut at = 0;
+    while at < run.len() {
+        let end = run.len().min(at + PIECE);
+        seen += usize::from(seen_in_piece(&run[at..end]));
+        at = end;
     }
     seen
 }

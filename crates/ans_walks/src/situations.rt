@@ -1,22 +1,23 @@
 //! In which kinds players may part at a token.
 
-ghost use Rattle.std.specs.Prelude.{◌≡◌, ◌+◌, ◌≤◌, ◌==◌, ◌||◌, ◌&&◌, ◌++◌, ◌↔◌, IsTrue};
+ghost use Rattle.std.specs.Prelude.{◌≡◌, ◌==◌, ◌||◌, ◌&&◌, ◌++◌, ◌↔◌, not, IsTrue};
 ghost use Rattle.std.specs.List.{list_all, list_any};
-ghost use Rattle.ans_model.specs.Bytes.{bracket, longest_file, semicolon};
+ghost use Rattle.ans_model.specs.Bytes.{bracket, semicolon};
 ghost use Rattle.ans_model.specs.Screen.State.{State};
 ghost use Rattle.ans_model.specs.Inside.ShownKind.{shown_kind};
 ghost use Rattle.ans_players.specs.Situations.{is_common_colour, is_page_control, is_terminal_control, kind_if};
-ghost use Rattle.ans_players.specs.Situations.{omits, own_kinds, situations};
-ghost use Rattle.ans_walks.specs.Counted.{count_of, counted};
+ghost use Rattle.ans_model.specs.Sequence.Spelling.{omits};
+ghost use Rattle.ans_players.specs.Situations.{own_kinds, situations};
+ghost use Rattle.ans_players.specs.Kinds.{is_kind};
+ghost use Rattle.ans_players.specs.declared.kind.Kind.{Kind as PlayerKind};
 ghost use Rattle.ans_players.specs.declared.kind.Kind.TheVariants.{OwnColours};
-ghost use Rattle.ans_walks.specs.GripsShown.{has_number, kinds_in, kinds_of, shown_grip};
+ghost use Rattle.ans_walks.specs.GripsShown.{kinds_in, kinds_of, shown_grip};
 ghost use Rattle.ans_walks.specs.NamesShown.{shown_names};
 ghost use Rattle.ans_walks.specs.Pens.{pen_of, StandsOn};
 
 use crate::grip::Grip;
 use crate::names::{Names, paints};
 use crate::pen::Pen;
-use crate::times::{Times, count};
 use ans_model::kind::Kind;
 use ans_model::size::Size;
 use ans_players::kind::Kind as PlayerKind;
@@ -44,7 +45,7 @@ fn are_common_colours(numbers: &[u8]) -> bool
     numbers.iter().all(|number| is_common_colour(*number))
 }
 
-fn are_zero(numbers: &[u8]) -> bool
+pub(crate) fn are_zero(numbers: &[u8]) -> bool
     ensures { result ≡ list_all (λ n. n == 0) numbers.now }
 {
     numbers.iter().all(|number| *number == 0)
@@ -88,7 +89,8 @@ pub fn omits_number(text: &[u8]) -> bool
     false
 }
 
-fn kind_if(test: bool, kind: PlayerKind) -> Option<PlayerKind>
+#[inline(always)]
+pub(crate) fn kind_if(test: bool, kind: PlayerKind) -> Option<PlayerKind>
     ensures { kinds_in result ≡ kind_if test kind }
 {
     if test { Some(kind) } else { None }
@@ -139,13 +141,26 @@ fn own_kinds(
     }
 }
 
-/// Whether it is the kind of this number.
-fn is_in(some: Option<PlayerKind>, number: usize) -> bool
-    ensures { result ≡ list_any (has_number number) (kinds_in some) }
+/// Whether it is this kind.
+#[inline(always)]
+fn is_kind(some: Option<PlayerKind>, kind: PlayerKind) -> bool
+    ensures { result ≡ list_any (is_kind kind) (kinds_in some) }
 {
     match some {
-        Some(kind) => number == kind.number(),
+        Some(other) => kind.number() == other.number(),
         None => false,
+    }
+}
+
+/// The kind, unless it is the other one.
+#[inline(always)]
+pub(crate) fn unless(some: Option<PlayerKind>, other: Option<PlayerKind>) -> Option<PlayerKind>
+    ensures { (kind : PlayerKind) → list_any (is_kind kind) (kinds_in result)
+        ≡ (not (list_any (is_kind kind) (kinds_in other)) && list_any (is_kind kind) (kinds_in some)) }
+{
+    match some {
+        Some(kind) if is_kind(other, kind) => None,
+        _ => some,
     }
 }
 
@@ -186,25 +201,5 @@ impl Situations {
         ensures { IsTrue result ↔ (kinds_of self.now ≡ kind_if self.now.unnamed OwnColours) }
     {
         self.loose.is_none() && self.own.is_none() && self.other.is_none()
-    }
-
-    /// One time more of the kind of this number at this offset, where it arises.
-    pub(crate) fn count(&self, times: &mut Option<Times>, number: usize, offset: usize)
-        requires { count_of times.old ≤ longest_file }
-        ensures value { times.new
-            ≡ counted times.old (list_any (has_number number) (kinds_of self.now)) offset }
-        ensures within { count_of times.new ≤ count_of times.old + 1 }
-    {
-        count(times, self.have(number), offset);
-    }
-
-    /// Whether the kind of this number arises.
-    fn have(&self, number: usize) -> bool
-        ensures { result ≡ list_any (has_number number) (kinds_of self.now) }
-    {
-        is_in(self.loose, number)
-            || is_in(self.own, number)
-            || is_in(self.other, number)
-            || (self.unnamed && number == PlayerKind::OwnColours.number())
     }
 }

@@ -13,7 +13,7 @@ use crate::watch::Watch;
 use ans_model::kind::Kind;
 use ans_model::size::Size;
 use ans_model::start::Start;
-use ans_tokens::{Token, Walker, walk};
+use ans_tokens::{ColourSequence, Token, Walker, walk};
 
 /// Whether a token is no move up or down, or one that nothing stops, where the cursors of the low and
 /// the high start stand so.
@@ -61,6 +61,13 @@ impl Walker for Moves {
         }
         self.low.step(self.size, kind);
         self.high.step(self.size, kind);
+        true
+    }
+
+    #[inline(always)]
+    fn colours(&mut self, colours: &ColourSequence<'_>, _behind: &[u8]) -> bool {
+        self.low.colour(colours.numbers);
+        self.high.colour(colours.numbers);
         true
     }
 

@@ -2,7 +2,8 @@
 
 ghost use Rattle.std.specs.Prelude.{◌≡◌, ◌+◌, ◌-◌, ◌<◌, ◌≤◌, ◌&&◌, ◌||◌, ◌==◌, ℕ, List, true, false, length, min, slice_index};
 ghost use Rattle.ans_model.specs.Bytes.{longest_file};
-ghost use Rattle.ans_model.specs.Sequence.TokenKind.{Glyph, LineFeed};
+ghost use Rattle.ans_model.specs.Sequence.TokenKind.{Colours, Glyph, LineFeed};
+ghost use Rattle.ans_model.specs.Screen.Attribute.{attribute_after_all};
 ghost use Rattle.ans_model.specs.Screen.State.{State};
 ghost use Rattle.ans_model.specs.Inside.ShownKind.{shown_kind};
 ghost use Rattle.ans_walks.specs.Conditions.{begins_with_pipe_number, begins_with_two_byte_letter, is_latin_letter};
@@ -10,7 +11,8 @@ ghost use Rattle.ans_walks.specs.Conditions.{begins_with_x_number, is_letter, is
 ghost use Rattle.ans_walks.specs.Counted.{counted};
 ghost use Rattle.ans_walks.specs.Pens.{glyph_wraps, pen_of};
 ghost use Rattle.ans_walks.specs.RowEnds.{is_stuck, with_glyph, CountsRows};
-ghost use Rattle.ans_walks.specs.Walks.{HasWalked, IsAt, CountsWithin, hints_past, hints_with};
+ghost use Rattle.ans_walks.specs.Walks.{CountsWithin, GoesOver, HasWalked, IsAt, StaysInRow, hints_past, hints_with};
+ghost use Rattle.ans_walks.specs.Walks.{walk_past};
 ghost use Rattle.ans_tokens.specs.Walk.{no_front};
 
 use crate::conditions::{
@@ -24,9 +26,10 @@ use crate::row::Row;
 use crate::row_ends::RowEnds;
 use crate::seen::{count_dark, count_seen};
 use crate::times::{count, count_times};
+use ans_model::attribute::attribute_after_all;
 use ans_model::kind::Kind;
 use ans_model::size::Size;
-use ans_tokens::{Token, Walker};
+use ans_tokens::{ColourSequence, Token, Walker};
 
 /// A play from the cleared start without its screen, and the hints of its tokens so far.
 #[derive(Clone, Copy)]
@@ -265,6 +268,52 @@ impl Walk {
             _ => {}
         }
     }
+
+    /// Goes over a token that stands at this offset: looks at it, and plays it. `behind` are the content's
+    /// bytes behind it.
+    #[inline(always)]
+    pub(crate) fn go_over(&mut self, offset: usize, kind: &Kind, behind: &[u8])
+        requires room { offset < longest_file }
+        requires at { IsAt self.old offset }
+        ensures at { IsAt self.new (offset + 1) }
+        ensures over { GoesOver self.old self.new offset (shown_kind kind.now) behind.now }
+    {
+        self.look(offset, kind, behind);
+        let before = self.pen;
+        self.pen.step(self.size, kind);
+        let column = self.pen.cursor.column;
+        self.row.step(self.size, &before, column, offset, kind);
+    }
+
+    /// Goes over a sequence of colours that stands at this offset, as it goes over its token. The attribute is
+    /// given to which its numbers lead.
+    #[inline(always)]
+    pub(crate) fn go_over_colours(&mut self, offset: usize, numbers: &[u8], attribute: u8)
+        requires room { offset < longest_file }
+        requires attribute { attribute ≡ attribute_after_all self.old.pen.attribute numbers.now }
+        requires at { IsAt self.old offset }
+        ensures at { IsAt self.new (offset + 1) }
+        ensures over { (behind : List ℕ) → GoesOver self.old self.new offset (Colours numbers.now) behind }
+    {
+        let later = has_later_colour(numbers);
+        count(&mut self.hints.later_colours, later, offset);
+        self.pen.attribute = attribute;
+    }
+
+    /// Goes past plain bytes, which stay in their row: looks at them, and plays them. The first stands at this
+    /// offset.
+    #[inline(always)]
+    pub(crate) fn go_past(&mut self, run: &[u8], offset: usize)
+        requires room { offset + length run.now ≤ longest_file }
+        requires stays { StaysInRow self.old (length run.now) }
+        requires at { IsAt self.old offset }
+        ensures at { IsAt self.new (offset + length run.now) }
+        ensures past { self.new ≡ walk_past self.old run.now offset }
+    {
+        self.look_at_run(run, offset);
+        self.row.go_on();
+        self.pen.go_on(self.size, run.len());
+    }
 }
 
 impl Walker for Walk {
@@ -278,13 +327,14 @@ impl Walker for Walk {
 
     #[inline(always)]
     fn token(&mut self, token: &Token, behind: &[u8]) -> bool {
-        let kind = token.kind();
-        let offset = token.start();
-        self.look(offset, kind, behind);
-        let before = self.pen;
-        self.pen.step(self.size, kind);
-        let column = self.pen.cursor.column;
-        self.row.step(self.size, &before, column, offset, kind);
+        self.go_over(token.start(), token.kind(), behind);
+        true
+    }
+
+    #[inline(always)]
+    fn colours(&mut self, colours: &ColourSequence<'_>, _behind: &[u8]) -> bool {
+        let attribute = attribute_after_all(self.pen.attribute, colours.numbers);
+        self.go_over_colours(colours.start, colours.numbers, attribute);
         true
     }
 
@@ -299,8 +349,6 @@ impl Walker for Walk {
 
     #[inline(always)]
     fn take(&mut self, run: &[u8], offset: usize) {
-        self.look_at_run(run, offset);
-        self.row.go_on();
-        self.pen.go_on(self.size, run.len());
+        self.go_past(run, offset);
     }
 }

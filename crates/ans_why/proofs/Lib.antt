@@ -5,5 +5,4 @@ pub mod WhyLines
 pub mod PlayerLines
 pub mod Relying
 pub mod AllHints
-pub mod NoMoves
 pub mod EnoughLines

@@ -28,7 +28,7 @@ use ans_model::limits::MAX_FILE;
 use ans_model::size::Size;
 use ans_model::start::Start;
 use ans_sauce::{Parts, WithoutLines, find, without_lines};
-use ans_walks::{Hints, Players, cells_of_fault, cursors_before, is_taller, least_lines};
+use ans_walks::{Hints, Overview, cells_of_fault, cursors_before, least_lines};
 
 fn place(size: Size, position: Position) -> Place
     requires { IsOnScreen size position }
@@ -235,13 +235,13 @@ impl<'a> Pass<'a> {
     {
         let size = parts.size();
         let content = parts.content();
-        let hints = Hints::of(size, parts.sauce().is_non_blink(), content, content.len());
+        let overview = Overview::of(size, needs, parts.sauce().is_non_blink(), content);
         Pass {
             needs,
-            players: Players::of(size, needs, content),
-            taller: !hints.moves_rows || is_taller(size, needs, content),
+            players: overview.players,
+            taller: overview.taller,
             reliance: reliance_of(size, file_length, content, fault),
-            hints,
+            hints: overview.hints,
         }
     }
 }

@@ -175,8 +175,8 @@ const RUNS: [(&[u8], usize, usize, usize, usize); 6] = [
         b"ab\xc3\xa9@|\x7f\x80\xdf\xe0 cdefghijklmnopqrstuvwxyz",
         35,
         usize::MAX,
-        16,
-        19,
+        14,
+        21,
     ),
 ];
 

@@ -1,4 +1,5 @@
-use Rattle.std.proofs.Common.{rules}
+use Rattle.std.proofs.Common.{rules, refl}
+use Rattle.ans_report.proofs.GlyphsPut.{ones_ready}
 use Rattle.ans_report.proofs.TokensPut.{all_are_bytes, tokens_walked, tokens_refused, same_outbox}
 use Rattle.ans_report.proofs.tokens_text.put_tokens.Goals as goal
 
@@ -16,3 +17,6 @@ returns-in-Err g c =
     c.in-Err.ensures c.put_fault_line.ensures in
     let same = same_outbox g.W.Write.contents c.args.content.now _ c.walk.new.walker c.walk.result c.walk.ensures in
     search (rules, refused, same)
+
+pub walk-requires-clause-ready : goal.walk-requires-clause-ready
+walk-requires-clause-ready g c = ones_ready _ 0 refl c.new.ensures

@@ -1,30 +1,40 @@
-use Rattle.std.proofs.Common.{take, IsTrue, All, arith}
-use Rattle.ans_tokens.specs.Walk.{is_plain}
-use Rattle.ans_tokens.proofs.PlainFront.{plain_more}
-use Rattle.ans_tokens.proofs.TextFront.{first_fewer}
+use Rattle.std.proofs.Common.{◌+◌, arith, refl}
+use Rattle.ans_tokens.proofs.PlainFront.{IsPlainFront, plain_fewer, plain_more, plain_sign}
 use Rattle.ans_tokens.proofs.plain.count_plain.Goals as goal
 use Rattle.ans_tokens.proofs.plain.count_plain.Goals.{
-  then-loop-count-test+else-bytes-count-ge16,
+  then-loop-count-test+else-bytes-count-gt16,
   else-loop-count-test,
-  then-loop-count-test+then-bytes-count-ge16+then-plain-lt16,
+  then-loop-count-test+then-bytes-count-gt16+then-plain-lt16+then-not-begins_with_sign,
 }
 
 pub loop-count-preserved : goal.loop-count-preserved
-loop-count-preserved c = record {
-  within = omega arith;
-  plain = plain_more c.args.bytes.now c.loop-count.count c.plain_of_chunk-plain.result (omega arith)
-      c.loop-count.invariant.plain c.plain_of_chunk-plain.ensures.plain;
-}
+loop-count-preserved c =
+    plain_more c.args.bytes.now c.loop-count.count c.plain_of_chunk-plain.result (omega arith)
+    c.loop-count.invariant c.plain_of_chunk-plain.ensures.plain
+
+-- over a sign
+pub loop-count-preserved-then-plain-lt16 : goal.loop-count-preserved-then-plain-lt16
+loop-count-preserved-then-plain-lt16 c =
+    let bytes = c.args.bytes.now in
+    let found = c.plain_of_chunk-plain in
+    let sign = c.if-not-begins_with_sign.ensures in
+    plain_sign bytes (c.loop-count.count + found.result) (omega arith)
+    (plain_more bytes c.loop-count.count found.result (omega arith) c.loop-count.invariant found.ensures.plain)
+    (sign.plain refl) (sign.code refl)
+
+counted : (c : goal.After-min) → IsPlainFront c.args.bytes.now c.min.result
+counted c =
+    plain_fewer c.args.bytes.now c.min.result c.loop-count-test.count (omega arith) (
+    elim c.loop-count-test.branch [
+      | then-loop-count-test+else-bytes-count-gt16 w ↦ rw w.count-is c.loop-count.invariant
+      | else-loop-count-test w ↦ rw w.count-is c.loop-count.invariant
+      | then-loop-count-test+then-bytes-count-gt16+then-plain-lt16+then-not-begins_with_sign w ↦ rw w.count-is
+          (plain_more c.args.bytes.now c.loop-count.count w.plain_of_chunk-plain.result (omega arith)
+          c.loop-count.invariant w.plain_of_chunk-plain.ensures.plain)
+    ])
 
 pub returns-clause-plain : goal.returns-clause-plain
-returns-clause-plain c =
-    let counted : All (λ byte. IsTrue (is_plain byte)) (take c.loop-count-test.count c.args.bytes.now) =
-    elim c.loop-count-test.branch [
-      | then-loop-count-test+else-bytes-count-ge16 w ↦ rw w.count-is c.loop-count.invariant.plain
-      | else-loop-count-test w ↦ rw w.count-is c.loop-count.invariant.plain
-      | then-loop-count-test+then-bytes-count-ge16+then-plain-lt16 w ↦ rw w.count-is
-          (plain_more c.args.bytes.now c.loop-count.count w.plain_of_chunk-plain.result (omega arith)
-          c.loop-count.invariant.plain w.plain_of_chunk-plain.ensures.plain)
-    ] in
-    first_fewer (λ byte. IsTrue (is_plain byte)) c.args.bytes.now c.min.result c.loop-count-test.count (omega arith)
-    counted
+returns-clause-plain c = (counted c).plain
+
+pub returns-clause-codes : goal.returns-clause-codes
+returns-clause-codes c = (counted c).codes

@@ -1,13 +1,10 @@
-use Rattle.std.proofs.Common.{◌≤◌, ◌-◌, length, take, IsTrue, All}
-use Rattle.ans_tokens.specs.Walk.{is_plain}
+use Rattle.ans_tokens.proofs.PlainFront.{IsPlainFront}
+use Rattle.std.proofs.Common.{◌-◌, length}
 use Rattle.ans_tokens.proofs.plain.count_plain.Given as goal
 
--- the bytes so far are plain
+-- the bytes so far are plain, and no code begins at them
 abbrev pub invariant-loop-count : goal.invariant-loop-count
-invariant-loop-count l = record {
-  within : l.count ≤ length l.bytes;
-  plain : All (λ byte. IsTrue (is_plain byte)) (take l.count l.bytes);
-}
+invariant-loop-count l = IsPlainFront l.bytes l.count
 
 abbrev pub decreases-loop-count : goal.decreases-loop-count
 decreases-loop-count l = length l.bytes - l.count

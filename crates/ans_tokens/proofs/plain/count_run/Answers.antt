@@ -12,5 +12,5 @@ returns-else-begins_plainly-clause-plain c =
 pub returns-else-begins_plainly-clause-ends : goal.returns-else-begins_plainly-clause-ends
 returns-else-begins_plainly-clause-ends c some =
     rw c.saturating_sub.ensures (last_plainly c.args.bytes.now c.count_plain-count.result
-    c.count_plain-count.ensures.within c.count_plain-count.ensures.plain
+    (omega (arith, c.count_plain-count.ensures.within)) c.count_plain-count.ensures.plain
     (omega (arith, some, c.saturating_sub.ensures)))

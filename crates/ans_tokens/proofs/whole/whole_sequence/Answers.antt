@@ -22,6 +22,6 @@ returns-in-Ok c =
     record {
       front = rw (c.new.ensures.kind, c.new.ensures.length)
           (means_token mark c.read_members.new.numbers.items c.args.bytes.now letter.byte letter.end
-          (shown_kind c.in-Ok.kind) c.in_ok-letter.ensures c.in-Ok.ensures);
+          (shown_kind c.in-Ok.kind) c.in_ok-letter.ensures.front c.in-Ok.ensures);
       starts = c.new.ensures.start;
     }

@@ -1,12 +1,13 @@
-use Rattle.std.proofs.Common.{◌≡◌, ◌≤◌, ℕ, List}
-use Rattle.ans_walks.specs.Counted.{so_many}
-use Rattle.ans_walks.specs.Walks.{seen_at}
+use Rattle.std.proofs.Common.{◌-◌, ◌≤◌, length}
+use Rattle.ans_walks.proofs.SeenPieces.{Counts}
 use Rattle.ans_walks.proofs.seen.seen_in.Given as goal
 
--- those before this byte are counted
-pub record Counts (run : List ℕ) (i seen : ℕ) : Type 0 where
-  pub count : seen ≡ so_many (seen_at run) i
-  pub within : seen ≤ i
+-- those of the pieces so far are counted
+abbrev pub invariant-loop-at : goal.invariant-loop-at
+invariant-loop-at l = record {
+  within : l.at ≤ length l.run;
+  counted : Counts l.run l.at l.seen;
+}
 
-abbrev pub invariant-loop-i : goal.invariant-loop-i
-invariant-loop-i l = Counts l.run l.i l.seen
+abbrev pub decreases-loop-at : goal.decreases-loop-at
+decreases-loop-at l = length l.run - l.at

@@ -1,10 +1,4 @@
-use Rattle.std.proofs.Common.{Bool, ap, arith, not, refl, ◌∙◌}
-use Rattle.std.specs.List.{list_any}
-use Rattle.ans_players.specs.Kinds.{is_kind}
-use Rattle.ans_players.specs.Situations.{kind_if}
-use Rattle.ans_players.specs.declared.kind.Kind.TheVariants.{OwnColours}
-use Rattle.ans_walks.specs.Counted.{counted_times}
-use Rattle.ans_walks.specs.KindsUsed.{used_of}
+use Rattle.std.proofs.Common.{arith, refl}
 use Rattle.ans_walks.proofs.RunsFound.{walked_run}
 use Rattle.ans_walks.proofs.kinds.KindsWalkWalker.take.Goals as goal
 

@@ -1,37 +1,7 @@
-use Rattle.std.proofs.Common.{sym, subst, ◌∙◌, Option}
-use Rattle.std.proofs.lemmas.Bool.{false≢true}
 use Rattle.ans_model.specs.Screen.StartClass.{all_known}
 use Rattle.ans_model.proofs.ClassLemmas.{covers_all_known}
-use Rattle.ans_players.specs.declared.kind.Kind.TheVariants.{OwnColours}
-use Rattle.ans_walks.specs.KindsUsed.{IsTold}
-use Rattle.ans_walks.specs.declared.times.Times.{Times}
-use Rattle.ans_walks.proofs.NamedPlayers.{none_at_all, same_in_named_colours, same_on_every_player, used_is_calm}
 use Rattle.ans_walks.proofs.players.Players.of.Goals as goal
 
-pub returns-then-not-are_own_colours_at_most : goal.returns-then-not-are_own_colours_at_most
-returns-then-not-are_own_colours_at_most c = (
-  c.kinds_used-used.ensures ((c.requires.needs all_known).1 (covers_all_known c.args.needs)),
-  λ none. false≢true (sym c.if-not-are_own_colours_at_most.true ∙ c.are_own_colours_at_most.ensures.1 none),
-)
-
-pub returns-in-None : goal.returns-in-None
-returns-in-None c =
-    let used = c.kinds_used-used.result in
-    let told = c.kinds_used-used.ensures ((c.requires.needs all_known).1 (covers_all_known c.args.needs)) in
-    same_on_every_player c.args.size c.args.content.now used _
-    (none_at_all used (c.are_own_colours_at_most.ensures.0 c.if-not-are_own_colours_at_most.false)
-    (sym c.of.ensures ∙ c.in-None.is))
-    (c.least_class_for_players-class.ensures (used_is_calm c.args.size c.args.content.now used told
-    c.args.needs c.requires.needs))
-
-pub returns-in-Some : goal.returns-in-Some
-returns-in-Some c =
-    let used = c.kinds_used-used.result in
-    let told = c.kinds_used-used.ensures ((c.requires.needs all_known).1 (covers_all_known c.args.needs)) in
-    let some = sym c.of.ensures ∙ c.in-Some.is in (
-      same_in_named_colours c.args.size c.args.content.now used _ c.in-Some.times
-          (c.are_own_colours_at_most.ensures.0 c.if-not-are_own_colours_at_most.false) some
-          (c.least_class_for_players-class.ensures (used_is_calm c.args.size c.args.content.now used told
-          c.args.needs c.requires.needs)),
-      subst (λ (t : Option Times). IsTold c.args.size c.args.content.now OwnColours t) some (told OwnColours),
-    )
+pub by-requires-clause-told : goal.by-requires-clause-told
+by-requires-clause-told c =
+    c.kinds_used.ensures ((c.requires.needs all_known).1 (covers_all_known c.args.needs))

@@ -6,10 +6,11 @@ use Rattle.ans_model.specs.Sequence.TokenKind.{TokenKind, Up, Down}
 use Rattle.ans_model.specs.Screen.State.{Size}
 use Rattle.ans_model.specs.declared.start.Start.{Start}
 use Rattle.ans_model.specs.Verdict.Good.{IsGood}
+use Rattle.ans_model.specs.Sequence.Reads.{ReadsAs}
+use Rattle.ans_walks.specs.Hints.{AreHints}
 use Rattle.ans_walks.specs.RowMoves.{moved_with, moves_rows}
 use Rattle.ans_walks.specs.declared.hints.Hints.{Hints}
 use Rattle.ans_walks.specs.Taller.{IsTaller, MovesFreely}
-use Rattle.ans_why.specs.Explained.{AreHintsOf}
 
 -- ---- a move is found
 still_moved : (t : TokenKind) → moved_with true t ≡ true
@@ -44,8 +45,9 @@ no_moves_are_free z class tokens none = record {
     contradicts : moves_rows tokens ≡ true → ⊥
     contradicts some = let no : true ≡ false = sym some ∙ none in absurd (cc)
 
-module _ (z : Size) (class all : Start) (flag : Bool) (content : List ℕ) (hints : Hints)
-    (h : AreHintsOf z flag content [] hints) (good : IsGood z all content) where
+module _ (z : Size) (class : Start) (flag : Bool) (content : List ℕ) (hints : Hints)
+    (h : (tokens : List TokenKind) (texts : List (List ℕ)) → ReadsAs content tokens texts
+    → AreHints z flag tokens texts [] hints) (good : IsGood z class content) where
   pub taller_without_moves : hints.moves_rows ≡ false → IsTaller z class content
   taller_without_moves none =
       let reads = good.1.reads in

@@ -1,6 +1,6 @@
 use Rattle.std.proofs.lemmas.Result.{err_from_is_err_and}
 use Rattle.ans_tokens.proofs.TakenSoFar.{refused_there}
-use Rattle.ans_tokens.proofs.walker.token_by_bytes.Goals as goal
+use Rattle.ans_tokens.proofs.handing.token_by_bytes.Goals as goal
 
 pub returns-in_err-token-clause-fault : goal.returns-in_err-token-clause-fault
 returns-in_err-token-clause-fault c =

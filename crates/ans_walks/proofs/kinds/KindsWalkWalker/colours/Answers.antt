@@ -1,0 +1,29 @@
+use Rattle.std.proofs.Common.{Bool, ap, arith, refl, ◌∙◌}
+use Rattle.ans_model.specs.Sequence.TokenKind.{Colours}
+use Rattle.ans_walks.specs.Counted.{counted}
+use Rattle.ans_walks.specs.GripsShown.{shown_grip}
+use Rattle.ans_walks.specs.KindsUsed.{used_of}
+use Rattle.ans_walks.specs.NamesShown.{shown_names}
+use Rattle.ans_walks.proofs.KindsCounted.{coloured, kinds_parted}
+use Rattle.ans_walks.proofs.KindsFound.{walked_kinds}
+use Rattle.ans_walks.proofs.kinds.KindsWalkWalker.colours.Goals as goal
+
+pub returns-clause-ready : goal.returns-clause-ready
+returns-clause-ready c = record {
+  stands = record { cursor = c.requires.ready.stands.cursor; saved = c.requires.ready.stands.saved };
+  few = λ number within. omega (arith, c.count_colours.ensures.few number within, c.requires.some);
+}
+
+pub returns-clause-walked : goal.returns-clause-walked
+returns-clause-walked c first front text next h =
+    let old = c.args.self.now in
+    let colours = c.args.colours.now in
+    let numbers = colours.numbers.now in
+    walked_kinds first old front h (Colours numbers) text _ next.whole _ colours.start next.starts refl refl
+    (λ s e. rw c.by-inked.ensures.attribute (coloured old.pen s numbers e))
+    (λ s e. refl) c.by-inked.ensures.names
+    (λ s kind e. c.count_colours.ensures.used kind
+    ∙ ap (λ (b : Bool). counted (used_of old.used kind) b colours.start)
+    (rw c.by-inked.ensures.common (kinds_parted old.size
+    (record { grip = shown_grip old.grip; names = shown_names old.names; state = s }) colours text old.pen kind e
+    next.omits_is)))

@@ -1,0 +1,33 @@
+use Rattle.std.proofs.Common.{Bool, ap, arith, refl, ◌∙◌}
+use Rattle.ans_model.specs.Sequence.TokenKind.{Colours}
+use Rattle.ans_walks.specs.Counted.{counted}
+use Rattle.ans_walks.specs.GripsShown.{shown_grip}
+use Rattle.ans_walks.specs.KindsUsed.{used_of}
+use Rattle.ans_walks.specs.NamesShown.{shown_names}
+use Rattle.ans_walks.specs.Surveyed.{kinds_walk_of}
+use Rattle.ans_walks.proofs.HintsFound.{is_at_later, walked_token}
+use Rattle.ans_walks.proofs.KindsCounted.{kinds_parted}
+use Rattle.ans_walks.proofs.KindsFound.{walked_kinds}
+use Rattle.ans_walks.proofs.survey.SurveyWalker.colours.Goals as goal
+
+pub returns-clause-ready : goal.returns-clause-ready
+returns-clause-ready c = record {
+  at = is_at_later _ _ _ c.go_over_colours.ensures.at (omega (arith, c.requires.some));
+  few = λ n within. omega (arith, c.count_colours.ensures.few n within, c.requires.some);
+}
+
+pub returns-clause-walked : goal.returns-clause-walked
+returns-clause-walked c first front text next h =
+    let old = c.args.self.now in
+    let colours = c.args.colours.now in
+    let over = c.go_over_colours.ensures.over _ in
+    record {
+      hints = walked_token first.walk old.walk front _ text _ h.hints next.whole _ colours.start next.starts over;
+      kinds = walked_kinds (kinds_walk_of first) (kinds_walk_of old) front h.kinds (Colours colours.numbers.now) text _
+          next.whole _ colours.start next.starts over.size refl over.pen (λ s e. refl) c.by-inked.ensures.names
+          (λ s kind e. c.count_colours.ensures.used kind
+          ∙ ap (λ (b : Bool). counted (used_of old.used kind) b colours.start)
+          (rw c.by-inked.ensures.common (kinds_parted old.walk.size
+          (record { grip = shown_grip old.grip; names = shown_names old.names; state = s }) colours text old.walk.pen kind
+          e next.omits_is)));
+    }
