@@ -8,7 +8,7 @@ use Rattle.ans_model.specs.File.Refusals.{has_record}
 use Rattle.ans_model.specs.Sequence.TokenKind.{TokenKind, Colours}
 use Rattle.ans_model.specs.Sequence.Reads.{Reads}
 use Rattle.ans_players.specs.Names.{Names, are_both, names_after, paints, unnamed}
-use Rattle.ans_model.specs.Sequence.Spelling.{omits}
+use Rattle.ans_model.specs.Sequence.Omitted.{omits}
 use Rattle.ans_players.specs.Situations.{Spelled, spelled}
 use Rattle.ans_walks.specs.Counted.{counted}
 use Rattle.ans_walks.specs.declared.times.Times.{Times}

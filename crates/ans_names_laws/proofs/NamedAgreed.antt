@@ -13,7 +13,7 @@ use Rattle.ans_players.specs.declared.kind.Kind.{Kind}
 use Rattle.ans_players.specs.declared.kind.Kind.TheVariants.{DosColours}
 use Rattle.ans_players.specs.Grips.{Stand}
 use Rattle.ans_players.specs.Names.{Names, are_both, names_after}
-use Rattle.ans_model.specs.Sequence.Spelling.{omits}
+use Rattle.ans_model.specs.Sequence.Omitted.{omits}
 use Rattle.ans_players.specs.Situations.{Spelled, is_agreed, is_common_colour, is_grey, kind_if}
 use Rattle.ans_players.specs.Situations.{stand_behind}
 use Rattle.ans_players.proofs.MoreNames.{IsMore, agreed_with_more, more_of, names_of, stands_with, with_names}

@@ -11,7 +11,7 @@ use Rattle.ans_model.specs.Bytes.{escape, bracket, semicolon}
 use Rattle.ans_model.specs.Sequence.TokenKind.{TokenKind, Colours}
 use Rattle.ans_model.specs.Sequence.Reads.{SpellsToken}
 use Rattle.ans_players.specs.Names.{Names, are_both}
-use Rattle.ans_model.specs.Sequence.Spelling.{omits}
+use Rattle.ans_model.specs.Sequence.Omitted.{omits}
 use Rattle.ans_players.specs.Situations.{Spelled, spelled}
 use Rattle.ans_mend.specs.NamedColours.{after_zero, left_by, missing_numbers, named_content, named_sequence, named_text}
 use Rattle.ans_mend.specs.NamedColours.{names_behind_token, longest_sequence, opening, put_by, takes_names}

@@ -9,7 +9,7 @@ use Rattle.std.proofs.lemmas.Bool.Decides.{nat_tests}
 use Rattle.std.proofs.lemmas.List.Folds.{list_any-append}
 use Rattle.ans_model.specs.Bytes.{bracket, semicolon}
 use Rattle.ans_players.specs.Names.{Names, are_both}
-use Rattle.ans_model.specs.Sequence.Spelling.{omits}
+use Rattle.ans_model.specs.Sequence.Omitted.{omits}
 use Rattle.ans_players.specs.Situations.{Spelled}
 use Rattle.ans_mend.specs.NamedColours.{after_zero, ends_number, is_zero, missing_numbers, named_text, to_zero, way_of}
 use Rattle.ans_mend.specs.declared.naming.Way.TheVariants.{Within}

@@ -16,7 +16,7 @@ use Rattle.ans_model.specs.Screen.State.{Size}
 use Rattle.ans_model.specs.Screen.Step.{final}
 use Rattle.ans_players.specs.Grips.{Stand}
 use Rattle.ans_players.specs.Names.{Names, unnamed, names_behind, names_after, are_both, is_within}
-use Rattle.ans_model.specs.Sequence.Spelling.{omits}
+use Rattle.ans_model.specs.Sequence.Omitted.{omits}
 use Rattle.ans_players.specs.Situations.{Spelled, situations, is_common_colour}
 use Rattle.ans_redraw.specs.Colours.{foreground_of, is_bright, background_of, blinks, ansi_number, parameter_if}
 use Rattle.ans_redraw.specs.Colours.{changes}

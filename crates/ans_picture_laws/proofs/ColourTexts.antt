@@ -14,7 +14,8 @@ use Rattle.ans_model.specs.Bytes.{escape, bracket, semicolon}
 use Rattle.ans_model.specs.File.Layout.{is_end_mark}
 use Rattle.ans_model.specs.declared.mark.Mark.TheVariants.{Unmarked}
 use Rattle.ans_model.specs.Sequence.TokenKind.{TokenKind, Colours, Forward, Down, Place}
-use Rattle.ans_model.specs.Sequence.Spelling.{omits, Number, Raw, SpellsMember, IsInLimit}
+use Rattle.ans_model.specs.Sequence.Omitted.{omits}
+use Rattle.ans_model.specs.Sequence.Spelling.{Number, Raw, SpellsMember, IsInLimit}
 use Rattle.ans_model.specs.Sequence.Meaning as means
 use Rattle.ans_model.specs.Sequence.Meaning.{meaning}
 use Rattle.ans_model.specs.Sequence.Reads.{SpellsToken}

@@ -22,7 +22,7 @@ use Rattle.ans_players.specs.Grips.{Grip, Firm, BehindFeed, BehindReturn, Adrift
 use Rattle.ans_players.specs.Grips.{is_home}
 use Rattle.ans_players.specs.Players.{StaysAbove}
 use Rattle.ans_players.specs.Names.{Names, names_after}
-use Rattle.ans_model.specs.Sequence.Spelling.{omits}
+use Rattle.ans_model.specs.Sequence.Omitted.{omits}
 use Rattle.ans_players.specs.Situations.{Spelled, is_agreed, is_grey, kind_if, name_kinds, spelling_kinds}
 use Rattle.ans_players.specs.Situations.{token_kinds}
 use Rattle.ans_players.proofs.Afters.{cursor_after, saved_after, attribute_after_token, wrap_after, grip_of}

@@ -4,7 +4,7 @@ use Rattle.std.specs.Prelude.{fold, take, slice_get, Some, if◌then◌else◌, 
 use Rattle.std.specs.List.{list_all}
 use Rattle.ans_model.specs.Sequence.TokenKind.{TokenKind, Glyph, Bell, BackSpace, Tab, Down, Forward, Clear}
 use Rattle.ans_model.specs.Sequence.TokenKind.{EraseLine, Restore, Colours, Wrap}
-use Rattle.ans_model.specs.Sequence.Spelling.{omits}
+use Rattle.ans_model.specs.Sequence.Omitted.{omits}
 use Rattle.ans_model.specs.Screen.State.{Size, State}
 use Rattle.ans_model.specs.Screen.StartClass.{IsStart}
 use Rattle.ans_model.specs.declared.start.Start.{Start}

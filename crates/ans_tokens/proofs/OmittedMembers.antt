@@ -7,7 +7,7 @@ use Rattle.std.proofs.lemmas.Bool.{and_left, and_parts, and_right, ne_eqb}
 use Rattle.std.proofs.lemmas.Bool.Decides.{nat_tests}
 use Rattle.std.proofs.lemmas.List.{get_or-drop, get_or-take, length-drop, length-take-le}
 use Rattle.ans_model.specs.Bytes.{bracket, escape, semicolon}
-use Rattle.ans_model.specs.Sequence.Spelling.{ends_colour, omits, opens_member}
+use Rattle.ans_model.specs.Sequence.Omitted.{ends_colour, omits, opens_member}
 use Rattle.ans_model.specs.declared.mark.Mark.TheVariants.{Unmarked}
 use Rattle.ans_tokens.specs.WholeToken.{IsNumberFront, IsSequenceFront, OpensMember}
 use Rattle.ans_tokens.proofs.WholeSequences.{begun_unmarked, letter_at, number_from}

@@ -6,7 +6,8 @@ use Rattle.std.specs.List.{AllZip, concat}
 use Rattle.ans_model.specs.Sequence.TokenKind.{TokenKind, Colours, Glyph}
 use Rattle.ans_model.specs.Sequence.Reads.{SpellsToken, ReadsAs}
 use Rattle.ans_model.specs.Inside.ShownKind.{shown_kind}
-use Rattle.ans_model.specs.Sequence.Spelling.{IsUnfinished, omits}
+use Rattle.ans_model.specs.Sequence.Omitted.{omits}
+use Rattle.ans_model.specs.Sequence.Spelling.{IsUnfinished}
 use Rattle.ans_model.specs.Verdict.FirstFault.{IsRefused}
 use Rattle.ans_model.specs.declared.fault.Cause.{Cause}
 use Rattle.ans_model.specs.declared.fault.Cause.TheVariants.{EndInSequence}

@@ -4,7 +4,8 @@ use Rattle.std.specs.List.{list_all, list_any}
 use Rattle.std.specs.Char.{is_ascii_digit}
 use Rattle.std.specs.Str.Parse.{digits_value}
 use Rattle.ans_model.specs.Bytes.{largest_number}
-use Rattle.ans_model.specs.Sequence.Spelling.{Raw, Spells, omits, opens_member}
+use Rattle.ans_model.specs.Sequence.Omitted.{omits, opens_member}
+use Rattle.ans_model.specs.Sequence.Spelling.{Raw, Spells}
 use Rattle.ans_model.specs.declared.mark.Mark.{Mark}
 use Rattle.ans_model.specs.Sequence.TokenKind.{TokenKind}
 use Rattle.ans_model.specs.Sequence.Meaning.{colour_number, is_quoted}

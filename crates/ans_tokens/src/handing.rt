@@ -5,7 +5,7 @@ ghost use Rattle.std.specs.Prelude.{◌≡◌, ◌≢◌, ◌+◌, ◌<◌, ◌�
 ghost use Rattle.std.specs.Prelude.{get_or, MatchOption, IfOk, IfErr, IfSome, IfNone, OnErr, Ok};
 ghost use Rattle.ans_model.specs.Bytes.{escape, longest_file, most_parameters};
 ghost use Rattle.ans_model.specs.Sequence.Meaning.{meaning};
-ghost use Rattle.ans_model.specs.Sequence.Spelling.{omits};
+ghost use Rattle.ans_model.specs.Sequence.Omitted.{omits};
 ghost use Rattle.ans_model.specs.Inside.ShownKind.{shown_kind};
 ghost use Rattle.ans_model.specs.declared.mark.Mark.TheVariants.{Unmarked};
 ghost use Rattle.ans_tokens.specs.Handed.{Hands, IsPlace, bytes_left};

@@ -14,7 +14,6 @@
 //! and `Reads`.
 #![tactic(auto)]
 
-mod clearing;
 mod colours;
 mod glyphs;
 mod handing;
@@ -30,7 +29,6 @@ mod whole;
 
 pub use ans_model::fault::{Cause, Fault};
 pub use ans_model::kind::Kind;
-pub use clearing::is_cleared;
 pub use colours::ColourSequence;
 pub use glyphs::{count_glyphs, count_text};
 pub use meaning::{distance, is_just, place};

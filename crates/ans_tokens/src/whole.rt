@@ -11,7 +11,7 @@ ghost use Rattle.arrayvec.specs.ArrayVec.{array_vec_len};
 ghost use Rattle.ans_model.specs.declared.mark.Mark.TheVariants.{Unmarked};
 ghost use Rattle.ans_tokens.specs.ScannerView.{Keeps, Sequence, Fresh};
 ghost use Rattle.ans_tokens.specs.WholeToken.{IsNumberFront, IsSequenceFront, IsTokenAt, OpensMember};
-ghost use Rattle.ans_model.specs.Sequence.Spelling.{omits};
+ghost use Rattle.ans_model.specs.Sequence.Omitted.{omits};
 
 use crate::mark::mark_of_byte;
 use crate::meaning::kind_meant;

@@ -15,7 +15,7 @@ use crate::screens::Screens;
 use ans_model::fault::{Cause, Fault};
 use ans_model::start::Start;
 use ans_sauce::Parts;
-use ans_tokens::is_cleared;
+use memchr::memmem;
 use std::alloc::AllocError;
 
 /// The class that a content needs, and its fault from all starts, where it needs anything.
@@ -39,6 +39,10 @@ pub(crate) struct MadeKnown {
     pub(crate) fault: Option<Fault>,
 }
 
+/// How a sequence begins that clears the screen. A quoted string may have it too, and then one play more
+/// is made.
+const CLEAR: &[u8] = b"\x1b[2J";
+
 /// The parts that may be missing where a content has this fault, the likeliest first. They decide
 /// how many plays it takes to find the class, and not which class that is. Where the screen was
 /// cleared before, its cells are in the current colours, and the cursor was at home.
@@ -46,7 +50,7 @@ fn likely_parts(content: &[u8], fault: Fault) -> &'static [Part]
     requires { length content.now ≤ longest_file }
 {
     let before = fault.offset.min(content.len());
-    match (fault.cause, is_cleared(content, before)) {
+    match (fault.cause, memmem::find(&content[..before], CLEAR).is_some()) {
         (Cause::UnknownCell { .. }, false) => &[Part::Screen, Part::Colours],
         (Cause::UnknownCell { .. }, true) => &[Part::Colours, Part::Screen],
         (_, false) => &[Part::Cursor, Part::Wrap, Part::Saved],

@@ -7,7 +7,7 @@ use Rattle.std.proofs.lemmas.List.Folds.{list_any-append}
 use Rattle.ans_model.specs.Bytes.{longest_file}
 use Rattle.ans_model.specs.Screen.Attribute.{attribute_after_all}
 use Rattle.ans_model.specs.Screen.State.{Size, State}
-use Rattle.ans_model.specs.Sequence.Spelling.{omits}
+use Rattle.ans_model.specs.Sequence.Omitted.{omits}
 use Rattle.ans_model.specs.Sequence.TokenKind.{Colours}
 use Rattle.ans_players.specs.Grips.{Stand}
 use Rattle.ans_players.specs.Kinds.{is_kind}

@@ -6,7 +6,7 @@ ghost use Rattle.ans_model.specs.Bytes.{bracket, semicolon};
 ghost use Rattle.ans_model.specs.Screen.State.{State};
 ghost use Rattle.ans_model.specs.Inside.ShownKind.{shown_kind};
 ghost use Rattle.ans_players.specs.Situations.{is_common_colour, is_page_control, is_terminal_control, kind_if};
-ghost use Rattle.ans_model.specs.Sequence.Spelling.{omits};
+ghost use Rattle.ans_model.specs.Sequence.Omitted.{omits};
 ghost use Rattle.ans_players.specs.Situations.{own_kinds, situations};
 ghost use Rattle.ans_players.specs.Kinds.{is_kind};
 ghost use Rattle.ans_players.specs.declared.kind.Kind.{Kind as PlayerKind};

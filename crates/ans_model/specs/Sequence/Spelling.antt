@@ -1,6 +1,5 @@
 -- Escape sequences (ANSI.SYS): what they consist of, and the bytes that spell them.
-use Rattle.std.specs.Prelude.{◌≡◌, ◌≢◌, ℕ, ◌<◌, ◌≤◌, not, ◌||◌, ◌&&◌, Bool, IsTrue, false, ◌==◌, List, [], ◌∷◌, ◌++◌}
-use Rattle.std.specs.Prelude.{length, ⊤}
+use Rattle.std.specs.Prelude.{◌≡◌, ◌≢◌, ℕ, ◌<◌, ◌≤◌, not, ◌||◌, Bool, IsTrue, ◌==◌, List, [], ◌∷◌, ◌++◌, length, ⊤}
 use Rattle.std.specs.List.{AllZip, AllByRecursion, join_with_byte, list_all}
 use Rattle.std.specs.Char.{is_ascii_digit, is_ascii_alphabetic}
 use Rattle.std.specs.Str.Parse.{digits_value}
@@ -83,15 +82,3 @@ pub record IsUnfinished (bytes : List ℕ) : Type 0 where
   pub spelled : Spells raw (bytes ++ rest)
   pub begun : 0 < length bytes
   pub more : 0 < length rest
-
--- a byte behind which a member begins, and one that ends a number of a colour sequence
-abbrev pub opens_member : ℕ → Bool
-opens_member byte = byte == bracket || byte == semicolon
-
-abbrev pub ends_colour : ℕ → Bool
-ends_colour byte = byte == semicolon || byte == 0x6D
-
--- a number of a colour sequence is omitted: `;` or `m` stands behind `[` or `;`
-abbrev pub omits : List ℕ → Bool
-omits (a ∷ b ∷ rest) = (opens_member a && ends_colour b) || omits (b ∷ rest)
-omits _ = false

@@ -3,7 +3,7 @@
 ghost use Rattle.std.specs.Prelude.{⊤};
 
 use ans_model::limits::MAX_FILE;
-use ans_tokens::{Cause, Fault, Token, Walker, is_cleared, walk};
+use ans_tokens::{Cause, Fault, Token, Walker, walk};
 use std::process::Abort;
 
 /// What a token is to be: its offset, its length, and how many bytes of the content stand behind it.
@@ -201,16 +201,4 @@ fn plain_bytes_are_taken_at_once(rt: HostRuntime) {
         );
         assert_eq!(rt; counted, (tokens, taken, end, true), "in {content:?}");
     }
-}
-
-#[test]
-fn contents_clear_the_screen_or_not(rt: HostRuntime) {
-    let content = b"a\x1b[\"\x1b[2J\"p\x1b[K\x1b[2Jb";
-    let cleared = [
-        is_cleared(content, 10),
-        is_cleared(content, 13),
-        is_cleared(content, 17),
-        is_cleared(content, 18),
-    ];
-    assert_eq!(rt; cleared, [false, false, true, true]);
 }

@@ -1,5 +1,5 @@
 use Rattle.std.proofs.Common.{◌≡◌, ◌∷◌, drop}
-use Rattle.ans_model.specs.Sequence.Spelling.{omits}
+use Rattle.ans_model.specs.Sequence.Omitted.{omits}
 use Rattle.ans_walks.proofs.situations.omits_number.Given as goal
 
 abbrev pub invariant-loop-byte : goal.invariant-loop-byte

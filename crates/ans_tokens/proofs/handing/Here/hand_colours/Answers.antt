@@ -1,6 +1,7 @@
 use Rattle.std.proofs.Common.{◌≡◌, ap, ◌∙◌, List, ℕ, map, take, arith}
 use Rattle.ans_model.specs.Sequence.Meaning.{colours}
-use Rattle.ans_model.specs.Sequence.Spelling.{Number, omits}
+use Rattle.ans_model.specs.Sequence.Omitted.{omits}
+use Rattle.ans_model.specs.Sequence.Spelling.{Number}
 use Rattle.ans_model.specs.Sequence.TokenKind.{Colours}
 use Rattle.ans_tokens.specs.Handed.{bytes_left}
 use Rattle.ans_tokens.proofs.ComingNext.{colours_front}
