@@ -14,7 +14,7 @@ use ans_sauce::Parts;
 use std::alloc::AllocError;
 
 /// Whether a fault of this cause does not depend on the start: F22 to F25 do.
-fn is_certain(cause: Cause) -> bool
+pub(crate) fn is_certain(cause: Cause) -> bool
     ensures { IsTrue result ↔ IsCertain cause }
 {
     !matches!(

@@ -1,5 +1,5 @@
 //! The least class of starts from which a content passes, by few plays.
-ghost use Rattle.std.specs.Prelude.{◌≡◌, ◌↔◌, ◌≤◌, true, false, length, IfOk, IfSome};
+ghost use Rattle.std.specs.Prelude.{◌≡◌, ◌↔◌, ◌≤◌, true, false, length, IfOk, IfErr, IfSome};
 ghost use Rattle.ans_model.specs.Bytes.{longest_file};
 ghost use Rattle.ans_model.specs.Screen.StartClass.{all_known, none_known};
 ghost use Rattle.ans_model.specs.Verdict.Good.{IsGood};
@@ -10,6 +10,7 @@ ghost use Rattle.ans_verdict.specs.FilePlayed.{IsLeastOf};
 ghost use Rattle.ans_verdict.specs.ScreenRoom.{TakesRoom};
 ghost use Rattle.ans_verdict.specs.StartParts.{EndsFrom, all_but, knows, with_part, IsPassingClass};
 
+use crate::certain_faults::is_certain;
 use crate::part::Part;
 use crate::screens::Screens;
 use ans_model::fault::{Cause, Fault};
@@ -88,21 +89,26 @@ fn part_that_mends<S: Screens>(
 
 /// Finds a class from which the content passes: from all starts it has this fault, and as long as it
 /// has one, the part is made known that mends it. Where no part does so by itself, it is the class of
-/// the cleared start.
+/// the cleared start. A content that passes from no class has the fault from the cleared start that is
+/// answered; one that does not depend on the start ends the search.
 fn passing_class<S: Screens>(
     screens: &mut S,
     parts: &Parts<'_>,
     fault_from_any: Fault,
-) -> Result<PassingClass, AllocError>
+) -> Result<Result<PassingClass, Fault>, AllocError>
     requires length { length (content_of parts.now) ≤ longest_file }
-    requires good { IsGood (size_of parts.now) all_known (content_of parts.now) }
     requires fault { Deserves (size_of parts.now) none_known (content_of parts.now) fault_from_any }
     ensures room { TakesRoom S.has_room S.may_lack (size_of parts.now) screens.old screens.new result }
-    ensures passes { IfOk result (IsPassingClass (size_of parts.now) (content_of parts.now)) }
+    ensures passes { IfOk result (λ end. IfOk end (IsPassingClass (size_of parts.now) (content_of parts.now))) }
+    ensures refused { IfOk result (λ end. IfErr end
+        (Deserves (size_of parts.now) all_known (content_of parts.now))) }
 {
     let mut class = Start::ANY;
     let mut fault = fault_from_any;
     for _ in 0..5 {
+        if is_certain(fault.cause) {
+            return Ok(Err(fault));
+        }
         let Some(mended) = part_that_mends(screens, parts, class, fault)? else {
             break;
         };
@@ -113,16 +119,19 @@ fn passing_class<S: Screens>(
                 fault = next;
             }
             None => {
-                return Ok(PassingClass {
+                return Ok(Ok(PassingClass {
                     class: wider,
                     refused: class,
-                });
+                }));
             }
         }
     }
-    Ok(PassingClass {
-        class: Start::CLEARED,
-        refused: class,
+    Ok(match screens.fault_from(parts, Start::CLEARED)? {
+        Some(fault) => Err(fault),
+        None => Ok(PassingClass {
+            class: Start::CLEARED,
+            refused: class,
+        }),
     })
 }
 
@@ -170,32 +179,35 @@ fn class_by_parts<S: Screens>(
     })
 }
 
-/// Finds the least class of a content that passes from the cleared start, by its fault from all starts.
-/// Where it has one, a class from which it passes is looked for by the faults, and then each part of that
-/// class is tried: the content is played without it.
+/// Finds the least class of a content that passes from the cleared start, or its fault from there. It is
+/// played from all starts first. If it has a fault, a class from which it passes is looked for by the
+/// faults, and then each part of that class is tried: the content is played without it.
 ///
-/// Fails where there is no room for a screen.
+/// Fails if there is no room for a screen.
 pub(crate) fn least_class<S: Screens>(
     screens: &mut S,
     parts: &Parts<'_>,
-    fault_from_any: Option<Fault>,
-) -> Result<Least, AllocError>
-    requires length { length (content_of parts.now) ≤ longest_file }
-    requires good { IsGood (size_of parts.now) all_known (content_of parts.now) }
-    requires ends { EndsFrom (size_of parts.now) (content_of parts.now) none_known fault_from_any }
+) -> Result<Result<Least, Fault>, AllocError>
+    requires { length (content_of parts.now) ≤ longest_file }
     ensures room { TakesRoom S.has_room S.may_lack (size_of parts.now) screens.old screens.new result }
-    ensures least { IfOk result (IsLeastOf parts.now) }
+    ensures least { IfOk result (λ end. IfOk end (IsLeastOf parts.now)) }
+    ensures refused { IfOk result (λ end. IfErr end
+        (Deserves (size_of parts.now) all_known (content_of parts.now))) }
 {
-    let Some(fault) = fault_from_any else {
-        return Ok(Least {
+    let Some(fault) = screens.fault_from(parts, Start::ANY)? else {
+        return Ok(Ok(Least {
             class: Start::ANY,
             fault: None,
-        });
+        }));
     };
-    let passing = passing_class(screens, parts, fault)?;
-    let class = class_by_parts(screens, parts, &passing)?;
-    Ok(Least {
-        class,
-        fault: Some(fault),
-    })
+    match passing_class(screens, parts, fault)? {
+        Err(cleared) => Ok(Err(cleared)),
+        Ok(passing) => {
+            let class = class_by_parts(screens, parts, &passing)?;
+            Ok(Ok(Least {
+                class,
+                fault: Some(fault),
+            }))
+        }
+    }
 }

@@ -14,9 +14,9 @@ use ans_sauce::Judged;
 use ans_screen::Grid;
 use std::alloc::{AllocError, Global};
 
-/// Finds what a file of at most 16,777,216 bytes needs. Its content is played from all starts, where its
-/// fault depends on the start from the cleared one, and where that passes from classes that know some
-/// parts, one play after the other, each up to its first fault.
+/// Finds what a file of at most 16,777,216 bytes needs. Its content is played from all starts, and if its
+/// fault depends on the start, from classes that know some parts, one play after the other, each up to its
+/// first fault.
 ///
 /// Fails where memory runs out; a file that is refused for its record or its layout takes none.
 /// An offset counts bytes from the file's start, which is the content's too.

@@ -5,11 +5,9 @@ ghost use Rattle.ans_model.specs.File.Refusals.{record_fault};
 ghost use Rattle.ans_verdict.specs.FilePlayed.{IsPlayedFile};
 ghost use Rattle.ans_verdict.specs.ScreenRoom.{AnswersWithin};
 
-use crate::certain_faults::cleared_fault;
 use crate::least_class::{Least, least_class};
 use crate::screens::Screens;
 use ans_model::fault::Fault;
-use ans_model::start::Start;
 use ans_sauce::{Judged, split};
 use std::alloc::AllocError;
 
@@ -17,9 +15,9 @@ use std::alloc::AllocError;
 /// content is refused from the cleared start, or passes from there.
 pub(crate) type Played<'a> = Judged<'a, Fault, Fault, Least>;
 
-/// Plays a file's content from all starts, and where its fault depends on the start from the cleared one;
-/// where it passes from there, then from the classes that show what it needs. `Err` says that there is no
-/// room for the screen that the file's record states.
+/// Plays a file's content from all starts, and if its fault depends on the start, from classes that know one
+/// part more, until it passes or its fault is that from the cleared start; then from the classes that show
+/// what it needs. `Err` says that there is no room for the screen that the file's record states.
 pub(crate) fn play_file<'a, S: Screens>(
     screens: &mut S,
     file: &'a [u8],
@@ -33,10 +31,8 @@ pub(crate) fn play_file<'a, S: Screens>(
         Ok(parts) => parts,
         Err(fault) => return Ok(Judged::NoContent(fault)),
     };
-    let fault = screens.fault_from(&parts, Start::ANY)?;
-    if let Some(cleared) = cleared_fault(screens, &parts, fault)? {
-        return Ok(Judged::Refused(parts, cleared));
+    match least_class(screens, &parts)? {
+        Ok(least) => Ok(Judged::Passes(parts, least)),
+        Err(fault) => Ok(Judged::Refused(parts, fault)),
     }
-    let least = least_class(screens, &parts, fault)?;
-    Ok(Judged::Passes(parts, least))
 }
