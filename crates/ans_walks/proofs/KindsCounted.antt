@@ -1,6 +1,6 @@
 -- Kinds that are counted one after the other at one offset, and each of them once.
-use Rattle.std.proofs.Common.{◌≡◌, ℕ, ◌<◌, Bool, true, false, not, ◌++◌, List, Option, refl, sym, ap, ap₂, ◌∙◌, arith}
-use Rattle.std.proofs.Common.{append-nil}
+use Rattle.std.proofs.Common.{◌≡◌, ℕ, ◌<◌, Bool, true, false, not, List, [], ◌∷◌, ◌++◌, Option, refl, sym, ap, ap₂}
+use Rattle.std.proofs.Common.{◌∙◌, arith, append-nil}
 use Rattle.std.specs.Prelude.{◌&&◌, ◌||◌, ◌==◌}
 use Rattle.std.specs.List.{list_all, list_any}
 use Rattle.std.proofs.lemmas.List.Folds.{list_any-append}
@@ -115,37 +115,48 @@ module _ (old : KindsUsed) (s : Situations) (offset : ℕ) where
       ∙ ap (λ (b : Bool). counted (used_of old kind) b offset)
       (ap (λ (kinds : List Kind). one_of_three kind || list_any (is_kind kind) kinds) unnamed_is ∙ in_situations kind)
 
--- a kind that arises for one of two reasons
-pub for_either : (kind : Kind) (a b : Bool)
-    → list_any (is_kind kind) (kind_if (a || b) DosColours)
-    ≡ list_any (is_kind kind) ((kind_if a DosColours ++ kind_if b DosColours) ++ kind_if false OwnColours)
-for_either kind true true = twice (is_kind kind DosColours)
+-- What is asked of the kinds that arise, and one that arises twice makes no difference.
+abbrev pub IsOfKinds : (List Kind → Bool) → Type 0
+IsOfKinds test = test (DosColours ∷ []) ≡ test (DosColours ∷ DosColours ∷ [])
+
+pub any_of_kinds : (kind : Kind) → IsOfKinds (λ kinds. list_any (is_kind kind) kinds)
+any_of_kinds kind = twice (is_kind kind DosColours)
   where
     twice : (b : Bool) → (b || false) ≡ (b || (b || false))
     twice true = refl
     twice false = refl
-for_either kind true false = refl
-for_either kind false b =
-    sym (ap (λ (kinds : List Kind). list_any (is_kind kind) kinds) (append-nil (kind_if b DosColours)))
 
--- of a colour sequence no kind arises but that of DOS colours, for either reason
-pub kinds_of_colours : (z : Size) (stand : Stand) (numbers text : List ℕ) (may_part : Bool) (kind : Kind)
-    → may_part ≡ (not (list_all is_common_colour numbers)
-    || (omits text && not (stand.state.attribute == 0x07 && list_all (λ n. n == 0) numbers)))
-    → list_any (is_kind kind) (kind_if may_part DosColours)
-    ≡ list_any (is_kind kind) (situations z stand (one (Colours numbers) text))
-kinds_of_colours z stand numbers text may_part kind is = rw is (for_either kind _ _)
+pub all_of_kinds : (agreed : Kind → Bool) → IsOfKinds (λ kinds. list_all agreed kinds)
+all_of_kinds agreed = twice (agreed DosColours)
+  where
+    twice : (b : Bool) → (b && true) ≡ (b && (b && true))
+    twice true = refl
+    twice false = refl
 
--- which is told of its numbers, whether one is omitted, and the pen
-pub kinds_parted : (z : Size) (stand : Stand) (colours : ColourSequence) (text : List ℕ) (pen : Pen) (kind : Kind)
-    → pen ≡ pen_of stand.state → colours.omits ≡ omits text
-    → list_any (is_kind kind) (kind_if (parts_at (list_all is_common_colour colours.numbers.now) (pen.attribute == 0x07)
-    colours) DosColours)
-    ≡ list_any (is_kind kind) (situations z stand (one (Colours colours.numbers.now) text))
-kinds_parted z stand colours text pen kind here omitted =
-    kinds_of_colours z stand colours.numbers.now text _ kind
-    (ap₂ (λ (o : Bool) (p : Pen). not (list_all is_common_colour colours.numbers.now)
-    || (o && not (p.attribute == 0x07 && list_all (λ n. n == 0) colours.numbers.now))) omitted here)
+module _ (test : List Kind → Bool) (of_kinds : IsOfKinds test) where
+  -- a kind that arises for one of two reasons
+  for_either : (a b : Bool) → test (kind_if (a || b) DosColours)
+      ≡ test ((kind_if a DosColours ++ kind_if b DosColours) ++ kind_if false OwnColours)
+  for_either true true = of_kinds
+  for_either true false = refl
+  for_either false b = sym (ap test (append-nil (kind_if b DosColours)))
+
+  -- of a colour sequence no kind arises but that of DOS colours, for either reason
+  kinds_of_colours : (z : Size) (stand : Stand) (numbers text : List ℕ) (may_part : Bool)
+      → may_part ≡ (not (list_all is_common_colour numbers)
+      || (omits text && not (stand.state.attribute == 0x07 && list_all (λ n. n == 0) numbers)))
+      → test (kind_if may_part DosColours) ≡ test (situations z stand (one (Colours numbers) text))
+  kinds_of_colours z stand numbers text may_part is = rw is (for_either _ _)
+
+  -- which is told of its numbers, whether one is omitted, and the pen
+  pub kinds_parted : (z : Size) (stand : Stand) (colours : ColourSequence) (text : List ℕ) (pen : Pen)
+      → pen ≡ pen_of stand.state → colours.omits ≡ omits text
+      → test (kind_if (parts_at (list_all is_common_colour colours.numbers.now) (pen.attribute == 0x07) colours)
+      DosColours) ≡ test (situations z stand (one (Colours colours.numbers.now) text))
+  kinds_parted z stand colours text pen here omitted =
+      kinds_of_colours z stand colours.numbers.now text _
+      (ap₂ (λ (o : Bool) (p : Pen). not (list_all is_common_colour colours.numbers.now)
+      || (o && not (p.attribute == 0x07 && list_all (λ n. n == 0) colours.numbers.now))) omitted here)
 
 -- the pen behind them
 pub coloured : (pen : Pen) (s : State) (numbers : List ℕ) → pen ≡ pen_of s

@@ -13,6 +13,7 @@ ghost use Rattle.ans_walks.specs.KindsUsed.{is_used};
 ghost use Rattle.ans_walks.specs.Pens.{pen_of, StandsOn};
 
 use crate::grip::Grip;
+use crate::ink::Inked;
 use crate::kinds::{KindsUsed, text_at};
 use crate::names::Names;
 use crate::pen::{HOME, Pen};
@@ -21,7 +22,7 @@ use crate::watch::Watch;
 use ans_model::size::Size;
 use ans_model::start::Start;
 use ans_players::kind::Kind as PlayerKind;
-use ans_tokens::{Token, Walker, walk};
+use ans_tokens::{ColourSequence, Token, Walker, walk};
 
 const ALL_BUT_CURSOR: Start = Start {
     cursor: false,
@@ -100,6 +101,24 @@ impl Walker for CalmWalk<'_> {
         self.grip = self.grip.after(before, &self.pen, kind);
         self.cleared_grip = self.cleared_grip.after(cleared_before, &self.cleared, kind);
         self.names = self.names.after(kind);
+        !self.stand_alike()
+    }
+
+    #[inline(always)]
+    fn colours(&mut self, colours: &ColourSequence<'_>, _behind: &[u8]) -> bool {
+        let attribute = self.pen.attribute;
+        let inked = Inked::by(attribute, self.names, colours.numbers);
+        if !self
+            .used
+            .have_colours(attribute == 0x07, inked.are_common, colours)
+        {
+            self.is_calm = false;
+            return false;
+        }
+        self.cleared
+            .colour_again(colours.numbers, attribute, inked.attribute);
+        self.pen.attribute = inked.attribute;
+        self.names = inked.names;
         !self.stand_alike()
     }
 

@@ -105,6 +105,20 @@ impl KindsUsed {
             && (!situations.unnamed || self.times[OWN_COLOURS].is_some())
     }
 
+    /// Whether the kind of a sequence of colours arises, if players may part at it.
+    #[inline(always)]
+    pub(crate) fn have_colours(
+        &self,
+        is_grey: bool,
+        are_common: bool,
+        colours: &ColourSequence<'_>,
+    ) -> bool
+        ensures { result ≡ list_all (is_used self.now) (kind_if (parts_at are_common is_grey colours.now) DosColours) }
+    {
+        let may_part = parts_at(are_common, is_grey, colours);
+        self.has(kind_if(may_part, PlayerKind::DosColours))
+    }
+
     /// One time more of a kind, if there is one.
     #[inline(always)]
     fn count_kind(&mut self, some: Option<PlayerKind>, offset: usize)

@@ -2,6 +2,7 @@
 
 ghost use Rattle.std.specs.Prelude.{◌≡◌, ◌+◌, ◌<◌, ◌≤◌, ℕ, fold, replicate};
 ghost use Rattle.ans_model.specs.Bytes.{blank};
+ghost use Rattle.ans_model.specs.Screen.Attribute.{attribute_after_all};
 ghost use Rattle.ans_model.specs.Screen.State.{Size, State};
 ghost use Rattle.ans_model.specs.Screen.Step.{advanced, line_feed, put, step};
 ghost use Rattle.ans_model.specs.Inside.ShownKind.{shown_kind};
@@ -132,6 +133,22 @@ impl Pen {
             → self.new ≡ pen_of (step z s (Colours numbers.now)) }
     {
         self.attribute = attribute_after_all(self.attribute, numbers);
+    }
+
+    /// The same, of numbers that are known to lead from one attribute to another: where this pen has the first,
+    /// they are not gone over again.
+    #[inline(always)]
+    pub(crate) fn colour_again(&mut self, numbers: &[u8], from: u8, to: u8)
+        requires leads { to ≡ attribute_after_all from numbers.now }
+        ensures stands { (z : Size) → StandsOn z self.old → StandsOn z self.new }
+        ensures pen { (z : Size) (s : State) → self.old ≡ pen_of s
+            → self.new ≡ pen_of (step z s (Colours numbers.now)) }
+    {
+        if self.attribute == from {
+            self.attribute = to;
+        } else {
+            self.colour(numbers);
+        }
     }
 
     /// One token, by the table of steps.

@@ -1,10 +1,12 @@
 use Rattle.std.proofs.Common.{Bool, ap, arith, refl, ◌∙◌}
+use Rattle.std.specs.List.{list_any}
 use Rattle.ans_model.specs.Sequence.TokenKind.{Colours}
+use Rattle.ans_players.specs.Kinds.{is_kind}
 use Rattle.ans_walks.specs.Counted.{counted}
 use Rattle.ans_walks.specs.GripsShown.{shown_grip}
 use Rattle.ans_walks.specs.KindsUsed.{used_of}
 use Rattle.ans_walks.specs.NamesShown.{shown_names}
-use Rattle.ans_walks.proofs.KindsCounted.{coloured, kinds_parted}
+use Rattle.ans_walks.proofs.KindsCounted.{any_of_kinds, coloured, kinds_parted}
 use Rattle.ans_walks.proofs.KindsFound.{walked_kinds}
 use Rattle.ans_walks.proofs.kinds.KindsWalkWalker.colours.Goals as goal
 
@@ -24,6 +26,6 @@ returns-clause-walked c first front text next h =
     (λ s e. refl) c.by-inked.ensures.names
     (λ s kind e. c.count_colours.ensures.used kind
     ∙ ap (λ (b : Bool). counted (used_of old.used kind) b colours.start)
-    (rw c.by-inked.ensures.common (kinds_parted old.size
-    (record { grip = shown_grip old.grip; names = shown_names old.names; state = s }) colours text old.pen kind e
+    (rw c.by-inked.ensures.common (kinds_parted (list_any (is_kind kind)) (any_of_kinds kind) old.size
+    (record { grip = shown_grip old.grip; names = shown_names old.names; state = s }) colours text old.pen e
     next.omits_is)))

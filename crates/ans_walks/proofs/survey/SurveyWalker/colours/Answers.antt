@@ -1,12 +1,14 @@
 use Rattle.std.proofs.Common.{Bool, ap, arith, refl, ◌∙◌}
+use Rattle.std.specs.List.{list_any}
 use Rattle.ans_model.specs.Sequence.TokenKind.{Colours}
+use Rattle.ans_players.specs.Kinds.{is_kind}
 use Rattle.ans_walks.specs.Counted.{counted}
 use Rattle.ans_walks.specs.GripsShown.{shown_grip}
 use Rattle.ans_walks.specs.KindsUsed.{used_of}
 use Rattle.ans_walks.specs.NamesShown.{shown_names}
 use Rattle.ans_walks.specs.Surveyed.{kinds_walk_of}
 use Rattle.ans_walks.proofs.HintsFound.{is_at_later, walked_token}
-use Rattle.ans_walks.proofs.KindsCounted.{kinds_parted}
+use Rattle.ans_walks.proofs.KindsCounted.{any_of_kinds, kinds_parted}
 use Rattle.ans_walks.proofs.KindsFound.{walked_kinds}
 use Rattle.ans_walks.proofs.survey.SurveyWalker.colours.Goals as goal
 
@@ -27,7 +29,7 @@ returns-clause-walked c first front text next h =
           next.whole _ colours.start next.starts over.size refl over.pen (λ s e. refl) c.by-inked.ensures.names
           (λ s kind e. c.count_colours.ensures.used kind
           ∙ ap (λ (b : Bool). counted (used_of old.used kind) b colours.start)
-          (rw c.by-inked.ensures.common (kinds_parted old.walk.size
-          (record { grip = shown_grip old.grip; names = shown_names old.names; state = s }) colours text old.walk.pen kind
-          e next.omits_is)));
+          (rw c.by-inked.ensures.common (kinds_parted (list_any (is_kind kind)) (any_of_kinds kind) old.walk.size
+          (record { grip = shown_grip old.grip; names = shown_names old.names; state = s }) colours text old.walk.pen e
+          next.omits_is)));
     }
