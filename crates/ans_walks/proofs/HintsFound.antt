@@ -23,7 +23,6 @@ use Rattle.ans_walks.specs.RowEnds.{Written, nothing_written, row_ends_with, row
 use Rattle.ans_walks.specs.declared.row.Row.{Row}
 use Rattle.ans_walks.specs.Counted.{counted}
 use Rattle.ans_walks.specs.Hints.{AreHints}
-use Rattle.ans_walks.specs.RowMoves.{moved_with}
 use Rattle.ans_walks.specs.Rows.{empty_with, empty_after}
 use Rattle.ans_walks.specs.Walks.{GoesOver, HasWalked, IsAt, hints_with}
 use Rattle.ans_walks.specs.declared.row_ends.RowEnds.{RowEnds}
@@ -149,8 +148,6 @@ module _ (first old : Walk) (front : Front) (t : TokenKind) (text behind : List 
     dark_glyphs = found dark_glyph 0 offset _ (omega arith) h.hints.dark_glyphs;
     empty_rows = ap (λ (n : ℕ). empty_with z here n t) h.hints.empty_rows
         ∙ sym (empty_more z (cleared z) z.lines front.tokens t);
-    moves_rows = ap (λ (moved : Bool). moved_with moved t) h.hints.moves_rows
-        ∙ sym (fold-append moved_with false front.tokens (t ∷ []));
   }
 
   -- over one token more

@@ -1,6 +1,6 @@
 -- The kinds that have arisen, with one token more.
 use Rattle.std.proofs.Common.{◌≡◌, ℕ, zero, suc, ◌+◌, ◌<◌, ◌≤◌, Bool, true, false, List, [], ◌∷◌, ◌++◌, length, map}
-use Rattle.std.proofs.Common.{take, fold, refl, sym, ap, ◌∙◌, arith, subst, Option, None, Some, append_assoc}
+use Rattle.std.proofs.Common.{take, drop, fold, refl, sym, ap, ◌∙◌, arith, subst, Option, None, Some, append_assoc}
 use Rattle.std.proofs.Common.{append-nil, length-append}
 use Rattle.std.specs.Prelude.{◌≢◌, ◌==◌, IsTrue, is_none, Result, slice_get, slice_index_or, if◌then◌else◌}
 use Rattle.std.specs.List.{concat, list_all, list_any}
@@ -29,7 +29,7 @@ use Rattle.ans_players.specs.declared.kind.Kind.{Kind}
 use Rattle.ans_players.specs.declared.kind.Kind.TheVariants.{WrapAtOnce, LineEnds, HomeOnClear, ClearInColour}
 use Rattle.ans_players.specs.declared.kind.Kind.TheVariants.{SavePlaceOnly, DosColours, TabPrints, LineErased, WrapOff}
 use Rattle.ans_players.specs.declared.kind.Kind.TheVariants.{StopsAtEdge, PageControls, TerminalControls, OwnColours}
-use Rattle.ans_tokens.specs.Walk.{Front, front_with, WalksTo}
+use Rattle.ans_tokens.specs.Walk.{Front, front_of, front_with, WalksTo}
 use Rattle.ans_tokens.proofs.Walked.{walked_whole}
 use Rattle.ans_walks.specs.Counted.{count_of, counted}
 use Rattle.ans_walks.specs.GripsShown.{shown_grip}
@@ -37,6 +37,7 @@ use Rattle.ans_walks.specs.NamesShown.{shown_names}
 use Rattle.ans_walks.specs.KindsUsed.{IsTold, used_at, used_of}
 use Rattle.ans_walks.specs.KindsWalked.{AreFew, has_no_others, HasFoundKinds, IsFound, StandsAt}
 use Rattle.ans_walks.specs.Pens.{pen_of}
+use Rattle.ans_walks.specs.RowMoves.{moved_with, moves_rows}
 use Rattle.ans_walks.specs.declared.grip.Grip.{Grip}
 use Rattle.ans_walks.specs.declared.names.Names.{Names}
 use Rattle.ans_walks.specs.declared.pen.Pen.{Pen}
@@ -247,33 +248,34 @@ all_others_none used each =
 
 -- ---- the walk
 -- What is found over a front of a content: its play from the cleared start is at this pen, this grip and these names,
--- and of each kind so much was found.
+-- of each kind so much was found, and so was whether a token moves the cursor by rows.
 pub record FoundSoFar (z : Size) (content : List ℕ) (front : Front) (pen : Pen) (grip : Grip) (names : Names)
-    (uses : Kind → Option Times) : Type 0 where
+    (moved : Bool) (uses : Kind → Option Times) : Type 0 where
   pub texts : length front.texts ≡ length front.tokens
   pub whole : content ≡ concat front.texts ++ front.behind
   pub stands : StandsAt pen grip names (stand_of z (cleared z) (spelled front.tokens front.texts))
   pub found : (kind : Kind) → IsFound z (spelled front.tokens front.texts) kind (uses kind)
+  pub moves : moved ≡ moves_rows front.tokens
 
 module _ (z : Size) (content : List ℕ) (front : Front) (t : TokenKind) (text behind : List ℕ) (pen : Pen) (grip : Grip)
-    (names : Names) (uses : Kind → Option Times) (h : FoundSoFar z content front pen grip names uses)
-    (next : front.behind ≡ text ++ behind) where
+    (names : Names) (moved : Bool) (uses : Kind → Option Times)
+    (h : FoundSoFar z content front pen grip names moved uses) (next : front.behind ≡ text ++ behind) where
   abbrev xs : List Spelled
   xs = spelled front.tokens front.texts
 
   abbrev here : Stand
   here = stand_of z (cleared z) (spelled front.tokens front.texts)
 
-  pub found_token : (new_pen : Pen) (new_grip : Grip) (new_names : Names) (new_uses : Kind → Option Times) (offset : ℕ)
-      → offset ≡ length (concat front.texts)
+  pub found_token : (new_pen : Pen) (new_grip : Grip) (new_names : Names) (new_moved : Bool)
+      (new_uses : Kind → Option Times) (offset : ℕ) → offset ≡ length (concat front.texts)
       → ((s : State) → pen ≡ pen_of s → new_pen ≡ pen_of (step z s t))
       → ((s : State) → pen ≡ pen_of s → shown_grip new_grip ≡ grip_after z (shown_grip grip) s t)
-      → shown_names new_names ≡ names_after (shown_names names) t
+      → shown_names new_names ≡ names_after (shown_names names) t → new_moved ≡ moved_with moved t
       → ((s : State) (kind : Kind) → pen ≡ pen_of s → new_uses kind
       ≡ counted (uses kind) (list_any (is_kind kind) (situations z
       (record { grip = shown_grip grip; names = shown_names names; state = s }) (one t text))) offset)
-      → FoundSoFar z content (front_with front t text behind) new_pen new_grip new_names new_uses
-  found_token new_pen new_grip new_names new_uses offset at steps grips names_are news =
+      → FoundSoFar z content (front_with front t text behind) new_pen new_grip new_names new_moved new_uses
+  found_token new_pen new_grip new_names new_moved new_uses offset at steps grips names_are moves news =
       let more : spelled (front.tokens ++ t ∷ []) (front.texts ++ text ∷ []) ≡ xs ++ one t text ∷ [] =
       spelled_more front.tokens t front.texts text h.texts in
       let there : stand_of z (cleared z) (xs ++ one t text ∷ []) ≡ stand_behind z here (one t text) =
@@ -296,18 +298,26 @@ module _ (z : Size) (content : List ℕ) (front : Front) (t : TokenKind) (text b
             h.stands.names_are uses_here in
             rw (more, is) (found_if kind z xs (one t text) offset start (arises kind z here (one t text))
             (uses kind) refl (h.found kind));
+        moves = moves ∙ ap (λ (b : Bool). moved_with b t) h.moves
+            ∙ sym (fold-append moved_with false front.tokens (t ∷ []));
       }
 
 module _ (first old : KindsWalk) (front : Front) (h : HasFoundKinds first front true old) where
-  pub so_far : FoundSoFar old.size old.content.now front old.pen old.grip old.names (used_of old.used)
-  so_far = rw (h.size, h.content) (record { texts = h.texts; whole = h.whole; stands = h.stands; found = h.found })
+  pub so_far : FoundSoFar old.size old.content.now front old.pen old.grip old.names old.moves_rows (used_of old.used)
+  so_far = rw (h.size, h.content) (record {
+    texts = h.texts;
+    whole = h.whole;
+    stands = h.stands;
+    found = h.found;
+    moves = h.moves;
+  })
 
   pub has_found : (after : Front) (new : KindsWalk) → new.size ≡ old.size → new.content.now ≡ old.content.now
-      → FoundSoFar old.size old.content.now after new.pen new.grip new.names (used_of new.used)
+      → FoundSoFar old.size old.content.now after new.pen new.grip new.names new.moves_rows (used_of new.used)
       → HasFoundKinds first after true new
   has_found after new size content found =
-      let f : FoundSoFar first.size first.content.now after new.pen new.grip new.names (used_of new.used) =
-      rw (h.size, h.content) at found in
+      let f : FoundSoFar first.size first.content.now after new.pen new.grip new.names new.moves_rows
+      (used_of new.used) = rw (h.size, h.content) at found in
       record {
         never_stops = refl;
         size = size ∙ h.size;
@@ -316,11 +326,12 @@ module _ (first old : KindsWalk) (front : Front) (h : HasFoundKinds first front 
         whole = f.whole;
         stands = f.stands;
         found = f.found;
+        moves = f.moves;
       }
 
   module _ (t : TokenKind) (text behind : List ℕ) (next : front.behind ≡ text ++ behind) where
     pub walked_kinds : (new : KindsWalk) (offset : ℕ) → offset ≡ length (concat front.texts) → new.size ≡ old.size
-        → new.content.now ≡ old.content.now
+        → new.content.now ≡ old.content.now → new.moves_rows ≡ moved_with old.moves_rows t
         → ((s : State) → old.pen ≡ pen_of s → new.pen ≡ pen_of (step old.size s t))
         → ((s : State) → old.pen ≡ pen_of s
         → shown_grip new.grip ≡ grip_after old.size (shown_grip old.grip) s t)
@@ -330,10 +341,11 @@ module _ (first old : KindsWalk) (front : Front) (h : HasFoundKinds first front 
         (list_any (is_kind kind) (situations old.size
         (record { grip = shown_grip old.grip; names = shown_names old.names; state = s }) (one t text))) offset)
         → HasFoundKinds first (front_with front t text behind) true new
-    walked_kinds new offset at size content steps grips names uses =
+    walked_kinds new offset at size content moves steps grips names uses =
         has_found (front_with front t text behind) new size content
-        (found_token old.size old.content.now front t text behind old.pen old.grip old.names (used_of old.used) so_far
-        next new.pen new.grip new.names (used_of new.used) offset at steps grips names uses)
+        (found_token old.size old.content.now front t text behind old.pen old.grip old.names old.moves_rows
+        (used_of old.used) so_far next new.pen new.grip new.names new.moves_rows (used_of new.used) offset at steps
+        grips names moves uses)
 
 -- what is found in a whole content is told
 pub told : (z : Size) (content : List ℕ) (kind : Kind) (good : IsGood z all_known content) (found : Option Times)
@@ -343,14 +355,22 @@ told z content kind good None none =
 told z content kind good (Some times) a =
     (a.some, record { good = good; count_is = a.count; first = λ some. a.first })
 
-pub walked_told : (content : List ℕ) (first now : KindsWalk) (result : Result Bool Fault)
-    → WalksTo (λ first front now goes_on. HasFoundKinds first front goes_on now) content (length content) first now
-    result
-    → IsGood first.size all_known content → (kind : Kind)
-    → IsTold first.size content kind (used_of now.used kind)
-walked_told content first now result h good kind =
-    let reads : ReadsAs (take (length content) content) good.1.tokens good.1.reads.0 =
-    rw (take-length content) good.1.reads.1 in
-    told first.size content kind good (used_of now.used kind)
-    ((walked_whole _ content (length content) first now result good.1.tokens good.1.reads.0
-    (λ front stops. false≢true stops.never_stops) h reads).found kind)
+-- the walk has been over a whole content
+module _ (content : List ℕ) (first now : KindsWalk) (result : Result Bool Fault)
+    (h : WalksTo (λ first front now goes_on. HasFoundKinds first front goes_on now) content (length content) first now
+    result) where
+  whole_found : (tokens : List TokenKind) (texts : List (List ℕ)) → ReadsAs content tokens texts
+      → HasFoundKinds first (front_of tokens texts (drop (length content) content)) true now
+  whole_found tokens texts reads =
+      walked_whole _ content (length content) first now result tokens texts
+      (λ front stops. false≢true stops.never_stops) h (rw (take-length content) reads)
+
+  pub walked_told : IsGood first.size all_known content → (kind : Kind)
+      → IsTold first.size content kind (used_of now.used kind)
+  walked_told good kind =
+      told first.size content kind good (used_of now.used kind)
+      ((whole_found good.1.tokens good.1.reads.0 good.1.reads.1).found kind)
+
+  pub walked_moves : (tokens : List TokenKind) (texts : List (List ℕ)) → ReadsAs content tokens texts
+      → now.moves_rows ≡ moves_rows tokens
+  walked_moves tokens texts reads = (whole_found tokens texts reads).moves

@@ -7,9 +7,7 @@ use Rattle.ans_model.specs.Screen.State.{Size}
 use Rattle.ans_model.specs.declared.start.Start.{Start}
 use Rattle.ans_model.specs.Verdict.Good.{IsGood}
 use Rattle.ans_model.specs.Sequence.Reads.{ReadsAs}
-use Rattle.ans_walks.specs.Hints.{AreHints}
 use Rattle.ans_walks.specs.RowMoves.{moved_with, moves_rows}
-use Rattle.ans_walks.specs.declared.hints.Hints.{Hints}
 use Rattle.ans_walks.specs.Taller.{IsTaller, MovesFreely}
 
 -- ---- a move is found
@@ -45,14 +43,14 @@ no_moves_are_free z class tokens none = record {
     contradicts : moves_rows tokens ≡ true → ⊥
     contradicts some = let no : true ≡ false = sym some ∙ none in absurd (cc)
 
-module _ (z : Size) (class : Start) (flag : Bool) (content : List ℕ) (hints : Hints)
-    (h : (tokens : List TokenKind) (texts : List (List ℕ)) → ReadsAs content tokens texts
-    → AreHints z flag tokens texts [] hints) (good : IsGood z class content) where
-  pub taller_without_moves : hints.moves_rows ≡ false → IsTaller z class content
+module _ (z : Size) (class : Start) (content : List ℕ) (moved : Bool)
+    (h : (tokens : List TokenKind) (texts : List (List ℕ)) → ReadsAs content tokens texts → moved ≡ moves_rows tokens)
+    (good : IsGood z class content) where
+  pub taller_without_moves : moved ≡ false → IsTaller z class content
   taller_without_moves none =
       let reads = good.1.reads in
       record {
         tokens = good.1.tokens;
         reads = reads;
-        free = no_moves_are_free z class good.1.tokens (sym (h good.1.tokens reads.0 reads.1).moves_rows ∙ none);
+        free = no_moves_are_free z class good.1.tokens (sym (h good.1.tokens reads.0 reads.1) ∙ none);
       }

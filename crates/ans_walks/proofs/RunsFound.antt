@@ -51,16 +51,17 @@ module _ (first old new : KindsWalk) (front : Front) (run behind : List ℕ) (of
   uses k kind = counted_times (used_of old.used kind) (list_any (is_kind kind) (kind_if is_own OwnColours)) k offset
 
   abbrev kept : ℕ → Front → Type 0
-  kept k front = FoundSoFar z old.content.now front (further old.pen k) Firm old.names (uses k)
+  kept k front = FoundSoFar z old.content.now front (further old.pen k) Firm old.names old.moves_rows (uses k)
 
   step_by_byte : KeptByBytes kept offset run behind
   step_by_byte k byte front rest n found =
       let inside : old.pen.cursor.column + suc k < z.width = omega (arith, n.within, stays.stays) in
-      found_token z old.content.now front (Glyph byte) (byte ∷ []) rest (further old.pen k) Firm old.names (uses k) found
-      n.whole (further old.pen (suc k)) Firm old.names (uses (suc k)) (offset + k) n.starts
+      found_token z old.content.now front (Glyph byte) (byte ∷ []) rest (further old.pen k) Firm old.names
+      old.moves_rows (uses k) found n.whole (further old.pen (suc k)) Firm old.names old.moves_rows (uses (suc k))
+      (offset + k) n.starts
       (λ s e. byte_further z old.pen k byte inside s e)
       (λ s e. sym (byte_firm z old.pen k byte inside s e))
-      refl
+      refl refl
       (λ s kind e. times_suc (used_of old.used kind) _ k offset
       ∙ sym (ap (λ (kinds : List Kind). counted (uses k kind) (list_any (is_kind kind) kinds) (offset + k))
       (plain_kinds byte n.plain z s (shown_names old.names))))
@@ -78,13 +79,14 @@ module _ (first old new : KindsWalk) (front : Front) (run behind : List ℕ) (of
         };
         found = λ kind. subst (λ (v : Option Times). IsFound z (spelled front.tokens front.texts) kind v)
             (sym (times_zero (used_of old.used kind) _ offset)) (f.found kind);
+        moves = f.moves;
       }
 
   pub walked_run : new.size ≡ old.size → new.content.now ≡ old.content.now → new.pen ≡ further old.pen (length run)
-      → new.grip ≡ old.grip → new.names ≡ old.names
+      → new.grip ≡ old.grip → new.names ≡ old.names → new.moves_rows ≡ old.moves_rows
       → ((kind : Kind) → used_of new.used kind ≡ uses (length run) kind)
       → HasFoundKinds first (front_past front run behind) true new
-  walked_run size content pen grip names used =
+  walked_run size content pen grip names moves used =
       let past = kept_past kept offset run behind front bytes step_by_byte next begins in
       has_found first old front h (front_past front run behind) new size content (record {
         texts = past.texts;
@@ -97,6 +99,7 @@ module _ (first old new : KindsWalk) (front : Front) (run behind : List ℕ) (of
         found = λ kind. subst (λ (v : Option Times). IsFound z
             (spelled (front_past front run behind).tokens (front_past front run behind).texts) kind v)
             (sym (used kind)) (past.found kind);
+        moves = moves ∙ past.moves;
       })
 
 -- ---- the walk that looks for kinds that are not used
@@ -113,8 +116,8 @@ module _ (first old : CalmWalk) (front : Front) (run behind : List ℕ) (offset 
       → true ≡ list_all (is_used old.used.now) (situations old.size
       (record { grip = shown_grip old.grip; names = shown_names old.names; state = s }) (one (Glyph byte) (byte ∷ [])))
   agreed_at byte plain s =
-      rw stays.firm (sym (ap (list_all (is_used old.used.now)) (plain_kinds byte plain old.size s (shown_names old.names))
-      ∙ stays.agreed))
+      rw stays.firm (sym (ap (list_all (is_used old.used.now))
+      (plain_kinds byte plain old.size s (shown_names old.names)) ∙ stays.agreed))
 
   calm_by_byte : KeptByBytes kept_calm offset run behind
   calm_by_byte k byte front rest n calm =
@@ -133,7 +136,8 @@ module _ (first old : CalmWalk) (front : Front) (run behind : List ℕ) (offset 
   walked_calm_run =
       kept_past kept_calm offset run behind front bytes calm_by_byte next
       (subst (λ (w : CalmWalk). HasStayedCalm first front true w)
-      (sym (ap₂ (λ (p q : Pen). record old { pen = p; cleared = q }) (further_zero old.pen) (further_zero old.cleared))) h)
+      (sym (ap₂ (λ (p q : Pen). record old { pen = p; cleared = q }) (further_zero old.pen)
+      (further_zero old.cleared))) h)
 
 -- ---- the play that looks for faults
 module _ (first old : ClearedPlay) (front : Front) (run behind : List ℕ) (offset : ℕ)
@@ -150,7 +154,8 @@ module _ (first old : ClearedPlay) (front : Front) (run behind : List ℕ) (offs
 
   pub walked_play : HasPlayed first (front_past front run behind).tokens true (play_at (length run))
   walked_play =
-      kept_past (λ k front. HasPlayed first front.tokens true (play_at k)) offset run behind front bytes play_by_byte next
+      kept_past (λ k front. HasPlayed first front.tokens true (play_at k)) offset run behind front bytes play_by_byte
+      next
       (subst (λ (w : ClearedPlay). HasPlayed first front.tokens true w)
       (sym (ap (λ (p : Pen). record old { pen = p }) (further_zero old.pen))) h)
 
@@ -169,6 +174,7 @@ module _ (first old : Moves) (front : Front) (run behind : List ℕ) (offset : �
 
   pub walked_moves : HasMoved first (front_past front run behind).tokens true (moves_at (length run))
   walked_moves =
-      kept_past (λ k front. HasMoved first front.tokens true (moves_at k)) offset run behind front bytes moves_by_byte next
+      kept_past (λ k front. HasMoved first front.tokens true (moves_at k)) offset run behind front bytes moves_by_byte
+      next
       (subst (λ (w : Moves). HasMoved first front.tokens true w) (sym (ap₂ (λ (p q : Pen).
       record old { low = p; high = q }) (further_zero old.low) (further_zero old.high))) h)

@@ -9,7 +9,6 @@ use Rattle.ans_walks.specs.Conditions.{later_colours, blinking_glyph, dark_glyph
 use Rattle.ans_walks.specs.Counted.{count_of}
 use Rattle.ans_walks.specs.RowEnds.{are_all_ended, nothing_written, wider_rows, written_after}
 use Rattle.ans_walks.specs.Rows.{empty_rows}
-use Rattle.ans_walks.specs.RowMoves.{moves_rows}
 use Rattle.ans_walks.specs.declared.hints.Hints.{Hints}
 use Rattle.ans_walks.specs.declared.times.Times.{Times}
 
@@ -30,7 +29,6 @@ pub record AreHints (z : Size) (non_blink : Bool) (tokens : List TokenKind) (tex
   pub seen_glyphs : hints.seen_glyphs ≡ times_of (places seen_glyph z (cleared z) 0 tokens texts behind)
   pub dark_glyphs : hints.dark_glyphs ≡ times_of (places dark_glyph z (cleared z) 0 tokens texts behind)
   pub empty_rows : hints.empty_rows ≡ empty_rows z tokens
-  pub moves_rows : hints.moves_rows ≡ moves_rows tokens
 
 -- what is dark grey on black, if it is more than a tenth of what is seen
 abbrev pub much_dark : Hints → Option Times

@@ -1,6 +1,6 @@
 -- What the walk over the kinds in which players part has found so far. Only private contracts cite it.
-use Rattle.std.specs.Prelude.{◌≡◌, ℕ, ◌+◌, ◌<◌, ◌≤◌, Bool, is_none, IsTrue, List, ◌++◌, length, take, Option, None, Some}
-use Rattle.std.specs.Prelude.{not, ◌&&◌, ◌||◌, ◌==◌}
+use Rattle.std.specs.Prelude.{◌≡◌, ℕ, ◌+◌, ◌<◌, ◌≤◌, Bool, is_none, IsTrue, List, ◌++◌, length, take, Option, None}
+use Rattle.std.specs.Prelude.{Some, not, ◌&&◌, ◌||◌, ◌==◌}
 use Rattle.std.specs.List.{concat, list_all}
 use Rattle.ans_model.specs.Screen.State.{Size}
 use Rattle.ans_model.specs.Screen.StartClass.{cleared}
@@ -15,6 +15,7 @@ use Rattle.ans_walks.specs.GripsShown.{shown_grip}
 use Rattle.ans_walks.specs.NamesShown.{shown_names}
 use Rattle.ans_walks.specs.KindsUsed.{used_at, used_of}
 use Rattle.ans_walks.specs.Pens.{pen_of, StandsOn}
+use Rattle.ans_walks.specs.RowMoves.{moves_rows}
 use Rattle.ans_walks.specs.declared.grip.Grip.{Grip}
 use Rattle.ans_walks.specs.declared.grip.Grip.TheVariants.{Firm}
 use Rattle.ans_walks.specs.declared.kinds.KindsUsed.{KindsUsed}
@@ -49,7 +50,7 @@ pub record StandsAt (pen : Pen) (grip : Grip) (names : Names) (h : Stand) : Type
   pub names_are : shown_names names ≡ h.names
 
 -- Over the front of its content the first has become the other, which goes on: it stands where the front's tokens lead
--- from the cleared start, and has found what arises at them.
+-- from the cleared start, has found what arises at them, and knows whether one moves the cursor by rows.
 pub record HasFoundKinds (first : KindsWalk) (front : Front) (goes_on : Bool) (now : KindsWalk) : Type 0 where
   pub never_stops : IsTrue goes_on
   pub size : now.size ≡ first.size
@@ -59,6 +60,7 @@ pub record HasFoundKinds (first : KindsWalk) (front : Front) (goes_on : Bool) (n
   pub stands : StandsAt now.pen now.grip now.names
       (stand_of first.size (cleared first.size) (spelled front.tokens front.texts))
   pub found : (kind : Kind) → IsFound first.size (spelled front.tokens front.texts) kind (used_of now.used kind)
+  pub moves : now.moves_rows ≡ moves_rows front.tokens
 
 -- it may be handed a token at this offset
 pub record IsReadyFor (walk : KindsWalk) (offset : ℕ) : Type 0 where

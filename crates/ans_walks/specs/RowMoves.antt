@@ -1,4 +1,4 @@
--- Whether tokens move the cursor up or down by a number of rows.
+-- Whether tokens move the cursor up or down by a number of rows. Only private contracts cite it.
 use Rattle.std.specs.Prelude.{Bool, true, false, List, fold}
 use Rattle.ans_model.specs.Sequence.TokenKind.{TokenKind, Up, Down}
 

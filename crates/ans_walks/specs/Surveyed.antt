@@ -16,6 +16,7 @@ kinds_walk_of survey = record {
   grip = survey.grip;
   names = survey.names;
   used = survey.used;
+  moves_rows = survey.moves_rows;
 }
 
 -- over the front the first has become the other: in it each of the two walks has gone over the front

@@ -1,6 +1,6 @@
 -- The hints of a front of a content, token by token.
-use Rattle.std.specs.Prelude.{◌≡◌, ℕ, ◌+◌, ◌-◌, ◌<◌, ◌≤◌, Bool, false, not, ◌&&◌, ◌==◌, nat_le, min, get_or, List, length}
-use Rattle.std.specs.Prelude.{IsTrue}
+use Rattle.std.specs.Prelude.{◌≡◌, ℕ, ◌+◌, ◌-◌, ◌<◌, ◌≤◌, Bool, false, not, ◌&&◌, ◌==◌, nat_le, min, get_or, List}
+use Rattle.std.specs.Prelude.{length, IsTrue}
 use Rattle.ans_model.specs.Sequence.TokenKind.{TokenKind}
 use Rattle.ans_model.specs.Screen.State.{State}
 use Rattle.ans_model.specs.Screen.Step.{final, step}
@@ -13,7 +13,6 @@ use Rattle.ans_walks.specs.RowEnds.{CountsRows, is_stuck, nothing_written, print
 use Rattle.ans_walks.specs.RowEnds.{written_after}
 use Rattle.ans_walks.specs.Counted.{count_of, counted, counted_along, counted_times}
 use Rattle.ans_walks.specs.Hints.{AreHints}
-use Rattle.ans_walks.specs.RowMoves.{moved_with}
 use Rattle.ans_walks.specs.Rows.{empty_with}
 use Rattle.ans_walks.specs.declared.hints.Hints.{Hints}
 use Rattle.ans_walks.specs.declared.row.Seam.TheVariants.{Other}
@@ -34,7 +33,6 @@ hints_with walk s offset t rest = record {
   seen_glyphs = counted walk.hints.seen_glyphs (seen_glyph walk.size s t rest) offset;
   dark_glyphs = counted walk.hints.dark_glyphs (dark_glyph walk.size s t rest) offset;
   empty_rows = empty_with walk.size s walk.hints.empty_rows t;
-  moves_rows = moved_with walk.hints.moves_rows t;
 }
 
 -- which bytes of a run are seen, and which are seen and dark

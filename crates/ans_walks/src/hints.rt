@@ -38,8 +38,6 @@ pub struct Hints {
     pub dark_glyphs: Option<Times>,
     /// How many lines of the given size lie below all that is printed.
     pub empty_rows: usize,
-    /// Whether some sequence moves the cursor up or down by rows. It is no hint and has no line.
-    pub moves_rows: bool,
 }
 
 impl Hints {

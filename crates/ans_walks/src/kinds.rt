@@ -3,6 +3,8 @@
 ghost use Rattle.std.specs.Prelude.{◌≡◌, ◌↔◌, ◌≤◌, ◌<◌, ◌+◌, ◌++◌, ℕ, List, IsTrue, None, length};
 ghost use Rattle.std.specs.List.{list_all, list_any};
 ghost use Rattle.ans_model.specs.Bytes.{longest_file};
+ghost use Rattle.ans_model.specs.Sequence.Reads.{ReadsAs};
+ghost use Rattle.ans_model.specs.Sequence.TokenKind.{TokenKind};
 ghost use Rattle.ans_model.specs.Screen.StartClass.{all_known};
 ghost use Rattle.ans_model.specs.Text.Words.{texts_of};
 ghost use Rattle.ans_model.specs.Verdict.Good.{IsGood};
@@ -14,12 +16,14 @@ ghost use Rattle.ans_walks.specs.GripsShown.{kinds_in, kinds_of};
 ghost use Rattle.ans_walks.specs.KindsUsed.{IsTold, is_used, used_of, words_used};
 ghost use Rattle.ans_players.specs.declared.kind.Kind.TheVariants.{DosColours, OwnColours as own_colours};
 ghost use Rattle.ans_walks.specs.KindsWalked.{AreFew, has_no_others, parts_at};
+ghost use Rattle.ans_walks.specs.RowMoves.{moves_rows};
 
 use crate::grip::Grip;
 use crate::ink::Inked;
 use crate::names::Names;
 use crate::pen::Pen;
 use crate::situations::{Situations, are_zero, kind_if, unless};
+use crate::taller::moved_with;
 use crate::times::{Times, count, count_times};
 use ans_model::size::Size;
 use ans_players::kind::Kind as PlayerKind;
@@ -203,16 +207,17 @@ impl KindsUsed {
     }
 }
 
-/// A play from the cleared start without its screen, how firmly players stand in it, and the kinds that
-/// have arisen so far.
+/// A play from the cleared start without its screen, how firmly players stand in it, the kinds that have
+/// arisen so far, and whether some sequence has moved the cursor up or down by rows.
 #[derive(Clone, Copy)]
-struct KindsWalk<'a> {
+pub(crate) struct KindsWalk<'a> {
     content: &'a [u8],
     size: Size,
     pen: Pen,
     grip: Grip,
     names: Names,
-    used: KindsUsed,
+    pub(crate) used: KindsUsed,
+    pub(crate) moves_rows: bool,
 }
 
 /// The bytes of the content from an offset to those that stand behind.
@@ -249,6 +254,7 @@ impl Walker for KindsWalk<'_> {
         self.pen.step(self.size, kind);
         self.grip = self.grip.after(before, &self.pen, kind);
         self.names = self.names.after(kind);
+        self.moves_rows = moved_with(self.moves_rows, kind);
         true
     }
 
@@ -278,6 +284,29 @@ impl Walker for KindsWalk<'_> {
     }
 }
 
+impl<'a> KindsWalk<'a> {
+    /// Over all of a content.
+    pub(crate) fn over(size: Size, content: &'a [u8]) -> KindsWalk<'a>
+        requires length { length content.now ≤ longest_file }
+        ensures told { IsGood size all_known content.now
+            → (kind : Kind) → IsTold size content.now kind (used_of result.used kind) }
+        ensures moves { (tokens : List TokenKind) (texts : List (List ℕ)) → ReadsAs content.now tokens texts
+            → result.moves_rows ≡ moves_rows tokens }
+    {
+        let mut kinds = KindsWalk {
+            content,
+            size,
+            pen: Pen::cleared(),
+            grip: Grip::Firm,
+            names: Names::NONE,
+            used: KindsUsed::NONE,
+            moves_rows: false,
+        };
+        let _ = walk(content, content.len(), &mut kinds);
+        kinds
+    }
+}
+
 /// The kinds in which players part that a content makes use of, in the play from the cleared start:
 /// how often each arises, and where first. Where the content does not pass from there, nothing is
 /// promised. It reads the bytes once, and takes no memory.
@@ -286,14 +315,5 @@ pub fn kinds_used(size: Size, content: &[u8]) -> KindsUsed
     ensures { IsGood size all_known content.now
         → (kind : Kind) → IsTold size content.now kind (used_of result kind) }
 {
-    let mut kinds = KindsWalk {
-        content,
-        size,
-        pen: Pen::cleared(),
-        grip: Grip::Firm,
-        names: Names::NONE,
-        used: KindsUsed::NONE,
-    };
-    let _ = walk(content, content.len(), &mut kinds);
-    kinds.used
+    KindsWalk::over(size, content).used
 }

@@ -7,8 +7,9 @@
 //! [`Hints::of`] counts what is worth a look in a drawing, though it changes no verdict. [`kinds_used`]
 //! counts the kinds in which players part that a drawing makes use of, [`Players::of`] says on which
 //! players and from which starts it shows its picture, and [`is_same_where_cleared`] whether from every
-//! start as from the cleared one. [`Overview::of`] tells hints, players and taller screens together, with
-//! fewer walks. Nothing here takes memory. What is proved of these walks is in `ans_play_laws`.
+//! start as from the cleared one. [`Reach::of`] tells players and taller screens together, and
+//! [`Overview::of`] hints too, with fewer walks. Nothing here takes memory. What is proved of these walks
+//! is in `ans_play_laws`.
 //!
 //! A `Pen` is all of a state but its cells. No cell tells where a token takes it, so it goes on without
 //! them, also where the screen scrolls (`specs/Pens.antt`). What each hint is about stands in
@@ -28,6 +29,7 @@ mod lines;
 mod names;
 mod pen;
 mod players;
+mod reach;
 mod row;
 mod row_ends;
 mod row_play;
@@ -48,6 +50,7 @@ pub use kinds::{KindsUsed, kinds_used};
 pub use lines::{is_good, least_lines};
 pub use names::{Names, paints};
 pub use players::{Players, is_same_where_cleared};
+pub use reach::Reach;
 pub use row::{EndedRow, Row, Seam};
 pub use row_ends::{RowEnds, RowsOver, WiderRows};
 pub use row_play::RowPlay;

@@ -16,15 +16,17 @@ use crate::ink::Inked;
 use crate::kinds::{KindsUsed, text_at};
 use crate::names::Names;
 use crate::players::Players;
+use crate::reach::Reach;
 use crate::situations::Situations;
-use crate::taller::is_taller;
+use crate::taller::moved_with;
 use crate::walk::Walk;
 use ans_model::size::Size;
 use ans_model::start::Start;
 use ans_tokens::{ColourSequence, Token, Walker, walk};
 
 /// A play from the cleared start without its screen, which finds hints, and beside it how firmly players stand
-/// in it, which colours are named, and the kinds that have arisen so far.
+/// in it, which colours are named, the kinds that have arisen so far, and whether some sequence has moved the
+/// cursor up or down by rows.
 #[derive(Clone, Copy)]
 struct Survey<'a> {
     content: &'a [u8],
@@ -32,6 +34,7 @@ struct Survey<'a> {
     grip: Grip,
     names: Names,
     used: KindsUsed,
+    moves_rows: bool,
 }
 
 impl Walker for Survey<'_> {
@@ -54,6 +57,7 @@ impl Walker for Survey<'_> {
         self.walk.go_over(offset, kind, behind);
         self.grip = self.grip.after(before.cursor, &self.walk.pen, kind);
         self.names = self.names.after(kind);
+        self.moves_rows = moved_with(self.moves_rows, kind);
         true
     }
 
@@ -95,10 +99,10 @@ pub struct Overview {
 }
 
 impl Overview {
-    /// Of a content, where `needs` is the least class of starts from which it passes: what [`Hints::of`],
-    /// [`Players::of`] and [`is_taller`] say of all of it. Offsets are in bytes from the content's start. Glyphs
-    /// that blink are none where the record sets the non-blink flag. It takes no memory, and reads the bytes at
-    /// most six times, and once more where some sequence moves the cursor up or down by rows.
+    /// Of a content, where `needs` is the least class of starts from which it passes: what [`Hints::of`] and
+    /// [`Reach::of`] say of all of it. Offsets are in bytes from the content's start. Glyphs that blink are none
+    /// where the record sets the non-blink flag. It takes no memory, and reads the bytes at most six times, and
+    /// once more where some sequence moves the cursor up or down by rows.
     pub fn of(size: Size, needs: Start, non_blink: bool, content: &[u8]) -> Overview
         requires length { length content.now ≤ longest_file }
         requires needs { IsLeast size content.now needs }
@@ -113,13 +117,14 @@ impl Overview {
             grip: Grip::Firm,
             names: Names::NONE,
             used: KindsUsed::NONE,
+            moves_rows: false,
         };
         let _ = walk(content, content.len(), &mut survey);
-        let hints = survey.walk.hints;
+        let reach = Reach::by(size, needs, survey.used, survey.moves_rows, content);
         Overview {
-            hints,
-            players: Players::by(size, needs, survey.used, content),
-            taller: !hints.moves_rows || is_taller(size, needs, content),
+            hints: survey.walk.hints,
+            players: reach.players,
+            taller: reach.taller,
         }
     }
 }

@@ -1,10 +1,11 @@
 //! Whether a content plays on taller screens as on the stated one.
 
-ghost use Rattle.std.specs.Prelude.{◌≤◌, ◌↔◌, length, IsTrue};
+ghost use Rattle.std.specs.Prelude.{◌≡◌, ◌≤◌, ◌↔◌, length, IsTrue};
 ghost use Rattle.ans_model.specs.Bytes.{longest_file};
 ghost use Rattle.ans_model.specs.Inside.ShownKind.{shown_kind};
 ghost use Rattle.ans_model.specs.Verdict.Good.{IsGood};
 ghost use Rattle.ans_walks.specs.Pens.{StandsOn};
+ghost use Rattle.ans_walks.specs.RowMoves.{moved_with};
 ghost use Rattle.ans_walks.specs.Taller.{IsTaller};
 ghost use Rattle.ans_walks.specs.Walkers.{IsFreeBetween};
 
@@ -14,6 +15,17 @@ use ans_model::kind::Kind;
 use ans_model::size::Size;
 use ans_model::start::Start;
 use ans_tokens::{ColourSequence, Token, Walker, walk};
+
+/// Whether some token moves the cursor up or down by rows: one did before, or this one does.
+#[inline(always)]
+pub(crate) fn moved_with(moved: bool, kind: &Kind) -> bool
+    ensures { result ≡ moved_with moved (shown_kind kind.now) }
+{
+    match kind {
+        Kind::Up(_) | Kind::Down(_) => true,
+        _ => moved,
+    }
+}
 
 /// Whether a token is no move up or down, or one that nothing stops, where the cursors of the low and
 /// the high start stand so.

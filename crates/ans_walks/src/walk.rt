@@ -1,6 +1,7 @@
 //! A walk over the tokens of a content that finds its hints.
 
-ghost use Rattle.std.specs.Prelude.{◌≡◌, ◌+◌, ◌-◌, ◌<◌, ◌≤◌, ◌&&◌, ◌||◌, ◌==◌, ℕ, List, true, false, length, min, slice_index};
+ghost use Rattle.std.specs.Prelude.{◌≡◌, ◌+◌, ◌-◌, ◌<◌, ◌≤◌, ◌&&◌, ◌||◌, ◌==◌, ℕ, List, true, false, length};
+ghost use Rattle.std.specs.Prelude.{min, slice_index};
 ghost use Rattle.ans_model.specs.Bytes.{longest_file};
 ghost use Rattle.ans_model.specs.Sequence.TokenKind.{Colours, Glyph, LineFeed};
 ghost use Rattle.ans_model.specs.Screen.Attribute.{attribute_after_all};
@@ -66,7 +67,6 @@ impl Walk {
                 seen_glyphs: None,
                 dark_glyphs: None,
                 empty_rows: size.lines(),
-                moves_rows: false,
             },
         }
     }
@@ -260,7 +260,6 @@ impl Walk {
                 let pen = self.pen;
                 self.print_in(pen.row_of_tab(self.size));
             }
-            Kind::Up(_) | Kind::Down(_) => self.hints.moves_rows = true,
             Kind::Colours(numbers) => {
                 let later = has_later_colour(numbers);
                 count(&mut self.hints.later_colours, later, offset);

@@ -21,7 +21,7 @@ returns-clause-walked c first front text next h =
     let old = c.args.self.now in
     let colours = c.args.colours.now in
     let numbers = colours.numbers.now in
-    walked_kinds first old front h (Colours numbers) text _ next.whole _ colours.start next.starts refl refl
+    walked_kinds first old front h (Colours numbers) text _ next.whole _ colours.start next.starts refl refl refl
     (λ s e. rw c.by-inked.ensures.attribute (coloured old.pen s numbers e))
     (λ s e. refl) c.by-inked.ensures.names
     (λ s kind e. c.count_colours.ensures.used kind

@@ -15,6 +15,7 @@ returns-clause-walked c first front text next h =
     let text_is = c.text_at-text.ensures _ text
     (h.content ∙ text_there first.content.now front.texts _ text _ h.whole next.whole) start in
     walked_kinds first old front h _ text _ next.whole _ c.start-offset.result start refl refl
+    (rw c.kind-kind.ensures at c.moved_with-self.ensures)
     (rw c.kind-kind.ensures at c.step.ensures.pen)
     (λ s e. rw c.kind-kind.ensures at
     (c.after-self.ensures old.size s (ap (λ (p : Pen). p.cursor) e) (c.step.ensures.pen s e)))

@@ -26,7 +26,7 @@ returns-clause-walked c first front text next h =
     record {
       hints = walked_token first.walk old.walk front _ text _ h.hints next.whole _ colours.start next.starts over;
       kinds = walked_kinds (kinds_walk_of first) (kinds_walk_of old) front h.kinds (Colours colours.numbers.now) text _
-          next.whole _ colours.start next.starts over.size refl over.pen (λ s e. refl) c.by-inked.ensures.names
+          next.whole _ colours.start next.starts over.size refl refl over.pen (λ s e. refl) c.by-inked.ensures.names
           (λ s kind e. c.count_colours.ensures.used kind
           ∙ ap (λ (b : Bool). counted (used_of old.used kind) b colours.start)
           (rw c.by-inked.ensures.common (kinds_parted (list_any (is_kind kind)) (any_of_kinds kind) old.walk.size

@@ -15,6 +15,6 @@ returns-clause-walked c first front behind next h =
       kinds = kinds.walked_run (kinds_walk_of first) (kinds_walk_of old) _ front c.args.run.now behind c.args.offset
           h.kinds (λ k l. omega (arith, c.type_inv.run k)) next
           (record { firm = c.requires.takes.firm; stays = c.requires.takes.stays.stays })
-          (ap (λ (w : Walk). w.size) past) refl (ap (λ (w : Walk). w.pen) past) refl refl
+          (ap (λ (w : Walk). w.size) past) refl (ap (λ (w : Walk). w.pen) past) refl refl refl
           (λ kind. rw c.are_both.ensures at (c.count_run.ensures.used kind));
     }

@@ -26,7 +26,7 @@ returns-clause-walked c first front text next h =
     record {
       hints = walked_token first.walk old.walk front _ text _ h.hints next.whole _ c.start-offset.result start over;
       kinds = walked_kinds (kinds_walk_of first) (kinds_walk_of old) front h.kinds _ text _ next.whole _
-          c.start-offset.result start over.size refl over.pen
+          c.start-offset.result start over.size refl (rw c.kind-kind.ensures at c.moved_with-self.ensures) over.pen
           (λ s e. rw c.kind-kind.ensures at
           (c.after-self.ensures old.walk.size s (ap (λ (p : Pen). p.cursor) e) (c.go_over.ensures.over.pen s e)))
           (rw c.kind-kind.ensures at c.after-self-2.ensures)
