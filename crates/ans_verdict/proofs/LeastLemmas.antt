@@ -3,11 +3,12 @@ use Rattle.std.proofs.Common.{◌≡◌, ℕ, true, false, List, Option, Some, N
 use Rattle.std.specs.Prelude.{◌↔◌, is_some}
 use Rattle.std.proofs.Math.Bool.{and-true, and-false}
 use Rattle.ans_model.specs.Screen.State.{Size}
-use Rattle.ans_model.specs.Screen.StartClass.{Covers, both_known}
+use Rattle.ans_model.specs.Screen.StartClass.{Covers, all_known, both_known}
 use Rattle.ans_model.specs.Verdict.Good.{IsGood}
 use Rattle.ans_model.specs.declared.fault.Fault.{Fault}
 use Rattle.ans_model.specs.declared.start.Start.{Start}
-use Rattle.ans_model.proofs.ClassLemmas.{covers_good, covers_all_but_screen, covers_all_but_cursor}
+use Rattle.ans_model.proofs.ClassLemmas.{covers_all_known, covers_good, covers_all_but_screen}
+use Rattle.ans_model.proofs.ClassLemmas.{covers_all_but_cursor}
 use Rattle.ans_model.proofs.ClassLemmas.{covers_all_but_saved, covers_all_but_colours, covers_all_but_wrap}
 use Rattle.ans_play.proofs.GoodFromBoth.{good_from_both}
 use Rattle.ans_verdict.specs.declared.part.Part.{Part}
@@ -78,3 +79,7 @@ module _ (z : Size) (content : List ℕ) where
       → ¬ IsGood z c content
   not_good_by c None f ends e good = absurd (let no : None ≡ Some f = e in cc)
   not_good_by c (Some h) f ends e good = not_good z c content h ends good
+
+  -- what is good for a class is good for the cleared start
+  pub good_when_cleared : (c : Start) → IsGood z c content → IsGood z all_known content
+  good_when_cleared c good = covered c all_known (covers_all_known c) good

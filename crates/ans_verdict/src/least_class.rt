@@ -87,6 +87,30 @@ fn part_that_mends<S: Screens>(
     Ok(None)
 }
 
+/// The class of the cleared start, if the content passes from there, and else its fault. It has a fault from
+/// the class that is given.
+fn cleared_class<S: Screens>(
+    screens: &mut S,
+    parts: &Parts<'_>,
+    refused: Start,
+    fault: Fault,
+) -> Result<Result<PassingClass, Fault>, AllocError>
+    requires length { length (content_of parts.now) ≤ longest_file }
+    requires fault { Deserves (size_of parts.now) refused (content_of parts.now) fault }
+    ensures room { TakesRoom S.has_room S.may_lack (size_of parts.now) screens.old screens.new result }
+    ensures passes { IfOk result (λ end. IfOk end (IsPassingClass (size_of parts.now) (content_of parts.now))) }
+    ensures refused { IfOk result (λ end. IfErr end
+        (Deserves (size_of parts.now) all_known (content_of parts.now))) }
+{
+    match screens.fault_from(parts, Start::CLEARED)? {
+        Some(cleared) => Ok(Err(cleared)),
+        None => Ok(Ok(PassingClass {
+            class: Start::CLEARED,
+            refused,
+        })),
+    }
+}
+
 /// Finds a class from which the content passes: from all starts it has this fault, and as long as it
 /// has one, the part is made known that mends it. Where no part does so by itself, it is the class of
 /// the cleared start. A content that passes from no class has the fault from the cleared start that is
@@ -110,7 +134,7 @@ fn passing_class<S: Screens>(
             return Ok(Err(fault));
         }
         let Some(mended) = part_that_mends(screens, parts, class, fault)? else {
-            break;
+            return cleared_class(screens, parts, class, fault);
         };
         let wider = mended.part.made_known(true, class);
         match mended.fault {
@@ -126,13 +150,7 @@ fn passing_class<S: Screens>(
             }
         }
     }
-    Ok(match screens.fault_from(parts, Start::CLEARED)? {
-        Some(fault) => Err(fault),
-        None => Ok(PassingClass {
-            class: Start::CLEARED,
-            refused: class,
-        }),
-    })
+    cleared_class(screens, parts, class, fault)
 }
 
 /// Whether the content needs a part, by a class from which it passes.
