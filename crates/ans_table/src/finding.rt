@@ -16,7 +16,7 @@ use crate::counts::Outcome;
 use ans_model::fault::Fault;
 use ans_model::start::Start;
 use ans_sauce::{Judged, Parts, Record, cut_record};
-use ans_walks::{Overview, Players, cursors_before};
+use ans_walks::{Players, Reach, cursors_before};
 
 /// Why a file was not read.
 #[derive(Debug, Clone, Copy, PartialEq, Eq)]
@@ -119,13 +119,11 @@ impl PassFinding {
         requires needs { IsLeast (size_of parts.now) (content_of parts.now) needs }
         ensures { IsPassFinding parts.now result }
     {
-        let size = parts.size();
-        let content = parts.content();
-        let overview = Overview::of(size, needs, parts.sauce().is_non_blink(), content);
+        let reach = Reach::of(parts.size(), needs, parts.content());
         PassFinding {
             needs,
-            players: overview.players,
-            taller: overview.taller,
+            players: reach.players,
+            taller: reach.taller,
         }
     }
 }
