@@ -109,7 +109,8 @@ module _ (first old new : CalmWalk) (front : Front) (t : TokenKind) (text behind
   before s begun = subst (λ (b : Bool). IsCalmTo agreed z s passed b old) (h.on refl) (h.calm s begun)
 
   test_is : (test : Bool) → ((s : State) → Ways s test) → (s : State)
-      → StandsAt old.pen old.grip old.names (stand_of z s passed) → test ≡ is_agreed agreed z (stand_of z s passed) (one t text)
+      → StandsAt old.pen old.grip old.names (stand_of z s passed)
+      → test ≡ is_agreed agreed z (stand_of z s passed) (one t text)
   test_is test is s at =
       subst (λ (n : name.Names). test ≡ list_all agreed
       (situations z (record (stand_of z s passed) { names = n }) (one t text))) at.names_are
@@ -206,7 +207,8 @@ module _ (content : List ℕ) (first now : CalmWalk) (s : State) (tokens : List 
           let at : k ≡ length played + i = omega (arith, behind) in
           subst (λ (n : ℕ). IsTrue (is_agreed used size (stand_of size t (take n (played ++ ys))) x)) (sym at)
           (rw (take-append-add played ys i, fold-append (stand_behind size) (firmly t) played (take i ys))
-          (rest i x (sym (slice_get-append_right played ys i) ∙ ap (λ (n : ℕ). slice_get (played ++ ys) n) (sym at) ∙ e)))
+          (rest i x (sym (slice_get-append_right played ys i)
+          ∙ ap (λ (n : ℕ). slice_get (played ++ ys) n) (sym at) ∙ e)))
     ]
 
     -- so it is in the rest
@@ -231,8 +233,8 @@ module _ (content : List ℕ) (first now : CalmWalk) (s : State) (tokens : List 
         let at = subst (λ (b : Bool). IsCalmTo used size s played b now) calm (h.calm s begun) in
         let alike = stands_alike (h.stops stopped calm) at.1 at.2 in
         let whole = rw all at from_cleared in (
-          λ yes. rw all (with_rest s at.0 (agreed_alike used size ys (stand_of size s played) (stand_of size (cleared size) played) alike
-              (of_rest (cleared size) whole))),
+          λ yes. rw all (with_rest s at.0 (agreed_alike used size ys (stand_of size s played)
+              (stand_of size (cleared size) played) alike (of_rest (cleared size) whole))),
           λ each. refl,
         )
     told false calm stopped =

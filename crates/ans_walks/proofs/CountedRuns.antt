@@ -1,5 +1,5 @@
 -- Times that are counted along a run.
-use Rattle.std.proofs.Common.{◌≡◌, ℕ, zero, suc, ◌+◌, Bool, true, false, refl, ap, ap₂, ◌∙◌, arith, Option}
+use Rattle.std.proofs.Common.{◌≡◌, ℕ, zero, suc, ◌+◌, Bool, true, false, refl, ap, ◌∙◌, arith, Option}
 use Rattle.std.proofs.Common.{None, Some}
 use Rattle.std.specs.Prelude.{if◌then◌else◌}
 use Rattle.ans_walks.specs.Counted.{counted, counted_along, counted_times, so_many}
@@ -32,12 +32,6 @@ never_along times holds offset zero never = refl
 never_along times holds offset (suc k) never =
     ap (λ (b : Bool). counted (counted_along times holds offset k) b (offset + k)) (never k)
     ∙ never_along times holds offset k never
-
-pub same_along : (times : Option Times) (holds other : ℕ → Bool) (offset k : ℕ) → ((i : ℕ) → holds i ≡ other i)
-    → counted_along times holds offset k ≡ counted_along times other offset k
-same_along times holds other offset zero same = refl
-same_along times holds other offset (suc k) same =
-    ap₂ (λ (t : Option Times) (b : Bool). counted t b (offset + k)) (same_along times holds other offset k same) (same k)
 
 more_of : (t : Times) (n : ℕ) (b : Bool) (offset : ℕ)
     → counted (Some (record { count = t.count + n; first = t.first })) b offset

@@ -95,6 +95,7 @@ module _ (z : Size) (pen : Pen) (k b : ℕ) (stays : pen.cursor.column + suc k <
   -- no byte wraps, so players that stand firm do so after it
   pub byte_firm : grip_after z Firm s (Glyph b) ≡ Firm
   byte_firm =
-      let inside : ((s.cursor.column + 1) == 0) ≡ false = ne_eqb (s.cursor.column + 1) 0 (λ e. absurd (omega (arith, e))) in
+      let inside : ((s.cursor.column + 1) == 0) ≡ false =
+      ne_eqb (s.cursor.column + 1) 0 (λ e. absurd (omega (arith, e))) in
       ap (λ (t : State). if t.wrap && t.cursor.column == 0 then Wrapped else Firm) goes_on
       ∙ ap (λ (b : Bool). if b then Wrapped else Firm) (and_right s.wrap _ inside)

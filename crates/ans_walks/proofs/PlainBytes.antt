@@ -3,14 +3,13 @@ use Rattle.std.proofs.Common.{◌≡◌, ℕ, ◌<◌, ◌≤◌, Bool, false, n
 use Rattle.std.specs.Prelude.{IsTrue, ◌&&◌, ◌||◌, ◌==◌, nat_le, slice_index}
 use Rattle.std.specs.Int.{is_in_range}
 use Rattle.std.proofs.lemmas.Bool.{and_cases, and_parts, leb-true, leb-false, lt-leb, ne_eqb, not-true, or_from}
-use Rattle.std.proofs.lemmas.Bool.{or_parts, and_left}
-use Rattle.std.proofs.lemmas.Bool.{and_right}
+use Rattle.std.proofs.lemmas.Bool.{or_parts, and_left, and_right}
 use Rattle.ans_model.specs.Sequence.TokenKind.{Glyph}
 use Rattle.ans_model.specs.Screen.State.{Size, State}
 use Rattle.ans_players.specs.Grips as grip
 use Rattle.ans_players.specs.Grips.{Stand}
 use Rattle.ans_players.specs.Names.{Names, are_both}
-use Rattle.ans_players.specs.Situations.{is_page_control, is_terminal_control, kind_if, situations, token_kinds}
+use Rattle.ans_players.specs.Situations.{is_page_control, is_terminal_control, kind_if, situations}
 use Rattle.ans_players.specs.declared.kind.Kind.TheVariants.{OwnColours}
 use Rattle.ans_tokens.specs.Walk.{begins_as_code, begins_plainly, is_foreign, is_plain}
 use Rattle.ans_walks.specs.Conditions.{begins_with_two_byte_letter, begins_with_pipe_number, begins_with_wide}
@@ -65,9 +64,6 @@ module _ (b : ℕ) (plain : IsTrue (is_plain b)) where
       let second = outside_above b 0x0E 0x19 (omega (arith, low)) in
       let third = outside_above b 0x1C 0x1F (omega (arith, low)) in
       or_from _ (b == 0x7F) (or_from _ _ (or_from _ _ first second) third) (not-true (b == 0x7F) parts.1.0)
-
-  pub no_kinds : (z : Size) (s : State) → token_kinds z s (Glyph b) ≡ []
-  no_kinds z s = rw (no_page, no_terminal) refl
 
   -- of players that stand firm only own colours arise
   pub plain_kinds : (z : Size) (s : State) (n : Names)

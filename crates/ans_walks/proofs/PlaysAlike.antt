@@ -13,8 +13,8 @@ use Rattle.ans_model.specs.declared.cell.Position.{Position}
 use Rattle.ans_players.specs.Grips.{Grip, Stand, Firm, Wrapped, BehindFeed, BehindReturn, Adrift, grip_after, is_home}
 use Rattle.ans_players.specs.Grips.{loose_kinds, is_held}
 use Rattle.ans_players.specs.Names.{Names, names_after}
-use Rattle.ans_players.specs.Situations.{Spelled, is_agreed, kind_if, name_kinds, situations, spelling_kinds, stand_behind}
-use Rattle.ans_players.specs.Situations.{token_kinds}
+use Rattle.ans_players.specs.Situations.{Spelled, is_agreed, kind_if, name_kinds, situations, spelling_kinds}
+use Rattle.ans_players.specs.Situations.{stand_behind, token_kinds}
 use Rattle.ans_players.specs.declared.kind.Kind.{Kind}
 use Rattle.ans_players.specs.declared.kind.Kind.TheVariants.{StopsAtEdge, HomeOnClear, SavePlaceOnly}
 use Rattle.ans_players.proofs.OneOfTwo.{parts_agreed}
@@ -44,7 +44,8 @@ module _ (z : Size) (restores : Bool) where
       (record { cursor = h.cursor; saved = h.saved; attribute = h.attribute; wrap = h.wrap })
       (moved s r _ _ h (ap below h.cursor)))
 
-  wrapped : (s r : State) → Alike s r → Alike (if s.wrap then line_feed z (record s { cursor = at s.cursor.row 0 }) else s)
+  wrapped : (s r : State) → Alike s r
+      → Alike (if s.wrap then line_feed z (record s { cursor = at s.cursor.row 0 }) else s)
       (if r.wrap then line_feed z (record r { cursor = at r.cursor.row 0 }) else r)
   wrapped s r h =
       let below : State → State = λ t. line_feed z (record t { cursor = at t.cursor.row 0 }) in
@@ -106,7 +107,8 @@ module _ (z : Size) (restores : Bool) where
 
   grip_alike : (g : Grip) (t : TokenKind) (s r : State) → (t ≡ Restore → restores ≡ true) → Alike s r
       → grip_after z g s t ≡ grip_after z g r t
-  grip_alike g (Glyph byte) s r goes h = print_alike (step z s (Glyph byte)) (step z r (Glyph byte)) (step_alike (Glyph byte) s r goes h)
+  grip_alike g (Glyph byte) s r goes h =
+      print_alike (step z s (Glyph byte)) (step z r (Glyph byte)) (step_alike (Glyph byte) s r goes h)
   grip_alike g Tab s r goes h = print_alike (step z s Tab) (step z r Tab) (step_alike Tab s r goes h)
   grip_alike BehindFeed CarriageReturn s r goes h = refl
   grip_alike BehindReturn CarriageReturn s r goes h = refl

@@ -37,8 +37,8 @@ min_twice : (a b : ℕ) → min (min a b) b ≡ min a b
 min_twice a b = omega arith
 
 -- hints that differ in these alone
-abbrev changed : Hints → RowEnds → Option Times → Option Times → Option Times → Option Times → Option Times → Option Times
-    → Option Times → ℕ → Hints
+abbrev changed : Hints → RowEnds → Option Times → Option Times → Option Times → Option Times → Option Times
+    → Option Times → Option Times → ℕ → Hints
 changed hints ends wide two latin codes blinking seen dark empty = record hints {
   row_ends = ends;
   wide_characters = wide;
@@ -117,7 +117,8 @@ module _ (first old : Walk) (front : Front) (run behind : List ℕ) (offset : �
     ends_is : ends_at (suc k) ≡ with_glyph (ends_at k) (offset + k) (wraps old.size s) (is_stuck (row_at k).seam)
     ends_is = go k
       where
-        go : (k : ℕ) → ends_at (suc k) ≡ with_glyph (ends_at k) (offset + k) (wraps old.size s) (is_stuck (row_at k).seam)
+        go : (k : ℕ)
+            → ends_at (suc k) ≡ with_glyph (ends_at k) (offset + k) (wraps old.size s) (is_stuck (row_at k).seam)
         go zero = sym (inside_row old.hints.row_ends (offset + 0) _ _ no_wrap stays.loose)
         go (suc k) = sym (inside_row (printed_behind old.hints.row_ends) (offset + suc k) _ _ no_wrap refl)
 
@@ -143,13 +144,15 @@ module _ (first old : Walk) (front : Front) (run behind : List ℕ) (offset : �
         (not old.non_blink && nat_le 0x80 p.attribute) (offset + k)) here)
         (ap (λ (b : ℕ). counted (counted_along old.hints.seen_glyphs (seen_at run) offset k) (is_seen b) (offset + k))
         n.byte_is)
-        (ap₂ (λ (b : ℕ) (p : Pen). counted (counted_along old.hints.dark_glyphs (dark_at run old.pen.attribute) offset k)
+        (ap₂ (λ (b : ℕ) (p : Pen).
+        counted (counted_along old.hints.dark_glyphs (dark_at run old.pen.attribute) offset k)
         (is_seen b && p.attribute == 0x08) (offset + k)) n.byte_is here)
         empty_is
 
   step_by_byte : KeptByBytes (λ k front. HasWalked first front true (walk_at k)) offset run behind
   step_by_byte k byte front rest n h =
-      walked_token first (walk_at k) front (Glyph byte) (byte ∷ []) rest h n.whole (walk_at (suc k)) (offset + k) n.starts
+      walked_token first (walk_at k) front (Glyph byte) (byte ∷ []) rest h n.whole (walk_at (suc k)) (offset + k)
+      n.starts
       (record {
         size = refl;
         non_blink = refl;
@@ -187,4 +190,5 @@ module _ (first old : Walk) (front : Front) (run behind : List ℕ) (offset : �
   walked_run some new is =
       let (k, long) = one_before (length run) some in
       subst (λ (w : Walk). HasWalked first (front_past front run behind) true w) (is_past k long ∙ sym is)
-      (kept_past (λ k front. HasWalked first front true (walk_at k)) offset run behind front bytes step_by_byte next begins)
+      (kept_past (λ k front. HasWalked first front true (walk_at k)) offset run behind front bytes step_by_byte next
+      begins)

@@ -40,7 +40,8 @@ piece_counted run at end seen more room h counted few =
     let whole : at + (end - at) ≡ end = omega (arith, room) in
     let all = more_behind (seen_at run) (seen_at (take (end - at) (drop at run))) at (end - at)
     (λ i l. piece_seen run at (end - at) i l) in
-    let there : so_many (seen_at run) (at + (end - at)) ≡ so_many (seen_at run) end = ap (so_many (seen_at run)) whole in
+    let there : so_many (seen_at run) (at + (end - at)) ≡ so_many (seen_at run) end =
+    ap (so_many (seen_at run)) whole in
     record {
       count = omega (arith, h.count, counted, all, there);
       within = omega (arith, h.within, few, room);

@@ -59,8 +59,8 @@ pub record HasStayedCalm (first : CalmWalk) (front : Front) (goes_on : Bool) (no
   pub calm : (s : State) → IsBegun first s
       → IsCalmTo (is_used first.used.now) first.size s (spelled front.tokens front.texts) now.is_calm now
 
--- players stand firm in both plays, all that arises at a plain byte is of a kind that is used, and so many bytes that are
--- printed next stay in their rows
+-- players stand firm in both plays, all that arises at a plain byte is of a kind that is used, and so many bytes that
+-- are printed next stay in their rows
 pub record StaysCalmInRow (walk : CalmWalk) (count : ℕ) : Type 0 where
   pub firm : walk.grip ≡ Firm
   pub cleared_firm : walk.cleared_grip ≡ Firm

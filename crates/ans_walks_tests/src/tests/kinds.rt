@@ -12,7 +12,7 @@ use ans_model::size::Size;
 use ans_model::start::Start;
 use ans_players::kind::Kind;
 use ans_walks::{
-    KindsUsed, Players, Times, is_same_where_cleared, kinds_used, least_class_for_players,
+    KindsUsed, Players, Reach, Times, is_same_where_cleared, kinds_used, least_class_for_players,
 };
 use std::alloc::Global;
 use std::process::Abort;
@@ -193,6 +193,8 @@ fn expect_least(rt: &impl Abort, alloc: Global, row: &Least) -> Result<(), Fail>
     assert_eq!(rt; found, class, "in {content:?}");
     let players = Players::of(size, needs, content);
     assert_eq!(rt; players, said_of(used, class), "in {content:?}");
+    let reach = Reach::of(size, needs, content);
+    assert_eq!(rt; reach.players, players, "in {content:?}");
     let is_same = is_same_where_cleared(size, needs, content);
     assert_eq!(rt; is_same, class == Start::ANY, "in {content:?}");
     Ok(())

@@ -11,5 +11,5 @@ returns-clause-walked c first front behind next h =
     let old = c.args.self.now in
     subst (λ (w : CalmWalk). HasStayedCalm first (front_past front c.args.run.now behind) true w)
     (sym (ap₂ (λ (p q : Pen). record old { pen = p; cleared = q }) c.go_on.ensures.pen c.go_on-2.ensures.pen))
-    (walked_calm_run first old front c.args.run.now behind c.args._offset h (λ k l. omega (arith, c.type_inv.run k)) next
-    c.requires.takes)
+    (walked_calm_run first old front c.args.run.now behind c.args._offset h (λ k l. omega (arith, c.type_inv.run k))
+    next c.requires.takes)
