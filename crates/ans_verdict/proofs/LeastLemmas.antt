@@ -74,12 +74,6 @@ module _ (z : Size) (content : List ℕ) where
   needed_by_play c part (Some f) good ends =
       needed_there c part good (λ g. not_good z (with_part part false c) content f ends g)
 
-  -- a fault that it deserves tells that it is not good
-  pub not_good_by : (c : Start) (fault : Option Fault) (f : Fault) → EndsFrom z content c fault → fault ≡ Some f
-      → ¬ IsGood z c content
-  not_good_by c None f ends e good = absurd (let no : None ≡ Some f = e in cc)
-  not_good_by c (Some h) f ends e good = not_good z c content h ends good
-
   -- what is good for a class is good for the cleared start
   pub good_when_cleared : (c : Start) → IsGood z c content → IsGood z all_known content
   good_when_cleared c good = covered c all_known (covers_all_known c) good
