@@ -3,8 +3,8 @@
 
 It finds by itself, from the words of the definitions:
 
-- `players`: it plays the content from the cleared start, and keeps beside the machine how firmly players stand where
-  it stands, and which of the two colours the content has named. So it tells of each token in which kinds players may
+- `players`: it plays the content from the cleared start, and keeps beside the machine the sync of players with
+  it, and which of the two colours the content has named. So it tells of each token in which kinds players may
   part there; from these the kinds, how often each arises, and the offset of the first token of each;
 - `on every player`: it plays the content from all starts of five classes, each of which knows all parts but one: each
   cursor, each saved place, the attributes 00h, 07h and FFh, wrap on and off, and cells that are unlike any other. A
@@ -59,13 +59,13 @@ KINDS = [
 # The kind that arises from each start alike, since it is one of the tokens alone.
 OF_TOKENS = "own-colours"
 SAID = re.compile(r"players: .*|on every player: .*|at \d+: (" + "|".join(KINDS) + r")(, \d+ times)?")
-# How firmly players stand where the machine stands: behind what they may not, and the kind in which they part there.
-FIRM, WRAPPED = ("nothing", None), ("a wrap", "wrap-at-once")
-BEHIND_FEED, BEHIND_RETURN = ("a line feed", "line-ends"), ("a return", "line-ends")
-BEHIND_CLEAR, BEHIND_SAVE = ("a clear", "home-on-clear"), ("a save", "save-place-only")
+# The sync of players with the machine: after what they may be elsewhere, and the kind in which they part there.
+IN_SYNC, AFTER_WRAP = ("nothing", None), ("a wrap", "wrap-at-once")
+AFTER_FEED, AFTER_RETURN = ("a line feed", "line-ends"), ("a return", "line-ends")
+AFTER_CLEAR, AFTER_SAVE = ("a clear", "home-on-clear"), ("a save", "save-place-only")
 COLOURS = re.compile(rb"\x1b\[([0-9;]*)m")
-HELD_AT_ANY = {"place", "colours", "bell"}
-HELD = {(WRAPPED, "glyph"), (BEHIND_FEED, "return"), (BEHIND_RETURN, "linefeed"), (BEHIND_RETURN, "return")}
+SAME_ALWAYS = {"place", "colours", "bell"}
+SAME_FOR_ALL = {(AFTER_WRAP, "glyph"), (AFTER_FEED, "return"), (AFTER_RETURN, "linefeed"), (AFTER_RETURN, "return")}
 PAINTS = {"glyph", "tab", "clear", "erase"}
 NEITHER, BOTH = frozenset(), frozenset(["foreground", "background"])
 UNKNOWN = "whatever was there"
@@ -123,40 +123,40 @@ def named_behind(named, token):
     return named
 
 
-def kinds_at(grip, named, token, text, machine):
-    """All kinds in which players may part at the token, where they stand so firmly for this machine."""
+def kinds_at(sync, named, token, text, machine):
+    """All kinds in which players may part at the token, where this is their sync with this machine."""
     own = own_kinds(token, text, machine) | ({OF_TOKENS} if token[0] in PAINTS and named != BOTH else set())
-    is_held = grip == FIRM or token[0] in HELD_AT_ANY or (grip, token[0]) in HELD
-    return own if is_held else own | {grip[1]}
+    is_same_for_all = sync == IN_SYNC or token[0] in SAME_ALWAYS or (sync, token[0]) in SAME_FOR_ALL
+    return own if is_same_for_all else own | {sync[1]}
 
 
-def grip_behind(grip, name, place, machine):
-    """How firmly players stand behind a token that was met at this place and is played."""
-    if name in ("colours", "bell") or (grip, name) == (BEHIND_RETURN, "return"):
-        return grip
+def sync_after(sync, name, place, machine):
+    """The sync of players after a token that was met at this place and is played."""
+    if name in ("colours", "bell") or (sync, name) == (AFTER_RETURN, "return"):
+        return sync
     if name in ("glyph", "tab"):
-        return WRAPPED if machine.wrap and machine.column == 0 else FIRM
+        return AFTER_WRAP if machine.wrap and machine.column == 0 else IN_SYNC
     if name == "linefeed" and place[1] > 0:
-        return BEHIND_FEED
-    if name == "return" and place[1] > 0 and grip != BEHIND_FEED:
-        return BEHIND_RETURN
+        return AFTER_FEED
+    if name == "return" and place[1] > 0 and sync != AFTER_FEED:
+        return AFTER_RETURN
     if name in ("clear", "save") and place != (0, 0):
-        return BEHIND_CLEAR if name == "clear" else BEHIND_SAVE
-    return FIRM
+        return AFTER_CLEAR if name == "clear" else AFTER_SAVE
+    return IN_SYNC
 
 
 def walk(tokens, machine):
     """Where is printed and erased, the kinds of each token with its offset, and the picture; or None at a fault."""
-    grip, named, places, arisen = FIRM, NEITHER, [], []
+    sync, named, places, arisen = IN_SYNC, NEITHER, [], []
     for offset, token, text in tokens:
         name, place = token[0], (machine.row, machine.column)
-        arisen += [(offset, kind) for kind in kinds_at(grip, named, token, text, machine)]
+        arisen += [(offset, kind) for kind in kinds_at(sync, named, token, text, machine)]
         for _ in range(8 - machine.column % 8 if name == "tab" else 1):
             if name in ("glyph", "tab", "erase"):
                 places.append((machine.row, machine.column))
             if play(("glyph", 0x20) if name == "tab" else token, [machine]):
                 return None
-        grip, named = grip_behind(grip, name, place, machine), named_behind(named, token)
+        sync, named = sync_after(sync, name, place, machine), named_behind(named, token)
     return Walked(tuple(places), arisen, tuple(map(tuple, machine.rows[:-1])))
 
 

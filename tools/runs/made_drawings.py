@@ -9,7 +9,7 @@ built the program:
 
 There are three tables: drawings with a mistake; drawings as they were meant, of which nothing is said; and drawings
 as they were meant of which a hint speaks all the same. What is to be said follows from the definitions
-(`ans_walks/specs`, `ans_why/specs`), by counting. Each drawing sets wrap, colours and screen first, so it relies on
+(`ans_hints/specs`, `ans_why/specs`), by counting. Each drawing sets wrap, colours and screen first, so it relies on
 nothing. The script prints each difference and the number of drawings, and then, where the drawings of Debian's
 package `ansilove` are installed, which hints speak of these. Its status is 1 where one differs. It is outside the
 gate.

@@ -8,17 +8,20 @@ use Rattle.ans_model.specs.File.Record.{title_field, trimmed}
 use Rattle.ans_model.specs.File.Refusals.{has_record}
 use Rattle.ans_model.specs.Text.FaultText.{note_number}
 use Rattle.ans_model.specs.declared.note.Note.{Note}
-use Rattle.ans_players.specs.declared.kind.Kind.TheVariants.{WrapAtOnce, LineEnds, HomeOnClear, ClearInColour}
-use Rattle.ans_players.specs.declared.kind.Kind.TheVariants.{SavePlaceOnly, DosColours, TabPrints, LineErased, WrapOff}
-use Rattle.ans_players.specs.declared.kind.Kind.TheVariants.{StopsAtEdge, PageControls, TerminalControls, OwnColours}
+use Rattle.ans_players.specs.declared.difference.Difference.TheVariants.{WrapAtOnce, LineEnds, HomeOnClear}
+use Rattle.ans_players.specs.declared.difference.Difference.TheVariants.{ClearInColour}
+use Rattle.ans_players.specs.declared.difference.Difference.TheVariants.{SavePlaceOnly, DosColours, TabPrints}
+use Rattle.ans_players.specs.declared.difference.Difference.TheVariants.{LineErased, WrapOff}
+use Rattle.ans_players.specs.declared.difference.Difference.TheVariants.{StopsAtEdge, PageControls, TerminalControls}
+use Rattle.ans_players.specs.declared.difference.Difference.TheVariants.{OwnColours}
 use Rattle.ans_sauce.specs.declared.judged.Judged.TheVariants.{NoContent, Refused, Passes}
 use Rattle.ans_sauce.specs.declared.parts.Parts.{Parts}
 use Rattle.ans_sauce.specs.Judged.{is_pass, parts_in}
 use Rattle.ans_sauce.specs.Parts.{comments_of, content_of, notes_of}
-use Rattle.ans_walks.specs.KindsUsed.{is_used}
-use Rattle.ans_walks.specs.declared.kinds.KindsUsed.{KindsUsed}
-use Rattle.ans_walks.specs.declared.players.Players.{Players}
-use Rattle.ans_walks.specs.declared.players.Players.TheVariants.{Any, InNamedColours, Agreeing}
+use Rattle.ans_kinds.specs.KindsUsed.{is_used}
+use Rattle.ans_kinds.specs.declared.kinds.KindsUsed.{KindsUsed}
+use Rattle.ans_kinds.specs.declared.players.Players.{Players}
+use Rattle.ans_kinds.specs.declared.players.Players.TheVariants.{Any, InNamedColours, Agreeing}
 use Rattle.ans_why.specs.Explained.{IsTrueOf, Why}
 use Rattle.ans_why.specs.WhyText.{known_found}
 use Rattle.ans_why.specs.declared.known_bytes.Known.{Known}

@@ -6,9 +6,9 @@ ghost use Rattle.ans_c.specs.Row.{TellsBlame, TellsPassing, TellsPlayers, enough
 ghost use Rattle.ans_c.specs.Row.{known_number, lines_or_0, low_place};
 
 use crate::numbers::{ToldFault, bits_of, number_if, told};
-use ans_players::kind::Kind;
+use ans_kinds::{KindsUsed, Players};
+use ans_players::difference::Difference;
 use ans_sauce::Judged;
-use ans_walks::{KindsUsed, Players};
 use ans_why::{Enough, Known, Pass, RecordRefusal, Refusal, Reliance, Shown, Why, known_found};
 
 /// Bytes of a file: so many, from this offset on. The length is 0 where there are none.
@@ -124,19 +124,19 @@ pub struct ToldRow {
 fn kinds_sum(used: &KindsUsed) -> u32
     ensures { result ≡ kinds_sum used.now }
 {
-    number_if(used.of(Kind::WrapAtOnce).is_some(), 1)
-        + number_if(used.of(Kind::LineEnds).is_some(), 2)
-        + number_if(used.of(Kind::HomeOnClear).is_some(), 4)
-        + number_if(used.of(Kind::ClearInColour).is_some(), 8)
-        + number_if(used.of(Kind::SavePlaceOnly).is_some(), 16)
-        + number_if(used.of(Kind::DosColours).is_some(), 32)
-        + number_if(used.of(Kind::TabPrints).is_some(), 64)
-        + number_if(used.of(Kind::LineErased).is_some(), 128)
-        + number_if(used.of(Kind::WrapOff).is_some(), 256)
-        + number_if(used.of(Kind::StopsAtEdge).is_some(), 512)
-        + number_if(used.of(Kind::PageControls).is_some(), 1024)
-        + number_if(used.of(Kind::TerminalControls).is_some(), 2048)
-        + number_if(used.of(Kind::OwnColours).is_some(), 4096)
+    number_if(used.of(Difference::WrapAtOnce).is_some(), 1)
+        + number_if(used.of(Difference::LineEnds).is_some(), 2)
+        + number_if(used.of(Difference::HomeOnClear).is_some(), 4)
+        + number_if(used.of(Difference::ClearInColour).is_some(), 8)
+        + number_if(used.of(Difference::SavePlaceOnly).is_some(), 16)
+        + number_if(used.of(Difference::DosColours).is_some(), 32)
+        + number_if(used.of(Difference::TabPrints).is_some(), 64)
+        + number_if(used.of(Difference::LineErased).is_some(), 128)
+        + number_if(used.of(Difference::WrapOff).is_some(), 256)
+        + number_if(used.of(Difference::StopsAtEdge).is_some(), 512)
+        + number_if(used.of(Difference::PageControls).is_some(), 1024)
+        + number_if(used.of(Difference::TerminalControls).is_some(), 2048)
+        + number_if(used.of(Difference::OwnColours).is_some(), 4096)
 }
 
 /// The number of what bytes are known as; 0 for nothing.

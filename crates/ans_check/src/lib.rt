@@ -28,6 +28,7 @@ mod streams;
 mod system;
 mod task;
 
+pub use ans_kinds::{KindsUsed, Players};
 pub use ans_mend::{MendError, Mended, Unmended, mend_on};
 pub use ans_model::start::Start;
 pub use ans_options::{
@@ -42,7 +43,6 @@ pub use ans_table::{
 pub use ans_verdict::{
     LentScreens, NewScreens, Screens, Verdict, check, needs, needs_on, play_on, why_on,
 };
-pub use ans_walks::{KindsUsed, Players};
 pub use answering::answer;
 pub use errors::RunError;
 pub use exit_status::{Ending, status};

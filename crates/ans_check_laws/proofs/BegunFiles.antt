@@ -16,7 +16,7 @@ use Rattle.ans_model.specs.File.Refusals.{Accepts}
 use Rattle.ans_sauce.proofs.ResizedFiles.{resized_accepted, resized_content, resized_date, resized_file_size}
 use Rattle.ans_sauce.proofs.ResizedFiles.{resized_flags, resized_size, resized_width}
 use Rattle.ans_model.specs.Screen.Beginning.{mending}
-use Rattle.ans_walks.proofs.Mended.{makes_good}
+use Rattle.ans_kinds.proofs.Mended.{makes_good}
 use Rattle.ans_check_laws.specs.BegunFile.{BegunFilePasses, begun_parts}
 
 -- ---- the notes

@@ -7,7 +7,7 @@ use Rattle.ans_model.specs.declared.fault.Cause.{Cause}
 use Rattle.ans_report.specs.Meanings.{fault_help}
 use Rattle.ans_report.specs.declared.meanings.Help.{Help}
 use Rattle.ans_report.specs.declared.meanings.Help.TheVariants as help
-use Rattle.ans_walks.specs.declared.times.Times.{Times}
+use Rattle.ans_pens.specs.declared.times.Times.{Times}
 use Rattle.ans_report.specs.Changes.{end_mark_line}
 use Rattle.ans_mend.specs.MendedText.{flag_line, front_line, help_text, helped, mended_text, record_line}
 use Rattle.ans_mend.specs.MendedText.{tail_line, taken_line, times_line, unmended_text}

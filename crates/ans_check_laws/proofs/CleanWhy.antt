@@ -17,7 +17,7 @@ use Rattle.ans_model.specs.Sequence.Reads.{Reads}
 use Rattle.ans_model.specs.Sequence.TokenKind.{TokenKind}
 use Rattle.ans_model.proofs.Reading.{reads_bytes}
 use Rattle.ans_model.proofs.StartLemmas.{low_is_start, high_is_start}
-use Rattle.ans_walks.proofs.MoreLines.{well_formed_after}
+use Rattle.ans_pens.proofs.MoreLines.{well_formed_after}
 use Rattle.ans_sauce.specs.declared.found.Found.{Found}
 use Rattle.ans_sauce.specs.declared.found.Found.TheVariants as found
 use Rattle.ans_sauce.specs.declared.parts.Parts.{Parts}
@@ -25,10 +25,10 @@ use Rattle.ans_sauce.specs.Found.{IsFound}
 use Rattle.ans_sauce.specs.Parts.{content_of, record_of, size_of}
 use Rattle.ans_sauce.specs.Split.{IsSplit}
 use Rattle.ans_model.specs.Verdict.LastFault.{IsDeserved}
-use Rattle.ans_walks.specs.Evidence.{ShowsNamed}
+use Rattle.ans_pens.specs.Evidence.{ShowsNamed}
 use Rattle.ans_why.specs.HintsText.{hint_times_line, hints_text, wider_line}
-use Rattle.ans_walks.specs.declared.hints.Hints.{Hints}
-use Rattle.ans_walks.specs.declared.times.Times.{Times}
+use Rattle.ans_hints.specs.declared.hints.Hints.{Hints}
+use Rattle.ans_pens.specs.declared.times.Times.{Times}
 use Rattle.ans_why.specs.Blamed.{AreToBlame}
 use Rattle.ans_why.specs.Explained.{IsShown, IsReliance, IsSaidOfLines, IsTrueOf, Why}
 use Rattle.ans_why.specs.WhyText.{after_end_mark_text, bytes_line, shown_lines, mend_line, reliance_lines, lines_line}

@@ -16,12 +16,12 @@ use Rattle.ans_sauce.specs.Found.{IsLastRecord, record_in}
 use Rattle.ans_forms.specs.declared.kinds.Before.{Before}
 use Rattle.ans_forms.specs.declared.kinds.TheConstants.Before as before
 use Rattle.ans_check_laws.proofs.OneGoing.{goes_or_not, one_goes_first}
-use Rattle.ans_walks.specs.FullRowEnds.{full_row_ends, without_ends}
-use Rattle.ans_walks.specs.Hints.{are_torn}
+use Rattle.ans_hints.specs.FullRowEnds.{full_row_ends, without_ends}
+use Rattle.ans_hints.specs.Hints.{are_torn}
 use Rattle.ans_mend.specs.LastEnds.{LeavesMost}
-use Rattle.ans_walks.specs.Lines.{IsLeastLines}
-use Rattle.ans_walks.specs.declared.hints.Hints.{Hints}
-use Rattle.ans_walks.specs.declared.times.Times.{Times}
+use Rattle.ans_pens.specs.Lines.{IsLeastLines}
+use Rattle.ans_hints.specs.declared.hints.Hints.{Hints}
+use Rattle.ans_pens.specs.declared.times.Times.{Times}
 use Rattle.ans_sauce.specs.Contents.{content_in, with_content}
 use Rattle.ans_mend.specs.FullRows.{AreRowEndsOut, HasFullRows}
 use Rattle.ans_mend.specs.LastEnds.{AreLastEndsOut, HasFewerEnds}

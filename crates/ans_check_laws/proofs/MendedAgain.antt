@@ -17,7 +17,7 @@ use Rattle.ans_model.proofs.ClassLemmas.{covers_good, none_known_covers}
 use Rattle.ans_sauce.specs.Found.{record_in}
 use Rattle.ans_sauce.proofs.LaidParts.{laid_body, laid_has_record, laid_record}
 use Rattle.ans_forms.specs.declared.kinds.TheConstants.Before as before
-use Rattle.ans_walks.specs.declared.times.Times.{Times}
+use Rattle.ans_pens.specs.declared.times.Times.{Times}
 use Rattle.ans_sauce.specs.Contents.{content_in, with_content}
 use Rattle.ans_mend.specs.EndMark.{with_end_mark}
 use Rattle.ans_sauce.specs.Fields.{with_lines, with_record}

@@ -21,9 +21,9 @@ use Rattle.ans_sauce.proofs.ContentLemmas.{content_unmarked}
 use Rattle.ans_sauce.proofs.RecordLemmas.{content_before, front_shorter, has_by, length_front, record_behind}
 use Rattle.ans_sauce.proofs.RecordLemmas.{record_length}
 use Rattle.ans_model.specs.Screen.Beginning.{mending}
-use Rattle.ans_walks.specs.declared.times.Times.{Times}
-use Rattle.ans_walks.specs.SaidOfPlayers.{IsSameWhereCleared}
-use Rattle.ans_walks.proofs.NamedPlayers.{mended_is_same_where_cleared}
+use Rattle.ans_pens.specs.declared.times.Times.{Times}
+use Rattle.ans_kinds.specs.SaidOfPlayers.{IsSameWhereCleared}
+use Rattle.ans_kinds.proofs.NamedPlayers.{mended_is_same_where_cleared}
 use Rattle.ans_sauce.specs.Contents.{content_in, with_content}
 use Rattle.ans_mend.specs.EndMark.{with_end_mark}
 use Rattle.ans_mend.specs.LineEnds.{wants_returns, with_line_ends, with_returns}

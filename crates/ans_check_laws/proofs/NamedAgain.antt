@@ -7,7 +7,7 @@ use Rattle.ans_players.specs.Mends.{mending_spelled}
 use Rattle.ans_players.specs.Situations.{Spelled, spelled}
 use Rattle.ans_players.proofs.OneSpelling.{one_spelling}
 use Rattle.ans_model.specs.Screen.Beginning.{mending, mending_texts, mending_tokens}
-use Rattle.ans_walks.proofs.Mended.{reads_as_behind}
+use Rattle.ans_kinds.proofs.Mended.{reads_as_behind}
 use Rattle.ans_mend.specs.NamedColours.{begins_unnamed, named_content}
 use Rattle.ans_names_laws.specs.NamedTokens.{named_tokens}
 use Rattle.ans_names_laws.specs.NameLaws.{NamedIsRead, NeverOwn, NoneOwnIsLeft, TwiceIsOnce, TwiceIsOnceMended}

@@ -12,7 +12,7 @@ use Rattle.ans_model.specs.Sequence.Reads.{SpellsToken}
 use Rattle.ans_players.specs.Names.{Names, are_both}
 use Rattle.ans_players.specs.Situations.{Spelled, spelled}
 use Rattle.ans_players.proofs.OneSpelling.{one_spelling}
-use Rattle.ans_walks.specs.declared.times.Times.{Times}
+use Rattle.ans_pens.specs.declared.times.Times.{Times}
 use Rattle.ans_mend.specs.LineEnds.{is_line_feed, is_return, wants_returns}
 use Rattle.ans_mend.specs.NamedColours.{AreColoursNamed, after_zero, ends_number, left_by, missing_numbers}
 use Rattle.ans_mend.specs.NamedColours.{named_content, named_sequence, named_text, names_behind_token, numbers_to_zero}

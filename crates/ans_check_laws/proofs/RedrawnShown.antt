@@ -11,12 +11,12 @@ use Rattle.ans_model.proofs.ClassLemmas.{none_known_covers}
 use Rattle.ans_players.specs.Classes.{IsLeastSame, IsSame}
 use Rattle.ans_players.specs.Players.{Behaviour, IsPlayer, IsShown}
 use Rattle.ans_players.specs.Situations.{spelled}
-use Rattle.ans_players.specs.declared.kind.Kind.{Kind}
+use Rattle.ans_players.specs.declared.difference.Difference.{Difference}
 use Rattle.ans_picture_laws.specs.Drawable.{BytesAreAgreed}
 use Rattle.ans_redraw.specs.declared.outcome.Redrawn.{Redrawn}
 use Rattle.ans_picture_laws.proofs.RedrawnContents.{only_its_bytes_part}
-use Rattle.ans_walks.specs.SaidOfPlayers.{IsSaidOfPlayers}
-use Rattle.ans_walks.specs.declared.players.Players.TheVariants.{Any}
+use Rattle.ans_kinds.specs.SaidOfPlayers.{IsSaidOfPlayers}
+use Rattle.ans_kinds.specs.declared.players.Players.TheVariants.{Any}
 use Rattle.ans_verdict.specs.FileVerdict.{Passes}
 use Rattle.ans_redraw.specs.Redrawing.{IsRedrawn}
 use Rattle.ans_check_laws.proofs.OnePicture.{same_picture}
@@ -32,7 +32,8 @@ module _ (file new : List ℕ) (redrawn : Redrawn) (h : IsRedrawn file redrawn n
   bytes = content apart.body
 
   -- exactly where the kinds of the picture's bytes are agreed, it is the same from every start
-  pub same_where_agreed : (agreed : Kind → Bool) → BytesAreAgreed agreed picture ↔ IsLeastSame agreed z bytes none_known
+  pub same_where_agreed : (agreed : Difference → Bool)
+      → BytesAreAgreed agreed picture ↔ IsLeastSame agreed z bytes none_known
   same_where_agreed agreed =
       let its : IsNew file h.apart h.picture new = is_new file new h.apart h.picture redrawn h.passes h in
       let to = new_parts file h.apart h.picture new its in
@@ -43,7 +44,7 @@ module _ (file new : List ℕ) (redrawn : Redrawn) (h : IsRedrawn file redrawn n
       (only_its_bytes_part agreed file h.apart to.0 h.picture its.can to.1)
 
   -- a player on a screen of that size shows it, where it draws those bytes as the profile does
-  pub redrawn_is_shown : (screen : Size) (its : Kind → Bool) (p : Behaviour) → IsPlayer screen its p → screen ≡ z
+  pub redrawn_is_shown : (screen : Size) (its : Difference → Bool) (p : Behaviour) → IsPlayer screen its p → screen ≡ z
       → BytesAreAgreed its picture
       → IsShown p screen class (spelled passes.good.tokens passes.good.reads.0) picture
   redrawn_is_shown screen its p player size agreed =

@@ -8,13 +8,13 @@ ghost use Rattle.ans_model.specs.Verdict.Good.{GoodWith, Picture};
 ghost use Rattle.ans_model.specs.declared.start.Start.{Start};
 ghost use Rattle.ans_players.specs.Players.{IsShown};
 ghost use Rattle.ans_players.specs.Situations.{spelled};
-ghost use Rattle.ans_players.specs.declared.kind.Kind.{Kind};
-ghost use Rattle.ans_walks.specs.KindsUsed.{is_used};
-ghost use Rattle.ans_walks.specs.SaidOfPlayers.{IsSameWhereCleared, IsSaidOfPlayers};
-ghost use Rattle.ans_walks.specs.declared.kinds.KindsUsed.{KindsUsed};
-ghost use Rattle.ans_walks.specs.declared.players.Players.TheVariants.{Agreeing, Any, InNamedColours};
-ghost use Rattle.ans_walks.specs.declared.times.Times.{Times};
-ghost use Rattle.ans_players.specs.declared.kind.Kind.TheVariants.{OwnColours};
+ghost use Rattle.ans_players.specs.declared.difference.Difference.{Difference};
+ghost use Rattle.ans_kinds.specs.KindsUsed.{is_used};
+ghost use Rattle.ans_kinds.specs.SaidOfPlayers.{IsSameWhereCleared, IsSaidOfPlayers};
+ghost use Rattle.ans_kinds.specs.declared.kinds.KindsUsed.{KindsUsed};
+ghost use Rattle.ans_kinds.specs.declared.players.Players.TheVariants.{Agreeing, Any, InNamedColours};
+ghost use Rattle.ans_pens.specs.declared.times.Times.{Times};
+ghost use Rattle.ans_players.specs.declared.difference.Difference.TheVariants.{OwnColours};
 ghost use Rattle.ans_mend.specs.declared.outcome.Mended.{Mended};
 ghost use Rattle.ans_model.specs.declared.mends.Mends.{Mends};
 ghost use Rattle.ans_picture_laws.specs.Drawable.{BytesAreAgreed};
@@ -23,11 +23,11 @@ ghost use Rattle.ans_verdict.specs.FileVerdict.{Passes};
 ghost use Rattle.ans_mend.specs.Mending.{IsMended};
 ghost use Rattle.ans_redraw.specs.Redrawing.{IsRedrawn};
 
-use ans_players::player::Player;
+use ans_players::family::Family;
 
 /// Where `why` says `players: any`, the content shows its picture on every player, from every memory that
-/// stands firmly for a start of the class that is said, or of one that knows more.
-pub fn any_player_shows_it<P: Player>()
+/// is in sync with a start of the class that is said, or of one that knows more.
+pub fn any_player_shows_it<P: Family>()
     ensures { (bytes : List ℕ) (class known : Start) (picture : Picture)
         → IsSaidOfPlayers P.size bytes (Any class) → Covers class known
         → (good : GoodWith P.size known bytes picture)
@@ -36,7 +36,7 @@ pub fn any_player_shows_it<P: Player>()
 
 /// Where `why` names own colours alone, so it does on every player that does as the profile does in them: whose
 /// own white and black are those that 37 and 40 set.
-pub fn player_of_named_colours_shows_it<P: Player>()
+pub fn player_of_named_colours_shows_it<P: Family>()
     ensures { (bytes : List ℕ) (class known : Start) (times : Times) (picture : Picture)
         → IsSaidOfPlayers P.size bytes (InNamedColours class times) → IsTrue (P.agreed OwnColours)
         → Covers class known → (good : GoodWith P.size known bytes picture)
@@ -45,10 +45,10 @@ pub fn player_of_named_colours_shows_it<P: Player>()
 
 /// Where `why` names kinds, the content shows its picture from the cleared start on every player that does
 /// as the profile does in those. Nothing is said of other starts.
-pub fn agreeing_players_show_it<P: Player>()
+pub fn agreeing_players_show_it<P: Family>()
     ensures { (bytes : List ℕ) (used : KindsUsed) (picture : Picture)
         → IsSaidOfPlayers P.size bytes (Agreeing used)
-        → ((kind : Kind) → IsTrue (is_used used kind) → IsTrue (P.agreed kind))
+        → ((kind : Difference) → IsTrue (is_used used kind) → IsTrue (P.agreed kind))
         → (good : GoodWith P.size all_known bytes picture)
         → IsShown P.behaviour P.size all_known (spelled good.tokens good.reads.0) picture }
 {}
@@ -72,9 +72,9 @@ pub fn mended_files_are_same_where_cleared()
 {}
 
 /// A redrawn file shows its picture on every player that draws the picture's own bytes as the profile does, from
-/// every memory that stands firmly for a start of any class. So `why` says `players: any` of it, from every
+/// every memory that is in sync with a start of any class. So `why` says `players: any` of it, from every
 /// start, exactly where the picture has no control byte that players draw in different ways.
-pub fn redrawn_files_show_everywhere<P: Player>()
+pub fn redrawn_files_show_everywhere<P: Family>()
     ensures shown { (file new : List ℕ) (redrawn : Redrawn) (class : Start) (apart : FileParts)
         (picture : Picture)
         → IsRedrawn file redrawn new → P.size ≡ stated_size apart.record_bytes

@@ -5,7 +5,7 @@ use Rattle.std.proofs.lemmas.List.{length-take-le}
 use Rattle.std.specs.Prelude.{MatchBool, Option, None, IfErr, IfOk, IsTrue, Result, if◌then◌else◌}
 use Rattle.ans_model.specs.Bytes.{longest_file, most_lines}
 use Rattle.ans_model.specs.Screen.State.{Size, sized}
-use Rattle.ans_walks.specs.declared.times.Times.{Times}
+use Rattle.ans_pens.specs.declared.times.Times.{Times}
 use Rattle.ans_sauce.specs.Found.{front_in}
 use Rattle.ans_mend.specs.FullRows.{HasFullRows}
 use Rattle.ans_mend.specs.LineEnds.{line_feeds, with_line_ends}

@@ -6,7 +6,7 @@ use Rattle.std.proofs.lemmas.List.{take-take}
 use Rattle.ans_model.specs.File.Refusals.{has_record}
 use Rattle.ans_model.specs.Screen.State.{Size}
 use Rattle.ans_mend.specs.LastEnds.{LeavesMost, NeverPasses, line_ends}
-use Rattle.ans_walks.specs.declared.times.Times.{Times}
+use Rattle.ans_pens.specs.declared.times.Times.{Times}
 use Rattle.ans_sauce.specs.Contents.{content_in, with_content}
 use Rattle.ans_mend.specs.LastEnds.{AreLastEndsOut, HasFewerEnds, times_at}
 use Rattle.ans_mend.proofs.ContentFront.{behind_kept, content_bytes, same_content}

@@ -13,8 +13,8 @@ use Rattle.ans_players.specs.Situations.{Spelled, spelled}
 use Rattle.ans_tokens.specs.Walk.{Front, WalksTo, front_with}
 use Rattle.ans_tokens.proofs.Scanning.{split_reading}
 use Rattle.ans_tokens.proofs.Walked.{never_refused, walked_all}
-use Rattle.ans_walks.proofs.KindsFound.{one, spelled_behind, spelled_more}
-use Rattle.ans_walks.specs.NamesShown.{shown_names}
+use Rattle.ans_kinds.proofs.KindsFound.{one, spelled_behind, spelled_more}
+use Rattle.ans_kinds.specs.NamesShown.{shown_names}
 use Rattle.ans_mend.specs.NamedColours.{begins_unnamed, both_named, names_at_print, takes_names}
 use Rattle.ans_mend.specs.NameSearch.{HasLookedAtFirst, IsFirst}
 use Rattle.ans_mend.specs.declared.name_search.First.{First}

@@ -22,8 +22,8 @@ use Rattle.ans_model.specs.Verdict.TokenFault.{IsClean}
 use Rattle.ans_model.proofs.Reading.{one_begins_the_other}
 use Rattle.ans_model.proofs.Spelling.{head_of, tail_of}
 use Rattle.ans_mend.specs.LastEnds.{FrontPasses, is_line_end}
-use Rattle.ans_walks.proofs.CleanSteps.{clean_front}
-use Rattle.ans_walks.proofs.MoreLines.{clean_is_good, good_is_clean}
+use Rattle.ans_pens.proofs.CleanSteps.{clean_front}
+use Rattle.ans_pens.proofs.MoreLines.{clean_is_good, good_is_clean}
 
 -- ---- how a token ends
 same_last : (xs ys : List ℕ) (a b : ℕ) → xs ++ a ∷ [] ≡ ys ++ b ∷ [] → a ≡ b

@@ -6,10 +6,10 @@ use Rattle.ans_model.specs.File.Refusals.{has_record}
 use Rattle.ans_model.specs.Sequence.TokenKind.{TokenKind}
 use Rattle.ans_model.specs.Sequence.Reads.{ReadsAs}
 use Rattle.ans_model.specs.Screen.State.{Size}
-use Rattle.ans_walks.specs.FullRowEnds.{AreEndsOver, EndsFullRows, full_row_ends, without_ends}
-use Rattle.ans_walks.specs.declared.full_row_ends.FullRowEnd.{FullRowEnd}
-use Rattle.ans_walks.specs.declared.row_play.RowPlay.{RowPlay}
-use Rattle.ans_walks.specs.declared.times.Times.{Times}
+use Rattle.ans_hints.specs.FullRowEnds.{AreEndsOver, EndsFullRows, full_row_ends, without_ends}
+use Rattle.ans_hints.specs.declared.full_row_ends.FullRowEnd.{FullRowEnd}
+use Rattle.ans_hints.specs.declared.row_play.RowPlay.{RowPlay}
+use Rattle.ans_pens.specs.declared.times.Times.{Times}
 use Rattle.ans_sauce.specs.Contents.{content_in, with_content}
 use Rattle.ans_mend.specs.FullRows.{AreRowEndsOut, HasFullRows, times_with}
 use Rattle.ans_mend.proofs.ContentFront.{behind_kept, content_bytes, same_content}

@@ -10,12 +10,12 @@ use Rattle.ans_model.specs.Sequence.Reads.{Reads}
 use Rattle.ans_model.specs.declared.start.Start.{Start}
 use Rattle.ans_model.specs.Verdict.Needs.{IsLeast}
 use Rattle.ans_model.proofs.ClassLemmas.{covers_good, none_known_covers}
-use Rattle.ans_players.specs.declared.kind.Kind.{Kind}
+use Rattle.ans_players.specs.declared.difference.Difference.{Difference}
 use Rattle.ans_players.proofs.NamedKinds.{named_are_least}
-use Rattle.ans_walks.specs.SaidOfPlayers.{IsSameWhereCleared}
+use Rattle.ans_kinds.specs.SaidOfPlayers.{IsSameWhereCleared}
 use Rattle.ans_mend.specs.Mending.{BeginsUnnamed, WantsMending}
 use Rattle.ans_model.specs.Bytes.{most_lines}
-use Rattle.ans_walks.specs.Lines.{IsNeverGood}
+use Rattle.ans_pens.specs.Lines.{IsNeverGood}
 use Rattle.ans_model.specs.Verdict.Good.{IsGood}
 use Rattle.ans_mend.specs.Mending.{asks_for_lines}
 use Rattle.ans_mend.specs.Mending.{AreLinesFor, AsksForLeast, HasLeast, IsWithoutNumber, KeepsLines}
@@ -77,7 +77,7 @@ judged mends file parts judgement h cleared every wants reading = record {
 }
 
 -- each kind is agreed
-abbrev all_agreed : Kind → Bool
+abbrev all_agreed : Difference → Bool
 all_agreed kind = true
 
 -- what a content wants whose play from all starts has come to this

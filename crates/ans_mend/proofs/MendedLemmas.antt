@@ -21,7 +21,7 @@ use Rattle.ans_sauce.proofs.Overwriting.{overwritten_length, recorded_length}
 use Rattle.ans_sauce.proofs.RecordLemmas.{front_before, recorded_long}
 use Rattle.ans_sauce.proofs.LaidParts.{laid_body, laid_front, laid_has_record, laid_lengths, laid_record}
 use Rattle.ans_sauce.specs.Fields.{resized_parts, with_file_size}
-use Rattle.ans_walks.proofs.Mended.{makes_good}
+use Rattle.ans_kinds.proofs.Mended.{makes_good}
 use Rattle.ans_sauce.proofs.ResizedFiles.{resized_accepted, resized_comments, resized_content, resized_size}
 use Rattle.ans_sauce.specs.Fields.{two_bytes, with_lines, with_record}
 use Rattle.ans_mend.specs.declared.outcome.Mended.{Mended}
@@ -45,7 +45,7 @@ use Rattle.ans_mend.specs.declared.judging.Reading.{Reading}
 use Rattle.ans_mend.specs.declared.outcome.Edits.{Edits}
 use Rattle.ans_mend.specs.declared.outcome.MendError.{MendError}
 use Rattle.ans_mend.specs.declared.outcome.MendError.TheVariants.{Memory, NotMended}
-use Rattle.ans_walks.specs.declared.times.Times.{Times}
+use Rattle.ans_pens.specs.declared.times.Times.{Times}
 
 -- ---- the record that is put
 

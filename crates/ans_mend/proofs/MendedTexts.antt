@@ -5,7 +5,7 @@ use Rattle.std.specs.Prelude.{min, take}
 use Rattle.std.proofs.lemmas.Bool.{eq-eqb, lt-leb, lt-ltb, ne_eqb}
 use Rattle.ans_report.specs.Counted.{counted_text, times_text}
 use Rattle.ans_report.specs.Quoted.{quoted_byte}
-use Rattle.ans_walks.specs.declared.times.Times.{Times}
+use Rattle.ans_pens.specs.declared.times.Times.{Times}
 use Rattle.ans_mend.specs.MendedText.{at_text, others_text, quoted_excerpt, replaced_text}
 use Rattle.ans_mend.specs.declared.taking_out.Excerpt.{Excerpt}
 

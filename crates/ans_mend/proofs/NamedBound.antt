@@ -11,7 +11,7 @@ use Rattle.ans_model.specs.Sequence.Spelling.{mark_bytes}
 use Rattle.ans_model.specs.Sequence.TokenKind.{TokenKind, Glyph, Bell, BackSpace, CarriageReturn, LineFeed, Tab}
 use Rattle.ans_players.specs.Names.{Names, are_both}
 use Rattle.ans_players.specs.Situations.{Spelled, spelled}
-use Rattle.ans_walks.specs.declared.times.Times.{Times}
+use Rattle.ans_pens.specs.declared.times.Times.{Times}
 use Rattle.ans_sauce.specs.Contents.{content_in, with_content}
 use Rattle.ans_mend.specs.NamedColours.{AreColoursNamed, HasNamedColours, ends_number, left_by, missing_numbers}
 use Rattle.ans_mend.specs.NamedColours.{named_content, named_sequence, named_text, names_behind_token, numbers_to_zero}

@@ -8,7 +8,7 @@ use Rattle.ans_model.specs.File.Refusals.{has_record}
 use Rattle.ans_model.specs.Sequence.TokenKind.{TokenKind}
 use Rattle.ans_model.specs.Sequence.Reads.{Reads, ReadsAs}
 use Rattle.ans_players.specs.Situations.{Spelled, spelled}
-use Rattle.ans_walks.specs.declared.times.Times.{Times}
+use Rattle.ans_pens.specs.declared.times.Times.{Times}
 use Rattle.ans_sauce.specs.Contents.{content_in, with_content}
 use Rattle.ans_mend.specs.NamedColours.{AreColoursNamed, HasNamedColours, IsTooLongNamed, named_content}
 use Rattle.ans_mend.specs.NamedColours.{names_room}

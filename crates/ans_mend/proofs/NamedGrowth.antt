@@ -9,9 +9,9 @@ use Rattle.ans_model.specs.Sequence.Reads.{Reads, ReadsAs}
 use Rattle.ans_players.specs.Situations.{Spelled, spelled}
 use Rattle.ans_tokens.proofs.Readable.{reads_as_append}
 use Rattle.ans_tokens.proofs.Scanning.{reads_on}
-use Rattle.ans_walks.specs.Counted.{count_of, counted}
-use Rattle.ans_walks.specs.declared.times.Times.{Times}
-use Rattle.ans_walks.proofs.KindsFound.{spelled_behind}
+use Rattle.ans_pens.specs.Counted.{count_of, counted}
+use Rattle.ans_pens.specs.declared.times.Times.{Times}
+use Rattle.ans_kinds.proofs.KindsFound.{spelled_behind}
 use Rattle.ans_mend.specs.NamedColours.{named_content, times_named}
 use Rattle.ans_mend.specs.NameSearch.{IsNamedFirst, Grows, NoneIsNamed}
 use Rattle.ans_mend.specs.declared.name_colours.Growth.{Growth}

@@ -9,7 +9,7 @@ use Rattle.ans_model.specs.Sequence.Reads.{Reads, ReadsAs}
 use Rattle.ans_players.specs.Names.{Names, are_both}
 use Rattle.ans_players.specs.Situations.{Spelled, spelled}
 use Rattle.ans_tokens.proofs.Scanning.{nothing_left, split_reading}
-use Rattle.ans_walks.proofs.KindsFound.{spelled_behind}
+use Rattle.ans_kinds.proofs.KindsFound.{spelled_behind}
 use Rattle.ans_mend.specs.NamedColours.{left_by, missing_numbers, named_content, named_sequence, named_text}
 use Rattle.ans_mend.specs.NamedColours.{names_behind_token, put_by, to_zero, way_of}
 use Rattle.ans_mend.specs.NameSearch.{IsNamedFirst, NoneIsNamed, bytes_of}

@@ -12,8 +12,8 @@ use Rattle.ans_model.specs.Sequence.TokenKind.{Down, Forward, Backward, Place, C
 use Rattle.ans_model.specs.Sequence.TokenKind.{Wrap, Mode, Keys, Ask}
 use Rattle.ans_players.specs.Names.{Names, are_both, names_after, names_behind, unnamed}
 use Rattle.ans_players.specs.Situations.{Spelled}
-use Rattle.ans_walks.specs.Counted.{counted}
-use Rattle.ans_walks.specs.declared.times.Times.{Times}
+use Rattle.ans_pens.specs.Counted.{counted}
+use Rattle.ans_pens.specs.declared.times.Times.{Times}
 use Rattle.ans_mend.specs.NamedColours.{is_zero, named_content, named_sequence, names_at_print}
 use Rattle.ans_mend.specs.NamedColours.{names_behind_token, numbers_to_zero, takes_names, times_named}
 use Rattle.ans_mend.specs.NameSearch.{NoneWaits, Waits, bytes_of}

@@ -3,11 +3,11 @@ use Rattle.std.proofs.Common.{◌≡◌, ℕ, ◌+◌, ◌-◌, ◌≤◌, ◌<�
 use Rattle.std.proofs.Common.{arith, append_assoc, append-nil, Option, None, Some, subst, true}
 use Rattle.std.proofs.lemmas.List.{drop-drop, drop-take, length-drop, length-take-le, nil_from_length, take-take}
 use Rattle.std.specs.List.{flat_map}
-use Rattle.ans_walks.specs.Counted.{count_of, counted}
-use Rattle.ans_walks.specs.FullRowEnds.{AreEndsOver, IsFirstEnd, StandsBetween, bytes_by, bytes_of, without}
-use Rattle.ans_walks.specs.declared.full_row_ends.FullRowEnd.{FullRowEnd}
-use Rattle.ans_walks.specs.declared.row_play.RowPlay.{RowPlay}
-use Rattle.ans_walks.specs.declared.times.Times.{Times}
+use Rattle.ans_pens.specs.Counted.{count_of, counted}
+use Rattle.ans_hints.specs.FullRowEnds.{AreEndsOver, IsFirstEnd, StandsBetween, bytes_by, bytes_of, without}
+use Rattle.ans_hints.specs.declared.full_row_ends.FullRowEnd.{FullRowEnd}
+use Rattle.ans_hints.specs.declared.row_play.RowPlay.{RowPlay}
+use Rattle.ans_pens.specs.declared.times.Times.{Times}
 
 -- nothing is left behind as many as there are
 all_gone : (xs : List ℕ) (n : ℕ) → length xs ≤ n → drop n xs ≡ []

@@ -12,7 +12,7 @@ use Rattle.ans_model.specs.declared.fault.Fault.{Fault}
 use Rattle.ans_players.specs.Situations.{spelled}
 use Rattle.ans_tokens.specs.Walk.{Front, Walks, WalksTo}
 use Rattle.ans_tokens.proofs.Walked.{never_refused}
-use Rattle.ans_walks.specs.NamesShown.{shown_names}
+use Rattle.ans_kinds.specs.NamesShown.{shown_names}
 use Rattle.ans_mend.specs.NameSearch.{HasSearched, IsSearched, NoneIsNamed, WaitsIn}
 use Rattle.ans_mend.specs.declared.name_search.NameSearch.{NameSearch}
 use Rattle.ans_mend.specs.declared.name_search.Taking.{Taking}

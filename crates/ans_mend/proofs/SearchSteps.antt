@@ -19,10 +19,10 @@ use Rattle.ans_tokens.specs.Token.{kind_of, start_of, length_of}
 use Rattle.ans_tokens.specs.Walk.{Front, IsRunNext, front_past, front_with}
 use Rattle.ans_tokens.specs.declared.token.Token.{Token}
 use Rattle.ans_tokens.proofs.Runs.{KeptByBytes, kept_past}
-use Rattle.ans_walks.specs.Counted.{counted}
-use Rattle.ans_walks.specs.declared.times.Times.{Times}
-use Rattle.ans_walks.proofs.KindsFound.{one, spelled_more}
-use Rattle.ans_walks.specs.NamesShown.{shown_names}
+use Rattle.ans_pens.specs.Counted.{counted}
+use Rattle.ans_pens.specs.declared.times.Times.{Times}
+use Rattle.ans_kinds.proofs.KindsFound.{one, spelled_more}
+use Rattle.ans_kinds.specs.NamesShown.{shown_names}
 use Rattle.ans_mend.specs.NamedColours.{missing_numbers, named_content, named_sequence, named_text}
 use Rattle.ans_mend.specs.NamedColours.{numbers_to_zero, takes_names, through_numbers, times_named}
 use Rattle.ans_mend.specs.NameSearch.{IsNamedFirst, HasSearched, IsSearched, NoneIsNamed}
@@ -30,7 +30,7 @@ use Rattle.ans_mend.specs.NameSearch.{Waits, bytes_of, taking_after, taking_behi
 use Rattle.ans_mend.specs.declared.name_search.NamingPlace.{NamingPlace}
 use Rattle.ans_mend.specs.declared.name_search.NameSearch.{NameSearch}
 use Rattle.ans_mend.specs.declared.name_search.Taking.{Taking}
-use Rattle.ans_walks.specs.declared.names.Names as walked
+use Rattle.ans_kinds.specs.declared.names.Names as walked
 use Rattle.ans_mend.proofs.NamesWaiting.{bytes_append}
 use Rattle.ans_mend.proofs.Searching.{searched_other, searched_print, searched_taking}
 

@@ -3,10 +3,10 @@ use Rattle.std.specs.Prelude.{◌≡◌, ◌⊎◌, ℕ, true, List, fold, Optio
 use Rattle.ans_model.specs.File.Refusals.{has_record}
 use Rattle.ans_model.specs.Screen.State.{Size}
 use Rattle.ans_model.specs.Sequence.TokenKind.{TokenKind}
-use Rattle.ans_walks.specs.Counted.{counted}
-use Rattle.ans_walks.specs.FullRowEnds.{EndsFullRows, full_row_ends, without_ends}
-use Rattle.ans_walks.specs.declared.full_row_ends.FullRowEnd.{FullRowEnd}
-use Rattle.ans_walks.specs.declared.times.Times.{Times}
+use Rattle.ans_pens.specs.Counted.{counted}
+use Rattle.ans_hints.specs.FullRowEnds.{EndsFullRows, full_row_ends, without_ends}
+use Rattle.ans_hints.specs.declared.full_row_ends.FullRowEnd.{FullRowEnd}
+use Rattle.ans_pens.specs.declared.times.Times.{Times}
 use Rattle.ans_sauce.specs.Contents.{content_in, with_content}
 
 -- the offset of the return, or else of the line feed

@@ -6,7 +6,7 @@ use Rattle.ans_model.specs.File.Refusals.{has_record}
 use Rattle.ans_model.specs.Screen.State.{Size}
 use Rattle.ans_model.specs.Screen.StartClass.{all_known}
 use Rattle.ans_model.specs.Verdict.Good.{IsGood}
-use Rattle.ans_walks.specs.declared.times.Times.{Times}
+use Rattle.ans_pens.specs.declared.times.Times.{Times}
 use Rattle.ans_sauce.specs.Contents.{content_in, with_content}
 
 -- a line feed or a return

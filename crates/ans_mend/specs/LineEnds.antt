@@ -3,7 +3,7 @@ use Rattle.std.specs.Prelude.{◌≡◌, ℕ, Bool, true, false, not, ◌&&◌, 
 use Rattle.std.specs.Prelude.{is_some, MatchOption}
 use Rattle.std.specs.List.{count_by, flat_map, list_any, position}
 use Rattle.ans_model.specs.File.Refusals.{has_record}
-use Rattle.ans_walks.specs.declared.times.Times.{Times}
+use Rattle.ans_pens.specs.declared.times.Times.{Times}
 use Rattle.ans_sauce.specs.Contents.{content_in, with_content}
 
 abbrev pub is_line_feed : ℕ → Bool

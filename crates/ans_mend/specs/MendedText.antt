@@ -10,7 +10,7 @@ use Rattle.ans_report.specs.Meanings.{fault_help}
 use Rattle.ans_report.specs.Quoted.{quoted_byte}
 use Rattle.ans_report.specs.declared.meanings.Help.{Help}
 use Rattle.ans_report.specs.declared.meanings.Help.TheVariants as help
-use Rattle.ans_walks.specs.declared.times.Times.{Times}
+use Rattle.ans_pens.specs.declared.times.Times.{Times}
 use Rattle.ans_mend.specs.declared.outcome.GivenRecord.{GivenRecord}
 use Rattle.ans_mend.specs.declared.outcome.Mended.{Mended}
 use Rattle.ans_mend.specs.declared.outcome.Unmended.{Unmended}

@@ -8,7 +8,7 @@ use Rattle.ans_model.specs.File.Layout.{FileParts, content, is_end_mark}
 use Rattle.ans_model.specs.File.Record.{file_size, is_non_blink, stated_lines, stated_size, stated_width}
 use Rattle.ans_model.specs.File.Refusals.{Accepts, has_record}
 use Rattle.ans_model.specs.Screen.State.{Size, sized}
-use Rattle.ans_walks.specs.SaidOfPlayers.{IsSameWhereCleared}
+use Rattle.ans_kinds.specs.SaidOfPlayers.{IsSameWhereCleared}
 use Rattle.ans_model.specs.Screen.StartClass.{all_known, none_known}
 use Rattle.ans_model.specs.Verdict.Good.{Picture, GoodWith, IsGood}
 use Rattle.ans_model.specs.declared.fault.Fault.{Fault}
@@ -17,12 +17,12 @@ use Rattle.ans_model.specs.Sequence.Reads.{Reads}
 use Rattle.ans_players.specs.Situations.{spelled}
 use Rattle.ans_sauce.specs.Found.{record_in}
 use Rattle.ans_sauce.specs.Judged.{IsRecordFault}
-use Rattle.ans_walks.specs.Hints.{are_torn}
-use Rattle.ans_walks.specs.Lines.{IsLeastLines, IsNeverGood}
+use Rattle.ans_hints.specs.Hints.{are_torn}
+use Rattle.ans_pens.specs.Lines.{IsLeastLines, IsNeverGood}
 use Rattle.ans_model.specs.Screen.Beginning.{mending}
 use Rattle.ans_sauce.specs.Fields.{with_file_size}
-use Rattle.ans_walks.specs.declared.hints.Hints.{Hints}
-use Rattle.ans_walks.specs.declared.times.Times.{Times}
+use Rattle.ans_hints.specs.declared.hints.Hints.{Hints}
+use Rattle.ans_pens.specs.declared.times.Times.{Times}
 use Rattle.ans_why.specs.Explained.{AreHintsOf}
 use Rattle.ans_mend.specs.EndMark.{end_mark_put, with_end_mark}
 use Rattle.ans_sauce.specs.Contents.{content_in}

@@ -14,7 +14,7 @@ use Rattle.ans_sauce.specs.Fields.{with_file_size, with_record}
 use Rattle.ans_sauce.specs.Found.{record_in}
 use Rattle.ans_model.specs.Screen.Beginning.{mending}
 use Rattle.ans_mend.specs.declared.outcome.Unmended.{Unmended}
-use Rattle.ans_walks.specs.declared.times.Times.{Times}
+use Rattle.ans_pens.specs.declared.times.Times.{Times}
 use Rattle.ans_sauce.specs.Contents.{content_in}
 use Rattle.ans_mend.specs.declared.judging.Judgement.{Judgement}
 use Rattle.ans_mend.specs.declared.judging.Reading.{Reading}

@@ -10,9 +10,9 @@ use Rattle.ans_players.specs.Situations.{Spelled, spelled}
 use Rattle.ans_tokens.specs.Token.{kind_of, start_of, length_of}
 use Rattle.ans_tokens.specs.Walk.{Front}
 use Rattle.ans_tokens.specs.declared.token.Token.{Token}
-use Rattle.ans_walks.specs.Counted.{counted}
-use Rattle.ans_walks.specs.NamesShown.{shown_names}
-use Rattle.ans_walks.specs.declared.times.Times.{Times}
+use Rattle.ans_pens.specs.Counted.{counted}
+use Rattle.ans_kinds.specs.NamesShown.{shown_names}
+use Rattle.ans_pens.specs.declared.times.Times.{Times}
 use Rattle.ans_mend.specs.NamedColours.{begins_unnamed, named_content, named_sequence, names_at_print, numbers_to_zero}
 use Rattle.ans_mend.specs.NamedColours.{takes_names, times_named}
 use Rattle.ans_mend.specs.declared.name_colours.Growth.{Growth}

@@ -16,7 +16,7 @@ use crate::taking_out::Told;
 use ans_model::limits::{MAX_FILE, MAX_LINES};
 use ans_model::mends::Mends;
 use ans_model::size::Size;
-use ans_walks::Times;
+use ans_pens::Times;
 
 /// Puts returns before line feeds, where that is asked for.
 fn put_returns(draft: &mut Draft<'_>, mends: &Mends) -> Option<Times>

@@ -2,17 +2,18 @@
 
 ghost use Rattle.std.specs.Prelude.{◌≡◌, ◌+◌, ◌-◌, ◌≤◌, ◌<◌, ◌++◌, ℕ, List, length, take, drop, true};
 ghost use Rattle.ans_model.specs.Bytes.{longest_file};
-ghost use Rattle.ans_walks.specs.Counted.{count_of, counted};
-ghost use Rattle.ans_walks.specs.FullRowEnds.{AreEndsOver, StandsBetween, bytes_of, without, without_ends};
-ghost use Rattle.ans_walks.specs.declared.full_row_ends.FullRowEnd.{FullRowEnd};
+ghost use Rattle.ans_pens.specs.Counted.{count_of, counted};
+ghost use Rattle.ans_hints.specs.FullRowEnds.{AreEndsOver, StandsBetween, bytes_of, without, without_ends};
+ghost use Rattle.ans_hints.specs.declared.full_row_ends.FullRowEnd.{FullRowEnd};
 ghost use Rattle.ans_mend.specs.Drafts.{memory_of};
 ghost use Rattle.ans_mend.specs.FullRows.{HasFullRows, first_byte, times_with};
 
 use crate::draft::Draft;
 use crate::keeping::keep;
 use crate::line_ends::content_of;
+use ans_hints::{FullRowEnd, RowPlay, ends_full_rows};
 use ans_model::size::Size;
-use ans_walks::{FullRowEnd, RowPlay, Times, ends_full_rows};
+use ans_pens::Times;
 
 /// What was taken out, how often, and how many bytes are left of those that were looked at.
 #[derive(Clone, Copy)]

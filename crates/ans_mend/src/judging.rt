@@ -15,13 +15,13 @@ ghost use Rattle.ans_mend.specs.declared.outcome.MendError.TheVariants.{Memory};
 use crate::name_search::begins_unnamed;
 use crate::new_record::refusal_of;
 use crate::outcome::{MendError, Unmended};
+use ans_kinds::is_same_where_cleared;
 use ans_model::fault::Fault;
 use ans_model::mends::Mends;
 use ans_model::size::Size;
 use ans_model::start::Start;
 use ans_sauce::{Parts, split};
 use ans_verdict::{Screens, cleared_fault};
-use ans_walks::is_same_where_cleared;
 
 /// What is read of a file that is told or set anew later, of its record and of its content.
 #[derive(Clone, Copy)]

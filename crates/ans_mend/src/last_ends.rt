@@ -11,7 +11,7 @@ use crate::draft::Draft;
 use crate::keeping::keep;
 use crate::line_ends::content_of;
 use ans_model::size::Size;
-use ans_walks::{Times, is_good};
+use ans_pens::{Times, is_good};
 
 fn is_line_end(byte: u8) -> bool
     ensures { result ≡ is_line_end byte }

@@ -10,8 +10,8 @@ ghost use Rattle.ans_mend.specs.LineEnds.{is_line_feed, line_feeds, byte_returne
 ghost use Rattle.ans_mend.specs.LineEnds.{with_returns};
 
 use crate::draft::Draft;
+use ans_pens::Times;
 use ans_sauce::{body_before, cut_content, cut_record};
-use ans_walks::Times;
 use memchr::memchr;
 
 fn is_line_feed(byte: u8) -> bool

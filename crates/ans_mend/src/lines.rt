@@ -2,7 +2,7 @@
 ghost use Rattle.std.specs.Prelude.{◌≡◌, ◌≤◌, true, false, length, IfOk, IfErr, IfSome, IfNone, OnOk};
 ghost use Rattle.ans_model.specs.Bytes.{longest_file, most_lines};
 ghost use Rattle.ans_sauce.specs.Parts.{content_of, record_of, width_of};
-ghost use Rattle.ans_walks.specs.Lines.{IsNeverGood};
+ghost use Rattle.ans_pens.specs.Lines.{IsNeverGood};
 ghost use Rattle.ans_mend.specs.Drafts.{draft_of};
 ghost use Rattle.ans_mend.specs.Mending.{AreLinesFor, HasLeast, IsReasonOfEdited, IsReasonOfLines, IsWithoutNumber};
 ghost use Rattle.ans_mend.specs.Mending.{KeepsLines, PassesAsStated, TakesLines, WantsLines, asks_for_lines};
@@ -11,11 +11,12 @@ ghost use Rattle.ans_mend.specs.Mending.{IsRead, lacks_lines, lined, opened};
 use crate::draft::Draft;
 use crate::new_record::refusal_of;
 use crate::outcome::Unmended;
+use ans_hints::Hints;
 use ans_model::limits::MAX_LINES;
 use ans_model::mends::Mends;
 use ans_model::size::Size;
+use ans_pens::{is_good, least_lines};
 use ans_sauce::{Parts, cut_record, split};
-use ans_walks::{Hints, is_good, least_lines};
 
 /// Whether a number of lines is asked for: one that is given, or the least.
 fn asks_for_lines(mends: &Mends) -> bool

@@ -12,11 +12,11 @@ use crate::outcome::{GivenRecord, Mended, NonBlink, Unmended};
 use crate::taking_out::{Excerpt, TakenOut};
 use ans_model::fault::Cause;
 use ans_model::mends::Mends;
+use ans_pens::Times;
 use ans_report::{
     Help, fault_help, put_counted, put_end_mark_line, put_fault_line, put_quoted_bytes,
     put_reset_line, put_times,
 };
-use ans_walks::Times;
 use ans_write::Outbox;
 use std::io::Write;
 

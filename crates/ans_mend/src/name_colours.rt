@@ -18,8 +18,8 @@ use crate::line_ends::content_of;
 use crate::name_search::{NamingPlace, next_naming};
 use crate::outcome::Unmended;
 use ans_model::limits::MAX_FILE;
+use ans_pens::Times;
 use ans_sauce::overwrite;
-use ans_walks::Times;
 
 /// What naming adds to a content.
 #[derive(Clone, Copy)]

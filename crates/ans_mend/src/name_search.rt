@@ -8,15 +8,15 @@ ghost use Rattle.ans_players.specs.Situations.{spelled};
 ghost use Rattle.ans_mend.specs.NamedColours.{begins_unnamed};
 ghost use Rattle.ans_players.specs.Names.{are_both};
 ghost use Rattle.ans_tokens.specs.Walk.{StaysPast};
-ghost use Rattle.ans_walks.specs.NamesShown.{shown_names};
+ghost use Rattle.ans_kinds.specs.NamesShown.{shown_names};
 ghost use Rattle.ans_mend.specs.NameSearch.{IsNamedFirst, NoneIsNamed, WaitsIn, taking_after, taking_behind};
 
 use crate::names::{has_zero, takes_names};
 use crate::naming::{count_to_zero, naming_of};
+use ans_kinds::{Names, paints};
 use ans_model::fault::Fault;
 use ans_model::kind::Kind;
 use ans_tokens::{Token, Walker, walk};
-use ans_walks::{Names, paints};
 
 /// A colour sequence that takes the names away. Nothing was printed or cleared after it yet.
 #[derive(Clone, Copy)]

@@ -3,11 +3,11 @@
 ghost use Rattle.std.specs.Prelude.{◌≡◌, ◌+◌, ◌-◌, ◌≤◌, ◌<◌, ◌++◌, length, take, drop, false};
 ghost use Rattle.ans_model.specs.Bytes.{longest_file};
 ghost use Rattle.ans_players.specs.Names.{are_both};
-ghost use Rattle.ans_walks.specs.NamesShown.{shown_names};
+ghost use Rattle.ans_kinds.specs.NamesShown.{shown_names};
 ghost use Rattle.ans_mend.specs.NamedColours.{count_to_zero, ends_number, missing_numbers, named_text, put_by};
 ghost use Rattle.ans_mend.specs.NamedColours.{through_numbers, way_of};
 
-use ans_walks::{Names, omits_number};
+use ans_kinds::{Names, omits_number};
 
 /// Where the names of a sequence stand: in it, in one after it, or in one between it and what is left of it.
 #[derive(Clone, Copy)]

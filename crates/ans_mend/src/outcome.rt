@@ -5,8 +5,8 @@ ghost use Rattle.ans_mend.specs.declared.outcome.MendError.TheVariants.{Memory, 
 
 use crate::taking_out::Told;
 use ans_model::fault::Fault;
+use ans_pens::Times;
 pub use ans_sauce::Reset;
-use ans_walks::Times;
 use std::alloc::AllocError;
 
 /// What was changed of a content. Offsets are in bytes from the file's start, in the file as the changes

@@ -8,9 +8,9 @@ ghost use Rattle.ans_mend.specs.Tail.{IsTailCut, ends_in_ansi, is_tail_byte};
 
 use crate::draft::Draft;
 use crate::last_ends::times_at;
+use ans_pens::Times;
 use ans_sauce::fields::RECORD_SIZE;
 use ans_sauce::{cut_record, last_record_place};
-use ans_walks::Times;
 
 fn is_tail_byte(byte: u8) -> bool
     ensures { result ≡ is_tail_byte byte }

@@ -11,7 +11,7 @@ use crate::draft::Draft;
 use crate::keeping::keep;
 use crate::line_ends::content_of;
 use ans_forms::{Before, Unwanted, next_unwanted};
-use ans_walks::Times;
+use ans_pens::Times;
 
 /// The first bytes of a text.
 #[derive(Debug, Clone, Copy, PartialEq, Eq)]

@@ -5,8 +5,8 @@ use ans_mend::{
 };
 use ans_model::fault::{Cause, Fault};
 use ans_model::mends::Mends;
+use ans_pens::Times;
 use ans_samples::puts;
-use ans_walks::Times;
 
 /// Of a file that is mended nothing was changed.
 const UNCHANGED: Mended = Mended {

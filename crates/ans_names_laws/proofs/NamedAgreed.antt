@@ -9,9 +9,9 @@ use Rattle.std.proofs.lemmas.List.Folds.{list_all-append}
 use Rattle.ans_model.specs.Sequence.TokenKind.{TokenKind, Colours}
 use Rattle.ans_model.specs.Sequence.Reads.{SpellsToken}
 use Rattle.ans_model.specs.Screen.State.{Size}
-use Rattle.ans_players.specs.declared.kind.Kind.{Kind}
-use Rattle.ans_players.specs.declared.kind.Kind.TheVariants.{DosColours}
-use Rattle.ans_players.specs.Grips.{Stand}
+use Rattle.ans_players.specs.declared.difference.Difference.{Difference}
+use Rattle.ans_players.specs.declared.difference.Difference.TheVariants.{DosColours}
+use Rattle.ans_players.specs.Sync.{Stand}
 use Rattle.ans_players.specs.Names.{Names, are_both, names_after}
 use Rattle.ans_model.specs.Sequence.Omitted.{omits}
 use Rattle.ans_players.specs.Situations.{Spelled, is_agreed, is_common_colour, is_grey, kind_if}
@@ -36,12 +36,12 @@ use Rattle.ans_names_laws.proofs.OmittedNumbers.{front_omits, naming_omits_none,
 abbrev all_zero : List ℕ → Bool
 all_zero ks = list_all (λ k. k == 0) ks
 
-fewer_if : (agreed : Kind → Bool) (kind : Kind) (p q : Bool) → (q ≡ true → p ≡ true)
+fewer_if : (agreed : Difference → Bool) (kind : Difference) (p q : Bool) → (q ≡ true → p ≡ true)
     → IsTrue (list_all agreed (kind_if p kind)) → IsTrue (list_all agreed (kind_if q kind))
 fewer_if agreed kind p false so all = refl
 fewer_if agreed kind p true so all = subst (λ (v : Bool). IsTrue (list_all agreed (kind_if v kind))) (so refl) all
 
-fewer_not : (agreed : Kind → Bool) (kind : Kind) (p q : Bool) → (p ≡ true → q ≡ true)
+fewer_not : (agreed : Difference → Bool) (kind : Difference) (p q : Bool) → (p ≡ true → q ≡ true)
     → IsTrue (list_all agreed (kind_if (not p) kind)) → IsTrue (list_all agreed (kind_if (not q) kind))
 fewer_not agreed kind p true so all = refl
 fewer_not agreed kind true false so all = absurd (false≢true (so refl))
@@ -72,7 +72,7 @@ naming_common n = go n.foreground n.background
 
 -- ---- along tokens
 
-module _ (agreed : Kind → Bool) (z : Size) where
+module _ (agreed : Difference → Bool) (z : Size) where
   -- all kinds that arise at the tokens are agreed
   abbrev pub AreAgreedFrom : Stand → List Spelled → Type 0
   AreAgreedFrom h [] = ⊤
@@ -117,7 +117,7 @@ module _ (agreed : Kind → Bool) (z : Size) where
     colours_agreed g other written_so common fewer =
         let parts = parts_agreed z agreed h x here in
         from_parts z agreed g (colours_of other written_so) (record {
-          grip = refl;
+          sync = refl;
           token = fewer_not agreed DosColours (list_all is_common_colour ks) (list_all is_common_colour other) common
               parts.token;
           spelling = fewer_if agreed DosColours (omits text && not (is_grey h.state && all_zero ks))

@@ -14,7 +14,7 @@ use Rattle.ans_model.specs.Screen.Step.{final, step, tab_blanks}
 use Rattle.ans_model.specs.declared.start.Start.{Start}
 use Rattle.ans_model.specs.Verdict.Good.{Picture, PlaysWell, PrintsWell, Shows}
 use Rattle.ans_model.specs.Verdict.TokenFault.{HasStaticFault, SamePosition, then_blanks}
-use Rattle.ans_players.specs.Grips.{Stand, firmly}
+use Rattle.ans_players.specs.Sync.{Stand, synced}
 use Rattle.ans_players.specs.Names.{Names, are_both, unnamed}
 use Rattle.ans_players.specs.Situations.{Spelled, spelled, stand_behind}
 use Rattle.ans_mend.specs.NamedColours.{after_zero, missing_numbers, names_behind_token, takes_names, to_zero}
@@ -64,9 +64,9 @@ do_the_same z (Colours ks) text n some takes spells =
     let cut = is_cut ks text (is_written ks text spells) takes in
     record {
       colours = rw some (parts_colours n x refl w);
-      state = λ s. rw some (sym (state_of z (parts_by w n x) (firmly s))
+      state = λ s. rw some (sym (state_of z (parts_by w n x) (synced s))
           ∙ ap (λ (v : Stand). v.state)
-          (stands_named ks n takes z (firmly s) unnamed text cut w refl));
+          (stands_named ks n takes z (synced s) unnamed text cut w refl));
     }
 do_the_same z _ text n some takes spells = absurd (false≢true takes)
 

@@ -5,15 +5,15 @@ use Rattle.ans_model.specs.Sequence.Reads.{Reads}
 use Rattle.ans_model.specs.Screen.State.{Size}
 use Rattle.ans_model.specs.Screen.StartClass.{none_known}
 use Rattle.ans_model.specs.Verdict.Good.{GoodWith}
-use Rattle.ans_players.specs.declared.kind.Kind.{Kind}
+use Rattle.ans_players.specs.declared.difference.Difference.{Difference}
 use Rattle.ans_players.specs.Mends.{mending_spelled}
 use Rattle.ans_players.specs.Players.{Behaviour, IsPlayer, IsShown}
 use Rattle.ans_players.specs.Situations.{AreAgreed, Spelled, spelled}
 use Rattle.ans_players_laws.proofs.Everywhere.{good_is_shown}
 use Rattle.ans_players.proofs.OneSpelling.{one_spelling}
 use Rattle.ans_model.specs.Screen.Beginning.{mending, mending_texts, mending_tokens}
-use Rattle.ans_walks.proofs.KindsFound.{spelled_behind}
-use Rattle.ans_walks.proofs.Mended.{makes_good, reads_as_behind}
+use Rattle.ans_kinds.proofs.KindsFound.{spelled_behind}
+use Rattle.ans_kinds.proofs.Mended.{makes_good, reads_as_behind}
 use Rattle.ans_mend.specs.NamedColours.{named_content}
 use Rattle.ans_names_laws.specs.NameLaws.{NamedIsShown}
 use Rattle.ans_names_laws.proofs.NamedPicture.{cells_stay}
@@ -28,7 +28,8 @@ spelled_mended content tokens whole reads reads_whole =
     (mending_texts ++ reads.0, reads_as_behind content tokens reads.0 reads.1)
     ∙ spelled_behind mending_tokens tokens mending_texts reads.0 refl
 
-pub named_is_shown : (z : Size) (agreed : Kind → Bool) (p : Behaviour) → IsPlayer z agreed p → NamedIsShown p z agreed
+pub named_is_shown : (z : Size) (agreed : Difference → Bool) (p : Behaviour) → IsPlayer z agreed p
+    → NamedIsShown p z agreed
 named_is_shown z agreed p player content picture good named again each =
     let bytes : List ℕ = named_content (spelled good.tokens good.reads.0) in
     let mended : GoodWith z none_known (mending ++ bytes) picture =

@@ -5,7 +5,7 @@ use Rattle.std.proofs.lemmas.Bool.{true≢false, false≢true}
 use Rattle.ans_model.specs.Sequence.TokenKind.{TokenKind, Colours}
 use Rattle.ans_model.specs.Sequence.Reads.{Reads}
 use Rattle.ans_model.specs.Screen.State.{Size, State}
-use Rattle.ans_players.specs.Grips.{Stand, firmly}
+use Rattle.ans_players.specs.Sync.{Stand, synced}
 use Rattle.ans_players.specs.Mends.{mending_spelled}
 use Rattle.ans_players.specs.Names.{Names, are_both, names_after, paints, unnamed}
 use Rattle.ans_players.specs.Situations.{Spelled, name_kinds, spelled, stand_behind}
@@ -118,23 +118,23 @@ named_first xs h = go (are_both (names_at_print unnamed xs)) refl h
     go false is e = absurd (true≢false e)
 
 pub none_own : (z : Size) (s : State) (xs : List Spelled) → begins_unnamed xs ≡ false
-    → NeverOwnFrom z (firmly s) (named_tokens xs)
+    → NeverOwnFrom z (synced s) (named_tokens xs)
 none_own z s xs begins =
-    never_own z (firmly s) (named_tokens xs) (ap are_both (print_same unnamed xs) ∙ named_first xs begins)
+    never_own z (synced s) (named_tokens xs) (ap are_both (print_same unnamed xs) ∙ named_first xs begins)
     (none_missing xs)
 
 pub none_own_mended : (z : Size) (s : State) (xs : List Spelled)
-    → NeverOwnFrom z (firmly s) (mending_spelled ++ named_tokens xs)
+    → NeverOwnFrom z (synced s) (mending_spelled ++ named_tokens xs)
 none_own_mended z s xs =
-    never_own z (firmly s) (mending_spelled ++ named_tokens xs) refl
+    never_own z (synced s) (mending_spelled ++ named_tokens xs) refl
     (refl, (refl, (refl, (refl, (refl, none_missing xs)))))
 
 pub none_own_is_left : NoneOwnIsLeft
 none_own_is_left z s content tokens named reads again =
     let same : named_tokens (spelled tokens reads.0) ≡ spelled named again.0 =
     sym (named_spelling content tokens named reads again) in (
-      λ begins. subst (λ (v : List Spelled). NeverOwnFrom z (firmly s) v) same
+      λ begins. subst (λ (v : List Spelled). NeverOwnFrom z (synced s) v) same
           (none_own z s (spelled tokens reads.0) begins),
-      subst (λ (v : List Spelled). NeverOwnFrom z (firmly s) (mending_spelled ++ v)) same
+      subst (λ (v : List Spelled). NeverOwnFrom z (synced s) (mending_spelled ++ v)) same
           (none_own_mended z s (spelled tokens reads.0)),
     )

@@ -9,7 +9,7 @@ use Rattle.std.proofs.lemmas.List.{take-append-drop}
 use Rattle.std.proofs.lemmas.List.Sums.{fold-append}
 use Rattle.ans_model.specs.Screen.Attribute.{attribute_after, attribute_after_all}
 use Rattle.ans_model.specs.Screen.State.{Size}
-use Rattle.ans_players.specs.Grips.{Stand}
+use Rattle.ans_players.specs.Sync.{Stand}
 use Rattle.ans_players.specs.Names.{Names, names_behind}
 use Rattle.ans_players.specs.Situations.{Spelled, stand_behind}
 use Rattle.ans_players.proofs.MoreNames.{IsMore, with_names}
@@ -135,7 +135,7 @@ module _ (ks : List ℕ) (n : Names) (any : list_any is_zero ks ≡ true) where
   -- as players stand, with these names and this attribute
   abbrev coloured : Stand → Names → ℕ → Stand
   coloured h names attribute = record {
-    grip = h.grip;
+    sync = h.sync;
     names = names;
     state = record h.state { attribute = attribute };
   }

@@ -6,10 +6,10 @@ use Rattle.std.proofs.lemmas.Bool.{true≢false}
 use Rattle.ans_model.specs.Sequence.TokenKind.{TokenKind}
 use Rattle.ans_model.specs.Sequence.Reads.{SpellsToken}
 use Rattle.ans_model.specs.Screen.State.{Size}
-use Rattle.ans_players.specs.Grips.{Stand, firmly}
+use Rattle.ans_players.specs.Sync.{Stand, synced}
 use Rattle.ans_players.specs.Names.{Names, are_both, names_after, paints, unnamed}
 use Rattle.ans_players.specs.Situations.{Spelled, kind_if, name_kinds, spelled, stand_behind}
-use Rattle.ans_players.specs.declared.kind.Kind.TheVariants.{OwnColours}
+use Rattle.ans_players.specs.declared.difference.Difference.TheVariants.{OwnColours}
 use Rattle.ans_mend.specs.NamedColours.{named_content, named_sequence, names_at_print, names_behind_token, takes_names}
 use Rattle.ans_mend.specs.NameSearch.{bytes_of}
 use Rattle.ans_mend.proofs.NamesWaiting.{same_names_after}
@@ -81,4 +81,4 @@ spelled_bytes (t ∷ tokens) (x ∷ texts) h = ap (λ (v : List ℕ). x ++ v) (s
 
 pub nothing_to_name : NothingToName
 nothing_to_name z s content tokens reads never =
-    stays z (firmly s) (spelled tokens reads.0) never ∙ spelled_bytes tokens reads.0 reads.1.each ∙ sym reads.1.whole
+    stays z (synced s) (spelled tokens reads.0) never ∙ spelled_bytes tokens reads.0 reads.1.each ∙ sym reads.1.whole

@@ -10,12 +10,15 @@ use Rattle.ans_model.specs.Sequence.TokenKind.{Clear, EraseLine, Save, Colours, 
 use Rattle.ans_model.specs.Screen.State.{Size, State}
 use Rattle.ans_model.specs.Screen.StartClass.{all_known}
 use Rattle.ans_model.specs.declared.start.Start.{Start}
-use Rattle.ans_players.specs.declared.kind.Kind.{Kind}
-use Rattle.ans_players.specs.declared.kind.Kind.TheVariants.{ClearInColour, DosColours, HomeOnClear, SavePlaceOnly}
-use Rattle.ans_players.specs.declared.kind.Kind.TheVariants.{WrapOff, StopsAtEdge, PageControls, TerminalControls}
-use Rattle.ans_players.specs.declared.kind.Kind.TheVariants.{OwnColours}
-use Rattle.ans_players.specs.Grips.{Grip, Firm, Wrapped, BehindFeed, BehindReturn, Adrift, Stand, firmly, grip_after}
-use Rattle.ans_players.specs.Grips.{grip_behind, is_held, loose_kinds}
+use Rattle.ans_players.specs.declared.difference.Difference.{Difference}
+use Rattle.ans_players.specs.declared.difference.Difference.TheVariants.{ClearInColour, DosColours, HomeOnClear}
+use Rattle.ans_players.specs.declared.difference.Difference.TheVariants.{SavePlaceOnly}
+use Rattle.ans_players.specs.declared.difference.Difference.TheVariants.{WrapOff, StopsAtEdge, PageControls}
+use Rattle.ans_players.specs.declared.difference.Difference.TheVariants.{TerminalControls}
+use Rattle.ans_players.specs.declared.difference.Difference.TheVariants.{OwnColours}
+use Rattle.ans_players.specs.Sync.{Sync, InSync, AfterWrap, AfterFeed, AfterReturn, OutOfSync, Stand, synced}
+use Rattle.ans_players.specs.Sync.{sync_after}
+use Rattle.ans_players.specs.Sync.{sync_after_token, is_same_for_all, unsure_kinds}
 use Rattle.ans_players.specs.Kinds.{is_kind}
 use Rattle.ans_players.specs.Mends.{mending_spelled}
 use Rattle.ans_players_laws.specs.Laws.{or_own}
@@ -23,7 +26,7 @@ use Rattle.ans_players.specs.Names.{unnamed}
 use Rattle.ans_players.specs.Situations.{AreAgreed, Spelled, is_agreed, kind_if, name_kinds, spelled, spelling_kinds}
 use Rattle.ans_players.specs.Situations.{stand_behind, token_kinds}
 use Rattle.ans_players_laws.proofs.MendedPlayers.{mended_is_agreed}
-use Rattle.ans_players.proofs.OneOfTwo.{grip_kinds, parts_agreed, from_parts}
+use Rattle.ans_players.proofs.OneOfTwo.{sync_kinds, parts_agreed, from_parts}
 use Rattle.ans_names_laws.specs.NamedTokens.{named_tokens}
 use Rattle.ans_names_laws.specs.NameLaws.{NoKindIsAdded, OwnNeedNotBeAgreed}
 use Rattle.ans_names_laws.proofs.NamedAgreed.{AreAgreedFrom, agreed_each, agreed_from, all_agreed}
@@ -33,10 +36,10 @@ use Rattle.ans_names_laws.proofs.NothingNamed.{NeverOwnFrom}
 
 -- ---- kinds that are not own-colours
 
-abbrev is_other : Kind → Bool
+abbrev is_other : Difference → Bool
 is_other kind = not (is_kind OwnColours kind)
 
-without_own : (agreed : Kind → Bool) (ks : List Kind) → list_all is_other ks ≡ true
+without_own : (agreed : Difference → Bool) (ks : List Difference) → list_all is_other ks ≡ true
     → IsTrue (list_all (or_own agreed) ks) → IsTrue (list_all agreed ks)
 without_own agreed [] other all = refl
 without_own agreed (k ∷ ks) other all =
@@ -48,7 +51,7 @@ without_own agreed (k ∷ ks) other all =
     here true agrees e f = absurd (false≢true e)
     here false agrees e f = f
 
-other_if : (test : Bool) (kind : Kind) → is_other kind ≡ true → list_all is_other (kind_if test kind) ≡ true
+other_if : (test : Bool) (kind : Difference) → is_other kind ≡ true → list_all is_other (kind_if test kind) ≡ true
 other_if true kind other = rw other refl
 other_if false kind other = refl
 
@@ -68,90 +71,90 @@ other_spellings : (s : State) (t : TokenKind) (text : List ℕ) → list_all is_
 other_spellings s (Colours parameters) text = other_if _ DosColours refl
 other_spellings s _ text = refl
 
--- ---- grips
+-- ---- sync
 
 -- its kind is not own-colours
-abbrev is_other_grip : Grip → Bool
-is_other_grip (Adrift kind) = is_other kind
-is_other_grip g = true
+abbrev is_other_sync : Sync → Bool
+is_other_sync (OutOfSync kind) = is_other kind
+is_other_sync g = true
 
-other_loose : (g : Grip) → is_other_grip g ≡ true → list_all is_other (loose_kinds g) ≡ true
-other_loose (Adrift kind) h = rw h refl
-other_loose Firm h = refl
-other_loose Wrapped h = refl
-other_loose BehindFeed h = refl
-other_loose BehindReturn h = refl
+other_unsure : (g : Sync) → is_other_sync g ≡ true → list_all is_other (unsure_kinds g) ≡ true
+other_unsure (OutOfSync kind) h = rw h refl
+other_unsure InSync h = refl
+other_unsure AfterWrap h = refl
+other_unsure AfterFeed h = refl
+other_unsure AfterReturn h = refl
 
-other_grips : (z : Size) (g : Grip) (t : TokenKind) → is_other_grip g ≡ true
-    → list_all is_other (grip_kinds z g t) ≡ true
-other_grips z g t h = go (is_held g t)
+other_syncs : (z : Size) (g : Sync) (t : TokenKind) → is_other_sync g ≡ true
+    → list_all is_other (sync_kinds z g t) ≡ true
+other_syncs z g t h = go (is_same_for_all g t)
   where
-    go : (held : Bool) → list_all is_other (if held then [] else loose_kinds g) ≡ true
+    go : (held : Bool) → list_all is_other (if held then [] else unsure_kinds g) ≡ true
     go true = refl
-    go false = other_loose g h
+    go false = other_unsure g h
 
-one_grip : (test : Bool) (g k : Grip) → is_other_grip g ≡ true → is_other_grip k ≡ true
-    → is_other_grip (if test then g else k) ≡ true
-one_grip true g k h e = h
-one_grip false g k h e = e
+one_sync : (test : Bool) (g k : Sync) → is_other_sync g ≡ true → is_other_sync k ≡ true
+    → is_other_sync (if test then g else k) ≡ true
+one_sync true g k h e = h
+one_sync false g k h e = e
 
-other_behind : (z : Size) (s : State) (t : TokenKind) → is_other_grip (grip_behind z s t) ≡ true
-other_behind z s (Glyph byte) = one_grip _ Wrapped Firm refl refl
-other_behind z s Tab = one_grip _ Wrapped Firm refl refl
-other_behind z s LineFeed = one_grip _ Firm BehindFeed refl refl
-other_behind z s CarriageReturn = one_grip _ Firm BehindReturn refl refl
-other_behind z s Clear = one_grip _ Firm (Adrift HomeOnClear) refl refl
-other_behind z s Save = one_grip _ Firm (Adrift SavePlaceOnly) refl refl
+other_behind : (z : Size) (s : State) (t : TokenKind) → is_other_sync (sync_after_token z s t) ≡ true
+other_behind z s (Glyph byte) = one_sync _ AfterWrap InSync refl refl
+other_behind z s Tab = one_sync _ AfterWrap InSync refl refl
+other_behind z s LineFeed = one_sync _ InSync AfterFeed refl refl
+other_behind z s CarriageReturn = one_sync _ InSync AfterReturn refl refl
+other_behind z s Clear = one_sync _ InSync (OutOfSync HomeOnClear) refl refl
+other_behind z s Save = one_sync _ InSync (OutOfSync SavePlaceOnly) refl refl
 other_behind z s _ = refl
 
-other_after : (z : Size) (g : Grip) (s : State) (t : TokenKind) → is_other_grip g ≡ true
-    → is_other_grip (grip_after z g s t) ≡ true
+other_after : (z : Size) (g : Sync) (s : State) (t : TokenKind) → is_other_sync g ≡ true
+    → is_other_sync (sync_after z g s t) ≡ true
 other_after z g s (Colours parameters) h = h
 other_after z g s Bell h = h
-other_after z Firm s CarriageReturn h = other_behind z s CarriageReturn
-other_after z Wrapped s CarriageReturn h = other_behind z s CarriageReturn
-other_after z BehindFeed s CarriageReturn h = refl
-other_after z BehindReturn s CarriageReturn h = refl
-other_after z (Adrift kind) s CarriageReturn h = other_behind z s CarriageReturn
+other_after z InSync s CarriageReturn h = other_behind z s CarriageReturn
+other_after z AfterWrap s CarriageReturn h = other_behind z s CarriageReturn
+other_after z AfterFeed s CarriageReturn h = refl
+other_after z AfterReturn s CarriageReturn h = refl
+other_after z (OutOfSync kind) s CarriageReturn h = other_behind z s CarriageReturn
 other_after z g s t h = other_behind z s t
 
 -- ---- along tokens
 
-module _ (agreed : Kind → Bool) (z : Size) where
-  here_without : (h : Stand) (x : Spelled) → is_other_grip h.grip ≡ true → name_kinds h.names x.token ≡ []
+module _ (agreed : Difference → Bool) (z : Size) where
+  here_without : (h : Stand) (x : Spelled) → is_other_sync h.sync ≡ true → name_kinds h.names x.token ≡ []
       → IsTrue (is_agreed (or_own agreed) z h x) → IsTrue (is_agreed agreed z h x)
-  here_without h x grip none all =
+  here_without h x sync none all =
       let parts = parts_agreed z (or_own agreed) h x all in
       from_parts z agreed h x (record {
-        grip = without_own agreed (grip_kinds z h.grip x.token) (other_grips z h.grip x.token grip) parts.grip;
+        sync = without_own agreed (sync_kinds z h.sync x.token) (other_syncs z h.sync x.token sync) parts.sync;
         token = without_own agreed (token_kinds z h.state x.token) (other_tokens z h.state x.token) parts.token;
         spelling = without_own agreed (spelling_kinds h.state x.token x.text)
             (other_spellings h.state x.token x.text) parts.spelling;
         named = rw none refl;
       })
 
-  all_without : (xs : List Spelled) (h : Stand) → is_other_grip h.grip ≡ true → NeverOwnFrom z h xs
+  all_without : (xs : List Spelled) (h : Stand) → is_other_sync h.sync ≡ true → NeverOwnFrom z h xs
       → AreAgreedFrom (or_own agreed) z h xs → AreAgreedFrom agreed z h xs
-  all_without [] h grip never all = tt
-  all_without (x ∷ xs) h grip never all = (
-    here_without h x grip (never 0 x refl) all.0,
-    all_without xs (stand_behind z h x) (other_after z h.grip h.state x.token grip) (λ k y there. never (suc k) y there)
+  all_without [] h sync never all = tt
+  all_without (x ∷ xs) h sync never all = (
+    here_without h x sync (never 0 x refl) all.0,
+    all_without xs (stand_behind z h x) (other_after z h.sync h.state x.token sync) (λ k y there. never (suc k) y there)
         all.1,
   )
 
   -- from the starts of a class
-  agreed_without : (class : Start) (xs : List Spelled) → ((s : State) → NeverOwnFrom z (firmly s) xs)
+  agreed_without : (class : Start) (xs : List Spelled) → ((s : State) → NeverOwnFrom z (synced s) xs)
       → AreAgreed (or_own agreed) z class xs → AreAgreed agreed z class xs
   agreed_without class xs never all s k x start there =
-      agreed_each agreed z xs (firmly s) (all_without xs (firmly s) refl (never s)
-      (agreed_from (or_own agreed) z xs (firmly s) (λ j y e. all s j y start e))) k x there
+      agreed_each agreed z xs (synced s) (all_without xs (synced s) refl (never s)
+      (agreed_from (or_own agreed) z xs (synced s) (λ j y e. all s j y start e))) k x there
 
   named_agreed : (class : Start) (xs : List Spelled) → AreSpelled xs → AreAgreed agreed z class xs
       → AreAgreed agreed z class (named_tokens xs)
   named_agreed class xs spells all s k x start there =
-      agreed_each agreed z (named_tokens xs) (firmly s) (all_agreed agreed z xs spells (firmly s) unnamed
+      agreed_each agreed z (named_tokens xs) (synced s) (all_agreed agreed z xs spells (synced s) unnamed
       (record { foreground = λ e. e; background = λ e. e })
-      (agreed_from agreed z xs (firmly s) (λ j y e. all s j y start e))) k x there
+      (agreed_from agreed z xs (synced s) (λ j y e. all s j y start e))) k x there
 
 pub no_kind_is_added : NoKindIsAdded
 no_kind_is_added agreed z class content tokens named reads again all =

@@ -8,7 +8,7 @@ use Rattle.ans_model.specs.declared.start.Start.{Start}
 use Rattle.ans_model.specs.Verdict.Good.{Picture, GoodWith}
 use Rattle.ans_players.specs.Mends.{mending_spelled}
 use Rattle.ans_players_laws.specs.Laws.{or_own}
-use Rattle.ans_players.specs.declared.kind.Kind.{Kind}
+use Rattle.ans_players.specs.declared.difference.Difference.{Difference}
 use Rattle.ans_players.specs.Players.{Behaviour, IsShown}
 use Rattle.ans_players.specs.Situations.{AreAgreed, Spelled, name_kinds, spelled, stand_of}
 use Rattle.ans_model.specs.Screen.Beginning.{mending}
@@ -62,14 +62,15 @@ NoneOwnIsLeft = (z : Size) (s : State) (content : List ℕ) (tokens named : List
 
 -- No other kind is added: what was agreed is so, from whichever starts.
 abbrev pub NoKindIsAdded : Type 0
-NoKindIsAdded = (agreed : Kind → Bool) (z : Size) (class : Start) (content : List ℕ) (tokens named : List TokenKind)
+NoKindIsAdded =
+    (agreed : Difference → Bool) (z : Size) (class : Start) (content : List ℕ) (tokens named : List TokenKind)
     (reads : Reads content tokens) (again : Reads (named_content (spelled tokens reads.0)) named)
     → AreAgreed agreed z class (spelled tokens reads.0) → AreAgreed agreed z class (spelled named again.0)
 
 -- And own-colours, where it was agreed, need not be any more: if nothing is printed or cleared while not both colours
 -- are named before a sequence takes the names away, or after the mending.
 abbrev pub OwnNeedNotBeAgreed : Type 0
-OwnNeedNotBeAgreed = (agreed : Kind → Bool) (z : Size) (class : Start) (content : List ℕ)
+OwnNeedNotBeAgreed = (agreed : Difference → Bool) (z : Size) (class : Start) (content : List ℕ)
     (tokens named : List TokenKind) (reads : Reads content tokens)
     (again : Reads (named_content (spelled tokens reads.0)) named)
     → (begins_unnamed (spelled tokens reads.0) ≡ false → AreAgreed (or_own agreed) z class (spelled tokens reads.0)
@@ -80,7 +81,7 @@ OwnNeedNotBeAgreed = (agreed : Kind → Bool) (z : Size) (class : Start) (conten
 -- So what is good from the cleared start, where no kinds but agreed ones and own-colours arise, shows its picture on a
 -- player that does as the profile does in the agreed ones alone, from every start: with its colours named, after the
 -- mending.
-abbrev pub NamedIsShown : Behaviour → Size → (Kind → Bool) → Type 0
+abbrev pub NamedIsShown : Behaviour → Size → (Difference → Bool) → Type 0
 NamedIsShown p z agreed = (content : List ℕ) (picture : Picture) (good : GoodWith z all_known content picture)
     (named : List TokenKind) (again : Reads (named_content (spelled good.tokens good.reads.0)) named)
     → AreAgreed (or_own agreed) z all_known (spelled good.tokens good.reads.0)

@@ -6,7 +6,7 @@
 ghost use Rattle.ans_names_laws.specs.NameLaws.{CellsStay, NamedIsRead, NoKindIsAdded, NoneOwnIsLeft, NothingToName};
 ghost use Rattle.ans_names_laws.specs.NameLaws.{NamedIsShown, OwnNeedNotBeAgreed, TwiceIsOnce, TwiceIsOnceMended};
 
-use ans_players::player::Player;
+use ans_players::family::Family;
 
 /// A content that can be read can be read with its colours named: each colour sequence that gets names has their
 /// numbers after its last 0, or is followed by one of them there. All other tokens stay.
@@ -36,8 +36,8 @@ pub fn no_kind_is_added()
 
 /// So a content that passes from the cleared start, where own colours alone are not agreed besides, shows its picture
 /// after the beginning and with its colours named: on every player that does as the profile does in the agreed kinds,
-/// from every memory that stands firmly for any start.
-pub fn named_content_shows_everywhere<P: Player>()
+/// from every memory that is in sync with any start.
+pub fn named_content_shows_everywhere<P: Family>()
     ensures { NamedIsShown P.behaviour P.size P.agreed }
 {}
 

@@ -13,8 +13,8 @@ use Rattle.ans_model.specs.Screen.StartClass.{cleared}
 use Rattle.ans_model.specs.Verdict.Good.{PlaysWell, PrintsWell}
 use Rattle.ans_model.specs.Verdict.TokenFault.{HasStaticFault, FromSome, TabGoesOn, then_blanks}
 use Rattle.ans_model.proofs.TabLemmas.{final_then_blanks}
-use Rattle.ans_players.specs.declared.kind.Kind.{Kind}
-use Rattle.ans_players.specs.Grips.{Stand, firmly}
+use Rattle.ans_players.specs.declared.difference.Difference.{Difference}
+use Rattle.ans_players.specs.Sync.{Stand, synced}
 use Rattle.ans_players.specs.Players.{StaysAbove}
 use Rattle.ans_players.specs.Situations.{Spelled, AreAgreed, stand_behind, stand_of}
 use Rattle.ans_players.proofs.Along.{kinds_of, state_is}
@@ -23,13 +23,13 @@ use Rattle.ans_picture_laws.proofs.ColourTexts.{unmarked_both}
 use Rattle.ans_picture_laws.proofs.ReadBack.{AreSpelled}
 
 -- each text spells its token
-pub all_spelled : (z : Size) (agreed : Kind → Bool) (h : Stand) (xs : List Spelled) → AllGoWell z agreed h xs
+pub all_spelled : (z : Size) (agreed : Difference → Bool) (h : Stand) (xs : List Spelled) → AllGoWell z agreed h xs
     → AreSpelled xs
 all_spelled z agreed h [] well = tt
 all_spelled z agreed h (x ∷ xs) well = (well.0.spelled, all_spelled z agreed (stand_behind z h x) xs well.1)
 
 -- and has no end mark
-pub all_unmarked : (z : Size) (agreed : Kind → Bool) (h : Stand) (xs : List Spelled) → AllGoWell z agreed h xs
+pub all_unmarked : (z : Size) (agreed : Difference → Bool) (h : Stand) (xs : List Spelled) → AllGoWell z agreed h xs
     → list_any is_end_mark (concat (map (λ x. x.text) xs)) ≡ false
 all_unmarked z agreed h [] well = refl
 all_unmarked z agreed h (x ∷ xs) well =
@@ -37,7 +37,7 @@ all_unmarked z agreed h (x ∷ xs) well =
     (all_unmarked z agreed (stand_behind z h x) xs well.1)
 
 -- each goes well where those before it lead
-pub goes_at : (z : Size) (agreed : Kind → Bool) (h : Stand) (xs : List Spelled) (k : ℕ) (x : Spelled)
+pub goes_at : (z : Size) (agreed : Difference → Bool) (h : Stand) (xs : List Spelled) (k : ℕ) (x : Spelled)
     → AllGoWell z agreed h xs → slice_get xs k ≡ Some x → GoesWell z agreed (fold (stand_behind z) h (take k xs)) x
 goes_at z agreed h [] k x well e = absurd (let no : ⊥ = cc in no)
 goes_at z agreed h (y ∷ ys) zero x well e =
@@ -69,18 +69,18 @@ abbrev pub SameBefore : Size → List Spelled → Type 0
 SameBefore z xs = (k : ℕ) (t : TokenKind) → slice_get (kinds_of xs) k ≡ Some t → Marks t → (s r : State)
     → final z s (take k (kinds_of xs)) ≡ final z r (take k (kinds_of xs))
 
-module _ (z : Size) (agreed : Kind → Bool) (xs : List Spelled)
-    (well : (s : State) → AllGoWell z agreed (firmly s) xs) where
+module _ (z : Size) (agreed : Difference → Bool) (xs : List Spelled)
+    (well : (s : State) → AllGoWell z agreed (synced s) xs) where
   -- no kinds but agreed ones arise
   pub all_agreed : (class : Start) → AreAgreed agreed z class xs
-  all_agreed class s k x start e = (goes_at z agreed (firmly s) xs k x (well s) e).agreed_there
+  all_agreed class s k x start e = (goes_at z agreed (synced s) xs k x (well s) e).agreed_there
 
   -- no line feed leads to the spare row
   pub all_feed_on : (k : ℕ) (s : State) → slice_get (kinds_of xs) k ≡ Some LineFeed
       → (final z s (take k (kinds_of xs))).cursor.row + 1 < z.lines
   all_feed_on k s e =
       let at = token_there xs k LineFeed e in
-      let goes = goes_at z agreed (firmly s) xs k at.x (well s) at.there in
+      let goes = goes_at z agreed (synced s) xs k at.x (well s) at.there in
       subst (λ (v : State). FeedsOn z v LineFeed) (state_is z s xs k)
       (subst (λ (u : TokenKind). FeedsOn z (stand_of z s (take k xs)).state u) at.token goes.feeds_on)
 
@@ -89,7 +89,7 @@ module _ (z : Size) (agreed : Kind → Bool) (xs : List Spelled)
       → StaysAbove z (final z s (take k (kinds_of xs))) t
   above_at k t s e =
       let at = token_there xs k t e in
-      let goes = goes_at z agreed (firmly s) xs k at.x (well s) at.there in
+      let goes = goes_at z agreed (synced s) xs k at.x (well s) at.there in
       subst (λ (v : State). StaysAbove z v t) (state_is z s xs k)
       (subst (λ (u : TokenKind). StaysAbove z (stand_of z s (take k xs)).state u) at.token goes.allowed.stays_above)
 
@@ -124,7 +124,7 @@ module _ (z : Size) (agreed : Kind → Bool) (xs : List Spelled)
     all_play_well = record {
       no_static_fault = λ k t cause e fault.
           let at = token_there xs k t e in
-          let goes = goes_at z agreed (firmly (cleared z)) xs k at.x (well (cleared z)) at.there in
+          let goes = goes_at z agreed (synced (cleared z)) xs k at.x (well (cleared z)) at.there in
           subst (λ (u : TokenKind). ¬ HasStaticFault z u cause) at.token (goes.allowed.no_static_fault cause) fault;
       never_scrolls = λ k e s start. above_at k LineFeed s e;
       prints_well = prints_well;

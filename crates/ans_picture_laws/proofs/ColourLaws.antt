@@ -14,14 +14,14 @@ use Rattle.ans_model.specs.Sequence.TokenKind.{Colours}
 use Rattle.ans_model.specs.Sequence.Reads.{SpellsToken}
 use Rattle.ans_model.specs.Screen.State.{Size}
 use Rattle.ans_model.specs.Screen.Step.{final}
-use Rattle.ans_players.specs.Grips.{Stand}
+use Rattle.ans_players.specs.Sync.{Stand}
 use Rattle.ans_players.specs.Names.{Names, unnamed, names_behind, names_after, are_both, is_within}
 use Rattle.ans_model.specs.Sequence.Omitted.{omits}
 use Rattle.ans_players.specs.Situations.{Spelled, situations, is_common_colour}
 use Rattle.ans_redraw.specs.Colours.{foreground_of, is_bright, background_of, blinks, ansi_number, parameter_if}
 use Rattle.ans_redraw.specs.Colours.{changes}
 use Rattle.ans_redraw.specs.Colours.{only_adds, anew, numbers_to, colour_sequence, colour_token, colours_to}
-use Rattle.ans_picture_laws.specs.FormLaws.{ColoursLead, ColoursAreCalm, ColoursAreShort, ColoursKeepNames}
+use Rattle.ans_picture_laws.specs.FormLaws.{ColoursLead, ColoursAreAgreed, ColoursAreShort, ColoursKeepNames}
 use Rattle.ans_picture_laws.specs.FormLaws.{ColoursAreRead}
 use Rattle.ans_redraw.proofs.ColourParts.{numbers_lead, foreground_lt, background_lt, bright_number}
 use Rattle.ans_redraw.proofs.ColourParts.{blink_number, front_number, back_number, some_number}
@@ -233,9 +233,9 @@ common_omit_none [] h some = absurd (some refl)
 common_omit_none (n ∷ ns) h some = text_omits_none n ns (are_bytes (n ∷ ns) h.common)
 
 -- no kind arises at them
-pub common_calm : (z : Size) (h : Stand) (ns : List ℕ) → AreCommon ns → (ns ≡ [] → ⊥)
+pub common_agreed : (z : Size) (h : Stand) (ns : List ℕ) → AreCommon ns → (ns ≡ [] → ⊥)
     → situations z h (colour_token ns) ≡ []
-common_calm z stand ns h some = rw (h.common, common_omit_none ns h some) refl
+common_agreed z stand ns h some = rw (h.common, common_omit_none ns h some) refl
 
 pub colours_lead : ColoursLead
 colours_lead z s to h g = by_test (s.attribute == to) refl
@@ -246,15 +246,15 @@ colours_lead z s to h g = by_test (s.attribute == to) refl
     by_test true e = ap (λ (a : ℕ). record s { attribute = a }) (eqb-true s.attribute to e)
     by_test false e = ap (λ (a : ℕ). record s { attribute = a }) (numbers_lead s.attribute to h g)
 
-pub colours_are_calm : ColoursAreCalm
-colours_are_calm z stand from to h k = by_test (from == to) refl
+pub colours_are_agreed : ColoursAreAgreed
+colours_are_agreed z stand from to h k = by_test (from == to) refl
   where
     by_test : (b : Bool) → (from == to) ≡ b
         → All (λ x. situations z stand x ≡ []) (if b then [] else colour_token (numbers_to from to) ∷ [])
     by_test true e = All-nil (λ x. situations z stand x ≡ [])
     by_test false e =
         All-cons (λ x. situations z stand x ≡ []) (colour_token (numbers_to from to)) []
-        (common_calm z stand (numbers_to from to) (numbers_are_common from to)
+        (common_agreed z stand (numbers_to from to) (numbers_are_common from to)
         (some_number from to h k (eqb-false from to e)))
         (All-nil (λ x. situations z stand x ≡ []))
 

@@ -15,9 +15,9 @@ use Rattle.ans_model.specs.Verdict.Good.{Picture, Shows}
 use Rattle.ans_model.proofs.BeginningLemmas.{place_is_within, reset}
 use Rattle.ans_model.proofs.PositionLemmas.{index-lt_stated}
 use Rattle.ans_model.proofs.Slices.{slice_get-append_left}
-use Rattle.ans_players.specs.declared.kind.Kind.{Kind}
+use Rattle.ans_players.specs.declared.difference.Difference.{Difference}
 use Rattle.ans_players.specs.Classes.{IsSame}
-use Rattle.ans_players.specs.Grips.{Firm, Stand, firmly}
+use Rattle.ans_players.specs.Sync.{InSync, Stand, synced}
 use Rattle.ans_players.specs.Mends.{mending_spelled}
 use Rattle.ans_players.specs.Players.{Behaviour, IsPlayer}
 use Rattle.ans_players.specs.Situations.{Spelled, AreAgreed, spelled, stand_behind}
@@ -42,8 +42,8 @@ use Rattle.ans_picture_laws.proofs.ReadBack.{read_back}
 use Rattle.ans_picture_laws.proofs.RowDrawn.{IsShownCell}
 
 -- ---- the mending
-module _ (z : Size) (agreed : Kind → Bool) (some : 0 < z.width) where
-  mending_goes : (s : State) → AllGoWell z agreed (firmly s) mending_spelled
+module _ (z : Size) (agreed : Difference → Bool) (some : 0 < z.width) where
+  mending_goes : (s : State) → AllGoWell z agreed (synced s) mending_spelled
   mending_goes s = (
     record {
       spelled = wrap_on;
@@ -94,7 +94,7 @@ module _ (z : Size) (agreed : Kind → Bool) (some : 0 < z.width) where
     ),
   )
 
-  mending_leads : (s : State) → Leads z agreed (firmly s) mending_spelled (named z)
+  mending_leads : (s : State) → Leads z agreed (synced s) mending_spelled (named z)
   mending_leads s = record { well = mending_goes s; leads = mending_leaves z s }
 
 -- behind it the state is the same from all starts, and it neither prints nor erases
@@ -113,14 +113,14 @@ same_behind z ys (suc (suc (suc (suc (suc j))))) t e marks s r =
     ap (λ (h : Stand). final z h.state (take j (kinds_of ys))) (mending_leaves z s ∙ sym (mending_leaves z r))
 
 -- ---- the form
-cleared_is : (z : Size) (cells : List Cell) → named z ≡ stand z cells Firm (0 * z.width) (at 0 0) 0x07
+cleared_is : (z : Size) (cells : List Cell) → named z ≡ stand z cells InSync (0 * z.width) (at 0 0) 0x07
 cleared_is z cells =
     let none : 0 * z.width ≡ 0 = omega arith in
     let all : cell_count z ≡ cell_count z - 0 = omega arith in
     ap (λ (n : ℕ). record (named z) { state = record (cleared z) { screen = replicate n (blank_cell 0x07) } }) all
-    ∙ ap (λ (k : ℕ). stand z cells Firm k (at 0 0) 0x07) (sym none)
+    ∙ ap (λ (k : ℕ). stand z cells InSync k (at 0 0) 0x07) (sym none)
 
-module _ (agreed : Kind → Bool) (z : Size) (picture : Picture) (drawable : IsDrawable z picture)
+module _ (agreed : Difference → Bool) (z : Size) (picture : Picture) (drawable : IsDrawable z picture)
     (bytes : BytesAreAgreed agreed picture) where
   abbrev cells : List Cell
   cells = picture.cells
@@ -140,16 +140,16 @@ module _ (agreed : Kind → Bool) (z : Size) (picture : Picture) (drawable : IsD
       (subst (λ (h : Stand). IsAllDrawn z cells agreed h (rows_drawn 0 0x07 (rows z.width z.lines cells)))
       (sym (cleared_is z cells)) all)
 
-  form_drawn : (s : State) → IsAllDrawn z cells agreed (firmly s) (form picture)
+  form_drawn : (s : State) → IsAllDrawn z cells agreed (synced s) (form picture)
   form_drawn s = record {
     there = rows_lead.there;
-    leads = both_lead z agreed (firmly s) (named z) rows_lead.there mending_spelled
+    leads = both_lead z agreed (synced s) (named z) rows_lead.there mending_spelled
         (rows_drawn 0 0x07 (rows_of picture)) (mending_leads z agreed drawable.size.some_columns s) rows_lead.leads;
     screen = rows_lead.screen;
     attribute = rows_lead.attribute;
   }
 
-  form_goes : (s : State) → AllGoWell z agreed (firmly s) (form picture)
+  form_goes : (s : State) → AllGoWell z agreed (synced s) (form picture)
   form_goes s = (form_drawn s).leads.well
 
 -- all cells are drawn
@@ -160,14 +160,14 @@ drawn_cell z cells k lt =
     (take-length cells)
     ∙ slice_get-append_left cells (replicate (cell_count z - length cells) (blank_cell 0x07)) k lt
 
-form_shows : (agreed : Kind → Bool) (z : Size) (class : Start) (picture : Picture) → IsDrawable z picture
+form_shows : (agreed : Difference → Bool) (z : Size) (class : Start) (picture : Picture) → IsDrawable z picture
     → BytesAreAgreed agreed picture → Shows z class (kinds_of (form picture)) picture
 form_shows agreed z class picture h bytes = record {
   is_picture = h.is_picture;
   shown = λ s p start stated.
       let all = form_drawn agreed z picture h bytes s in
       let lt : index z p < z.lines * z.width = index-lt_stated z p stated in
-      ap (λ (v : State). cell_at z v.screen p) (sym (state_after z (firmly s) (form picture)))
+      ap (λ (v : State). cell_at z v.screen p) (sym (state_after z (synced s) (form picture)))
       ∙ ap (λ (v : Stand). cell_at z v.state.screen p) all.leads.leads
       ∙ ap (λ (v : List Cell). cell_at z v p) all.screen
       ∙ drawn_cell z picture.cells (index z p) (omega (arith, h.is_picture.count));
@@ -175,10 +175,10 @@ form_shows agreed z class picture h bytes = record {
 
 -- ---- the laws
 -- all kinds are agreed
-abbrev any_kind : Kind → Bool
+abbrev any_kind : Difference → Bool
 any_kind kind = true
 
-none_refused : (kinds : List Kind) → list_all any_kind kinds ≡ true
+none_refused : (kinds : List Difference) → list_all any_kind kinds ≡ true
 none_refused [] = refl
 none_refused (kind ∷ kinds) = none_refused kinds
 
@@ -188,7 +188,7 @@ any_agreed picture k d lt = none_refused (shown_kinds (slice_index_or picture.ce
 pub form_is_read : FormIsRead
 form_is_read z picture h =
     read_back (form picture)
-    (all_spelled z any_kind (firmly (cleared z)) (form picture)
+    (all_spelled z any_kind (synced (cleared z)) (form picture)
     (form_goes any_kind z picture h (any_agreed picture) (cleared z)))
 
 pub form_is_good : FormIsGood
@@ -203,7 +203,8 @@ form_is_good z class picture h =
       shows = form_shows any_kind z class picture h (any_agreed picture);
     }
 
-agreed_where_bytes_are : (agreed : Kind → Bool) (z : Size) (class : Start) (picture : Picture) → IsDrawable z picture
+agreed_where_bytes_are : (agreed : Difference → Bool) (z : Size) (class : Start) (picture : Picture)
+    → IsDrawable z picture
     → BytesAreAgreed agreed picture → AreAgreed agreed z class (form picture)
 agreed_where_bytes_are agreed z class picture h bytes =
     all_agreed z agreed (form picture) (form_goes agreed z picture h bytes) class
@@ -212,7 +213,8 @@ pub form_is_agreed : FormIsAgreed
 form_is_agreed agreed z class picture h =
     (agreed_where_bytes_are agreed z class picture h, bytes_agreed agreed z class picture h)
 
-pub form_is_shown : (z : Size) (agreed : Kind → Bool) (p : Behaviour) → IsPlayer z agreed p → FormIsShown p z agreed
+pub form_is_shown : (z : Size) (agreed : Difference → Bool) (p : Behaviour) → IsPlayer z agreed p
+    → FormIsShown p z agreed
 form_is_shown z agreed p player picture h bytes =
     shown_by z agreed p player none_known (form picture) picture
     (all_play_well z agreed (form picture) (form_goes agreed z picture h bytes)
@@ -222,13 +224,13 @@ form_is_shown z agreed p player picture h bytes =
 
 pub form_has_no_end_mark : FormHasNoEndMark
 form_has_no_end_mark z picture h =
-    all_unmarked z any_kind (firmly (cleared z)) (form picture)
+    all_unmarked z any_kind (synced (cleared z)) (form picture)
     (form_goes any_kind z picture h (any_agreed picture) (cleared z))
 
 pub form_ends_grey : FormEndsGrey
 form_ends_grey z s picture h =
     let all = form_drawn any_kind z picture h (any_agreed picture) s in
-    ap (λ (v : State). v.attribute) (sym (state_after z (firmly s) (form picture)))
+    ap (λ (v : State). v.attribute) (sym (state_after z (synced s) (form picture)))
     ∙ ap (λ (v : Stand). v.state.attribute) all.leads.leads ∙ all.attribute
 
 -- the tokens with their texts
@@ -250,7 +252,7 @@ pub form_needs_nothing : FormNeedsNothing
 form_needs_nothing z picture h class =
     (λ good. none_covers class, λ covers. (picture, form_is_good z class picture h))
 
-same_from : (agreed : Kind → Bool) (z : Size) (class : Start) (picture : Picture) → IsDrawable z picture
+same_from : (agreed : Difference → Bool) (z : Size) (class : Start) (picture : Picture) → IsDrawable z picture
     → BytesAreAgreed agreed picture → IsSame agreed z class (form_bytes picture)
 unfolding form_is_good
 same_from agreed z class picture h bytes = (
@@ -260,7 +262,7 @@ same_from agreed z class picture h bytes = (
 )
 
 -- where its bytes are the same, the picture's bytes are agreed
-same_back : (agreed : Kind → Bool) (z : Size) (class : Start) (picture : Picture) → IsDrawable z picture
+same_back : (agreed : Difference → Bool) (z : Size) (class : Start) (picture : Picture) → IsDrawable z picture
     → IsSame agreed z class (form_bytes picture) → BytesAreAgreed agreed picture
 unfolding form_is_good
 same_back agreed z class picture h same =

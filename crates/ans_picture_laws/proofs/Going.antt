@@ -7,8 +7,8 @@ use Rattle.ans_model.specs.File.Layout.{is_end_mark}
 use Rattle.ans_model.specs.Sequence.Reads.{SpellsToken}
 use Rattle.ans_model.specs.Sequence.TokenKind.{TokenKind, LineFeed}
 use Rattle.ans_model.specs.Screen.State.{Size, State}
-use Rattle.ans_players.specs.declared.kind.Kind.{Kind}
-use Rattle.ans_players.specs.Grips.{Stand}
+use Rattle.ans_players.specs.declared.difference.Difference.{Difference}
+use Rattle.ans_players.specs.Sync.{Stand}
 use Rattle.ans_players.specs.Players.{IsAllowed}
 use Rattle.ans_players.specs.Situations.{Spelled, is_agreed, stand_behind}
 
@@ -19,7 +19,7 @@ FeedsOn z s t = Unit {0}
 
 -- Its text spells it and has no end mark. It is not refused, it feeds no line below the stated ones, and no kinds but
 -- agreed ones arise at it.
-pub record GoesWell (z : Size) (agreed : Kind → Bool) (h : Stand) (x : Spelled) : Type 0 where
+pub record GoesWell (z : Size) (agreed : Difference → Bool) (h : Stand) (x : Spelled) : Type 0 where
   pub spelled : SpellsToken x.token x.text
   pub unmarked : list_any is_end_mark x.text ≡ false
   pub allowed : IsAllowed z h.state x.token
@@ -27,16 +27,16 @@ pub record GoesWell (z : Size) (agreed : Kind → Bool) (h : Stand) (x : Spelled
   pub agreed_there : IsTrue (is_agreed agreed z h x)
 
 -- each goes well where the ones before it lead
-abbrev pub AllGoWell : Size → (Kind → Bool) → Stand → List Spelled → Type 0
+abbrev pub AllGoWell : Size → (Difference → Bool) → Stand → List Spelled → Type 0
 AllGoWell z agreed h [] = Unit {0}
 AllGoWell z agreed h (x ∷ xs) = GoesWell z agreed h x × AllGoWell z agreed (stand_behind z h x) xs
 
 -- they go well, from one stand to another
-pub record Leads (z : Size) (agreed : Kind → Bool) (h : Stand) (xs : List Spelled) (there : Stand) : Type 0 where
+pub record Leads (z : Size) (agreed : Difference → Bool) (h : Stand) (xs : List Spelled) (there : Stand) : Type 0 where
   pub well : AllGoWell z agreed h xs
   pub leads : fold (stand_behind z) h xs ≡ there
 
-module _ (z : Size) (agreed : Kind → Bool) where
+module _ (z : Size) (agreed : Difference → Bool) where
   all_both : (xs ys : List Spelled) (h : Stand) → AllGoWell z agreed h xs
       → AllGoWell z agreed (fold (stand_behind z) h xs) ys → AllGoWell z agreed h (xs ++ ys)
   all_both [] ys h one more = more

@@ -15,8 +15,8 @@ use Rattle.ans_model.specs.Screen.StartClass.{low_start}
 use Rattle.ans_model.specs.Text.ReportText.{rows, rows_of}
 use Rattle.ans_model.specs.Verdict.Good.{Picture}
 use Rattle.ans_model.proofs.StartLemmas.{low_is_start}
-use Rattle.ans_players.specs.declared.kind.Kind.{Kind}
-use Rattle.ans_players.specs.Grips.{Stand, is_held, loose_kinds}
+use Rattle.ans_players.specs.declared.difference.Difference.{Difference}
+use Rattle.ans_players.specs.Sync.{Stand, is_same_for_all, unsure_kinds}
 use Rattle.ans_players.specs.Mends.{mending_spelled}
 use Rattle.ans_players.specs.Situations.{Spelled, AreAgreed, is_agreed, name_kinds, spelling_kinds, stand_of}
 use Rattle.ans_redraw.specs.Colours.{colours_to}
@@ -29,7 +29,7 @@ use Rattle.ans_redraw.proofs.RowsGiven.{suc_rows}
 use Rattle.ans_picture_laws.proofs.PictureDrawn.{nothing_left}
 use Rattle.ans_picture_laws.proofs.RowDrawn.{blank_is}
 
-module _ (agreed : Kind → Bool) where
+module _ (agreed : Difference → Bool) where
   -- the kinds of a byte are agreed
   abbrev KindsAgreed : ℕ → Type 0
   KindsAgreed byte = list_all agreed (shown_kinds byte) ≡ true
@@ -46,11 +46,11 @@ module _ (agreed : Kind → Bool) where
   CellAgreed c = KindsAgreed c.byte
 
   -- ---- the tokens
-  later_agreed : (xs ys : List Kind) → list_all agreed (xs ++ ys) ≡ true → list_all agreed ys ≡ true
+  later_agreed : (xs ys : List Difference) → list_all agreed (xs ++ ys) ≡ true → list_all agreed ys ≡ true
   later_agreed xs ys h =
       (and_parts (list_all agreed xs) (list_all agreed ys) (sym (list_all-append agreed xs ys) ∙ h)).1
 
-  first_agreed : (xs ys : List Kind) → list_all agreed (xs ++ ys) ≡ true → list_all agreed xs ≡ true
+  first_agreed : (xs ys : List Difference) → list_all agreed (xs ++ ys) ≡ true → list_all agreed xs ≡ true
   first_agreed xs ys h =
       (and_parts (list_all agreed xs) (list_all agreed ys) (sym (list_all-append agreed xs ys) ∙ h)).0
 
@@ -59,7 +59,7 @@ module _ (agreed : Kind → Bool) where
   token_agreed z h (Glyph byte) text e =
       first_agreed (shown_kinds byte) (spelling_kinds h.state (Glyph byte) text)
       (first_agreed (shown_kinds byte ++ spelling_kinds h.state (Glyph byte) text) (name_kinds h.names (Glyph byte))
-      (later_agreed (if is_held h.grip (Glyph byte) then [] else loose_kinds h.grip)
+      (later_agreed (if is_same_for_all h.sync (Glyph byte) then [] else unsure_kinds h.sync)
       ((shown_kinds byte ++ spelling_kinds h.state (Glyph byte) text) ++ name_kinds h.names (Glyph byte)) e))
   token_agreed z h t text e = tt
 

@@ -14,8 +14,8 @@ use Rattle.ans_model.specs.declared.cell.Cell.{Cell}
 use Rattle.ans_model.specs.Text.ReportText.{rows}
 use Rattle.ans_model.specs.Screen.State.{Size, at, cell_count}
 use Rattle.ans_model.specs.Screen.Step.{blank_cell}
-use Rattle.ans_players.specs.declared.kind.Kind.{Kind}
-use Rattle.ans_players.specs.Grips.{Firm, Wrapped, Stand}
+use Rattle.ans_players.specs.declared.difference.Difference.{Difference}
+use Rattle.ans_players.specs.Sync.{InSync, AfterWrap, Stand}
 use Rattle.ans_players.specs.Situations.{Spelled}
 use Rattle.ans_redraw.specs.declared.pen.RowPen.{RowPen}
 use Rattle.ans_redraw.specs.Form.{pen, is_blank, drawn, pen_behind, is_coloured, last_cell, line_end, set_back}
@@ -62,7 +62,7 @@ or_right false follows h e = e
 or_right true follows h e = absurd (let no : ⊥ = cc in no)
 
 -- Behind all rows: the whole picture is on the screen, and the attribute is white on black.
-pub record IsAllDrawn (z : Size) (cells : List Cell) (agreed : Kind → Bool) (h : Stand) (xs : List Spelled)
+pub record IsAllDrawn (z : Size) (cells : List Cell) (agreed : Difference → Bool) (h : Stand) (xs : List Spelled)
     : Type 0 where
   pub there : Stand
   pub leads : Leads z agreed h xs there
@@ -70,7 +70,7 @@ pub record IsAllDrawn (z : Size) (cells : List Cell) (agreed : Kind → Bool) (h
   pub attribute : there.state.attribute ≡ 0x07
 
 -- before row r, with n rows of cells left
-record IsAtRow (z : Size) (cells : List Cell) (agreed : Kind → Bool) (n r a : ℕ) (rest : List Cell) : Type 0 where
+record IsAtRow (z : Size) (cells : List Cell) (agreed : Difference → Bool) (n r a : ℕ) (rest : List Cell) : Type 0 where
   rows_left : r + n ≡ z.lines
   left : drop (r * z.width) cells ≡ rest
   count : length rest ≡ n * z.width
@@ -142,7 +142,7 @@ below_row_byte true follows a h = h
 below_row_byte false true a h = blackened_byte a h
 below_row_byte false false a h = h
 
-module _ (z : Size) (cells : List Cell) (agreed : Kind → Bool) where
+module _ (z : Size) (cells : List Cell) (agreed : Difference → Bool) where
   -- ---- before and after a row
   row_ends : (k r c behind : ℕ) → k ≡ r * z.width + c → c + behind ≡ z.width → r < z.lines
       → k + behind ≤ cell_count z
@@ -159,29 +159,30 @@ module _ (z : Size) (cells : List Cell) (agreed : Kind → Bool) where
       omega arith
 
   before_leads : (opens : Bool) (k r a : ℕ) → IsByte a → (opens ≡ true → r + 1 < z.lines)
-      → Leads z agreed (stand z cells Firm k (at r 0) a) (before_row opens a)
-      (stand z cells Firm k (at r 0) (at_row opens a))
+      → Leads z agreed (stand z cells InSync k (at r 0) a) (before_row opens a)
+      (stand z cells InSync k (at r 0) (at_row opens a))
   before_leads true k r a h on =
-      both_lead z agreed _ (stand z cells Firm k (at r 0) (blackened a)) _ (black a) down_and_up
+      both_lead z agreed _ (stand z cells InSync k (at r 0) (blackened a)) _ (black a) down_and_up
       (black_leads z cells agreed k a (at r 0) h) (down_and_up_leads z cells agreed k r (blackened a) (on refl))
   before_leads false k r a h on = stays z agreed _ _ refl
 
   after_leads : (opens follows : Bool) (r : ℕ) (p : RowPen) (k c : ℕ) (below : List Cell) → 0 < z.width
       → IsAfter z cells opens follows r p k c below
       → Leads z agreed (place z cells k r c p.attribute) (after_row opens follows r p.attribute)
-      (stand z cells Firm ((r + 1) * z.width) (at (r + 1) 0) (below_row opens follows p.attribute))
+      (stand z cells InSync ((r + 1) * z.width) (at (r + 1) 0) (below_row opens follows p.attribute))
   after_leads true follows r p k c below columns h =
       let none : p.passed ≡ 0 = h.full refl in
-      let start : place z cells k r c p.attribute ≡ stand z cells Wrapped k (at (r + 1) 0) p.attribute =
+      let start : place z cells k r c p.attribute ≡ stand z cells AfterWrap k (at (r + 1) 0) p.attribute =
       rw (le-ltb c z.width (omega (arith, h.whole))) refl in
       let next : k + p.passed ≡ (r + 1) * z.width = next_row k r c p.passed h.index_is h.whole in
       let index : k ≡ (r + 1) * z.width = omega (arith, next, none) in
       let row : (r + 2) - 1 ≡ r + 1 = omega arith in
       let below_there = h.row_below in
       subst (λ (v : Stand). Leads z agreed v (row_place (r + 2))
-      (stand z cells Firm ((r + 1) * z.width) (at (r + 1) 0) p.attribute)) (sym start)
-      (subst (λ (v : Stand). Leads z agreed (stand z cells Wrapped k (at (r + 1) 0) p.attribute) (row_place (r + 2)) v)
-      (ap₂ (λ (j i : ℕ). stand z cells Firm j (at i 0) p.attribute) index row)
+      (stand z cells InSync ((r + 1) * z.width) (at (r + 1) 0) p.attribute)) (sym start)
+      (subst
+      (λ (v : Stand). Leads z agreed (stand z cells AfterWrap k (at (r + 1) 0) p.attribute) (row_place (r + 2)) v)
+      (ap₂ (λ (j i : ℕ). stand z cells InSync j (at i 0) p.attribute) index row)
       (row_place_leads z cells agreed (r + 2) k p.attribute (at (r + 1) 0) (omega arith) (omega arith) columns))
   after_leads false true r p k c below columns h =
       let some : p.passed ≡ 0 → ⊥ = h.not_full refl in
@@ -194,11 +195,11 @@ module _ (z : Size) (cells : List Cell) (agreed : Kind → Bool) where
       there.same ∙ ap (λ (j : ℕ). half z cells j) next in
       let a : ℕ = blackened p.attribute in
       subst (λ (v : Stand). Leads z agreed v (black p.attribute ++ line_end)
-      (stand z cells Firm ((r + 1) * z.width) (at (r + 1) 0) a)) (sym (place_is z cells agreed k r c p.attribute lt))
-      (subst (λ (v : List Cell). Leads z agreed (stand z cells Firm k (at r c) p.attribute)
+      (stand z cells InSync ((r + 1) * z.width) (at (r + 1) 0) a)) (sym (place_is z cells agreed k r c p.attribute lt))
+      (subst (λ (v : List Cell). Leads z agreed (stand z cells InSync k (at r c) p.attribute)
       (black p.attribute ++ line_end)
-      (record (stand z cells Firm k (at (r + 1) 0) a) {
-        state = record (stand z cells Firm k (at (r + 1) 0) a).state { screen = v };
+      (record (stand z cells InSync k (at (r + 1) 0) a) {
+        state = record (stand z cells InSync k (at (r + 1) 0) a).state { screen = v };
       })) same
       (both_lead z agreed _ _ _ (black p.attribute) line_end
       (black_leads z cells agreed k p.attribute (at r c) h.attribute) (line_end_leads z cells agreed k r c a on)))
@@ -216,16 +217,16 @@ module _ (z : Size) (cells : List Cell) (agreed : Kind → Bool) where
 
   end_leads : (k r c a : ℕ) (t : Bool) → half z cells k ≡ half z cells (length cells)
       → IsAllDrawn z cells agreed
-      (if t then stand z cells Firm k (at r c) a else stand z cells Wrapped k (at (r + 1) 0) a) set_back
+      (if t then stand z cells InSync k (at r c) a else stand z cells AfterWrap k (at (r + 1) 0) a) set_back
   end_leads k r c a true same = record {
-    there = ended z cells agreed Firm k (at r c);
-    leads = set_back_leads z cells agreed Firm k a (at r c);
+    there = ended z cells agreed InSync k (at r c);
+    leads = set_back_leads z cells agreed InSync k a (at r c);
     screen = same;
     attribute = refl;
   }
   end_leads k r c a false same = record {
-    there = ended z cells agreed Wrapped k (at (r + 1) 0);
-    leads = set_back_leads z cells agreed Wrapped k a (at (r + 1) 0);
+    there = ended z cells agreed AfterWrap k (at (r + 1) 0);
+    leads = set_back_leads z cells agreed AfterWrap k a (at (r + 1) 0);
     screen = same;
     attribute = refl;
   }
@@ -244,14 +245,14 @@ module _ (z : Size) (cells : List Cell) (agreed : Kind → Bool) where
 
   all_blank : length cells ≡ z.lines * z.width → (n r a : ℕ) (rest : List Cell) → IsAtRow z cells agreed n r a rest
       → rest ≡ replicate (n * z.width) (blank_cell 0x07)
-      → IsAllDrawn z cells agreed (stand z cells Firm (r * z.width) (at r 0) a) set_back
+      → IsAllDrawn z cells agreed (stand z cells InSync (r * z.width) (at r 0) a) set_back
   all_blank total n r a rest h e =
       end_leads (r * z.width) r 0 a true
       (rest_is_there total (r * z.width) (n * z.width) (h.left ∙ e) (all_lines total r n h.rows_left))
 
   -- ---- a row
   cells_drawn : (n r a b : ℕ) (rest : List Cell) → 0 < z.width → IsByte b → IsAtRow z cells agreed (suc n) r a rest
-      → IsRowDrawn z cells agreed r (stand z cells Firm (r * z.width) (at r 0) b)
+      → IsRowDrawn z cells agreed r (stand z cells InSync (r * z.width) (at r 0) b)
       (drawn (pen b 0) (take z.width rest)) (pen_behind (pen b 0) (take z.width rest)) (drop z.width rest)
   cells_drawn n r a b rest some is_byte h =
       let row : List Cell = take z.width rest in
@@ -273,7 +274,7 @@ module _ (z : Size) (cells : List Cell) (agreed : Kind → Bool) where
   -- n rows lead to the whole picture
   abbrev RowsLead : ℕ → Type 0
   RowsLead n = (r a : ℕ) (rest : List Cell) → IsAtRow z cells agreed n r a rest
-      → IsAllDrawn z cells agreed (stand z cells Firm (r * z.width) (at r 0) a) (rows_drawn r a (rows z.width n rest))
+      → IsAllDrawn z cells agreed (stand z cells InSync (r * z.width) (at r 0) a) (rows_drawn r a (rows z.width n rest))
 
   -- one row, and the others
   module _ (n r a : ℕ) (rest : List Cell) (some : 0 < z.width) (h : IsAtRow z cells agreed (suc n) r a rest) where
@@ -290,8 +291,8 @@ module _ (z : Size) (cells : List Cell) (agreed : Kind → Bool) where
 
     row_goes : (opens follows : Bool) → opens_below (not (are_blank below)) (are_some below) row ≡ opens
         → not (are_blank below) ≡ follows → (opens || follows) ≡ true → 0 < n
-        → Leads z agreed (stand z cells Firm (r * z.width) (at r 0) a) (row_drawn opens follows r a row)
-        (stand z cells Firm ((r + 1) * z.width) (at (r + 1) 0) (attribute_after_row opens follows a row))
+        → Leads z agreed (stand z cells InSync (r * z.width) (at r 0) a) (row_drawn opens follows r a row)
+        (stand z cells InSync ((r + 1) * z.width) (at (r + 1) 0) (attribute_after_row opens follows a row))
     row_goes opens follows is_opened is_followed on more =
         let b : ℕ = at_row opens a in
         let p : RowPen = pen_behind (pen b 0) row in
@@ -299,7 +300,7 @@ module _ (z : Size) (cells : List Cell) (agreed : Kind → Bool) where
         full_of (pen b 0) row (omega (arith, row_width, some)) in
         let lines = h.rows_left in
         let one = cells_drawn n r a b rest some (at_row_byte opens a h.attribute) h in
-        both_lead z agreed _ (stand z cells Firm (r * z.width) (at r 0) b) _ (before_row opens a)
+        both_lead z agreed _ (stand z cells InSync (r * z.width) (at r 0) b) _ (before_row opens a)
         (drawn (pen b 0) row ++ after_row opens follows r p.attribute)
         (before_leads opens (r * z.width) r a h.attribute (λ e. omega arith))
         (both_lead z agreed _ (place z cells one.k r one.c p.attribute) _ (drawn (pen b 0) row)
@@ -337,7 +338,7 @@ module _ (z : Size) (cells : List Cell) (agreed : Kind → Bool) where
 
     -- the last row
     last_row : length cells ≡ z.lines * z.width → are_blank below ≡ true
-        → IsAllDrawn z cells agreed (stand z cells Firm (r * z.width) (at r 0) a)
+        → IsAllDrawn z cells agreed (stand z cells InSync (r * z.width) (at r 0) a)
         (row_drawn false false r a row ++ rows_drawn (r + 1) (attribute_after_row false false a row) below)
     last_row total blank =
         let p : RowPen = pen_behind (pen a 0) row in
@@ -351,7 +352,7 @@ module _ (z : Size) (cells : List Cell) (agreed : Kind → Bool) where
         let lines = all_lines total (r + 1) n (omega (arith, h.rows_left)) in
         let next : one.k + p.passed ≡ (r + 1) * z.width = next_row one.k r one.c p.passed one.index_is one.whole in
         let all : one.k + (p.passed + n * z.width) ≡ length cells = omega (arith, lines, next) in
-        subst (λ (xs : List Spelled). IsAllDrawn z cells agreed (stand z cells Firm (r * z.width) (at r 0) a) xs)
+        subst (λ (xs : List Spelled). IsAllDrawn z cells agreed (stand z cells InSync (r * z.width) (at r 0) a) xs)
         (ap₂ (λ (xs ys : List Spelled). xs ++ ys) (sym (append-nil (drawn (pen a 0) row)))
         (sym (blank_ends (r + 1) p.attribute below blank)))
         (then_all _ (place z cells one.k r one.c p.attribute) (drawn (pen a 0) row) set_back one.leads
@@ -361,17 +362,17 @@ module _ (z : Size) (cells : List Cell) (agreed : Kind → Bool) where
     -- the row, and the others
     row_then_others : length cells ≡ z.lines * z.width → RowsLead n → (opens follows : Bool)
         → opens_below (not (are_blank below)) (are_some below) row ≡ opens → not (are_blank below) ≡ follows
-        → IsAllDrawn z cells agreed (stand z cells Firm (r * z.width) (at r 0) a)
+        → IsAllDrawn z cells agreed (stand z cells InSync (r * z.width) (at r 0) a)
         (row_drawn opens follows r a row ++ rows_drawn (r + 1) (attribute_after_row opens follows a row) below)
     row_then_others total others true follows is_opened is_followed =
-        then_all _ (stand z cells Firm ((r + 1) * z.width) (at (r + 1) 0) (attribute_after_row true follows a row))
+        then_all _ (stand z cells InSync ((r + 1) * z.width) (at (r + 1) 0) (attribute_after_row true follows a row))
         (row_drawn true follows r a row) (rows_drawn (r + 1) (attribute_after_row true follows a row) below)
         (row_goes true follows is_opened is_followed refl
         (opens_some z.width n (drop z.width rest) (not (is_blank (last_cell row)))
         (is_coloured (last_cell row).attribute) is_opened))
         (others (r + 1) (attribute_after_row true follows a row) (drop z.width rest) (behind_row true follows))
     row_then_others total others false true is_opened is_followed =
-        then_all _ (stand z cells Firm ((r + 1) * z.width) (at (r + 1) 0) (attribute_after_row false true a row))
+        then_all _ (stand z cells InSync ((r + 1) * z.width) (at (r + 1) 0) (attribute_after_row false true a row))
         (row_drawn false true r a row) (rows_drawn (r + 1) (attribute_after_row false true a row) below)
         (row_goes false true is_opened is_followed refl (follows_some z.width n (drop z.width rest) is_followed))
         (others (r + 1) (attribute_after_row false true a row) (drop z.width rest) (behind_row false true))
@@ -379,11 +380,11 @@ module _ (z : Size) (cells : List Cell) (agreed : Kind → Bool) where
         last_row total (blank_of_not (are_blank below) is_followed)
 
     one_more_row : length cells ≡ z.lines * z.width → RowsLead n
-        → IsAllDrawn z cells agreed (stand z cells Firm (r * z.width) (at r 0) a) (rows_drawn r a (row ∷ below))
+        → IsAllDrawn z cells agreed (stand z cells InSync (r * z.width) (at r 0) a) (rows_drawn r a (row ∷ below))
     one_more_row total others = by_test (are_blank (row ∷ below)) refl
       where
         by_test : (t : Bool) → are_blank (row ∷ below) ≡ t
-            → IsAllDrawn z cells agreed (stand z cells Firm (r * z.width) (at r 0) a)
+            → IsAllDrawn z cells agreed (stand z cells InSync (r * z.width) (at r 0) a)
             (if t then set_back
             else row_drawn (opens_below (not (are_blank below)) (are_some below) row) (not (are_blank below)) r a row
             ++ rows_drawn (r + 1)
@@ -406,7 +407,7 @@ module _ (z : Size) (cells : List Cell) (agreed : Kind → Bool) where
 
   -- ---- the picture
   pub picture_leads : length cells ≡ z.lines * z.width → 0 < z.width → All (IsShownCell agreed) cells
-      → IsAllDrawn z cells agreed (stand z cells Firm (0 * z.width) (at 0 0) 0x07)
+      → IsAllDrawn z cells agreed (stand z cells InSync (0 * z.width) (at 0 0) 0x07)
       (rows_drawn 0 0x07 (rows z.width z.lines cells))
   picture_leads total some shown =
       let none : 0 * z.width ≡ 0 = omega arith in

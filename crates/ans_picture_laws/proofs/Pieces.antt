@@ -15,8 +15,8 @@ use Rattle.ans_model.specs.Screen.State.{Size, State, at, cell, cell_count, inde
 use Rattle.ans_model.specs.Screen.Step.{put, advanced, blank_cell}
 use Rattle.ans_model.proofs.PositionLemmas.{index-lt}
 use Rattle.ans_model.proofs.StepLemmas.{advanced_is}
-use Rattle.ans_players.specs.declared.kind.Kind.{Kind}
-use Rattle.ans_players.specs.Grips.{Grip, Firm, Wrapped, Stand, grip_behind_print}
+use Rattle.ans_players.specs.declared.difference.Difference.{Difference}
+use Rattle.ans_players.specs.Sync.{Sync, InSync, AfterWrap, Stand, sync_after_print}
 use Rattle.ans_players.specs.Situations.{Spelled, stand_behind, is_agreed}
 use Rattle.ans_players.proofs.Spellings.{of_byte, one_right}
 use Rattle.ans_redraw.specs.Form.{glyph, skip, over_few}
@@ -31,12 +31,12 @@ module _ (z : Size) (cells : List Cell) where
   abbrev pub state_at : ℕ → Position → ℕ → State
   state_at k p a = record { screen = half z cells k; cursor = p; saved = at 0 0; attribute = a; wrap = true }
 
-  abbrev pub stand : Grip → ℕ → Position → ℕ → Stand
-  stand g k p a = record { grip = g; names = named; state = state_at k p a }
+  abbrev pub stand : Sync → ℕ → Position → ℕ → Stand
+  stand g k p a = record { sync = g; names = named; state = state_at k p a }
 
   -- behind a byte that was printed before column c of row r
   abbrev pub place : ℕ → ℕ → ℕ → ℕ → Stand
-  place k r c a = if nat_lt c z.width then stand Firm k (at r c) a else stand Wrapped k (at (r + 1) 0) a
+  place k r c a = if nat_lt c z.width then stand InSync k (at r c) a else stand AfterWrap k (at (r + 1) 0) a
 
 -- where the next cell of the picture is to be printed
 pub record IsAt (z : Size) (cells : List Cell) (k r c : ℕ) : Type 0 where
@@ -75,7 +75,7 @@ skip_unmarked n few = by_test (n == 1)
     by_test true = refl
     by_test false = unmarked_both (decimal n) (codes "C") (number_unmarked n (omega arith)) refl
 
-module _ (z : Size) (cells : List Cell) (agreed : Kind → Bool) where
+module _ (z : Size) (cells : List Cell) (agreed : Difference → Bool) where
   -- ---- a byte
   -- what it makes of the state
   put_is : (k r c b a : ℕ) (rest : List Cell) → IsAt z cells k r c → drop k cells ≡ cell b a ∷ rest
@@ -89,34 +89,34 @@ module _ (z : Size) (cells : List Cell) (agreed : Kind → Bool) where
       ap (λ (v : List Cell). advanced z (record (state_at z cells k (at r c) a) { screen = v })) drawn
       ∙ advanced_is z (state_at z cells (suc k) (at r c) a) h.row_stated
 
-  -- and of the grip
-  grip_is : (k r c a : ℕ) (t : Bool)
+  -- and of the sync
+  sync_is : (k r c a : ℕ) (t : Bool)
       → ◌≡◌ {A = Stand} (record {
-        grip = grip_behind_print (state_at z cells k (if t then at r (c + 1) else at (r + 1) 0) a);
+        sync = sync_after_print (state_at z cells k (if t then at r (c + 1) else at (r + 1) 0) a);
         names = named;
         state = state_at z cells k (if t then at r (c + 1) else at (r + 1) 0) a;
       })
-      (if t then stand z cells Firm k (at r (c + 1)) a else stand z cells Wrapped k (at (r + 1) 0) a)
-  grip_is k r c a true =
+      (if t then stand z cells InSync k (at r (c + 1)) a else stand z cells AfterWrap k (at (r + 1) 0) a)
+  sync_is k r c a true =
       let more : (c + 1 == 0) ≡ false = ne_eqb (c + 1) 0 (λ e. omega arith) in
       rw more refl
-  grip_is k r c a false = refl
+  sync_is k r c a false = refl
 
   behind_glyph : (k r c b a : ℕ) (rest : List Cell) → IsAt z cells k r c → drop k cells ≡ cell b a ∷ rest
-      → stand_behind z (stand z cells Firm k (at r c) a) (glyph b) ≡ place z cells (suc k) r (c + 1) a
+      → stand_behind z (stand z cells InSync k (at r c) a) (glyph b) ≡ place z cells (suc k) r (c + 1) a
   behind_glyph k r c b a rest h e =
-      ap (λ (v : State). record { grip = grip_behind_print v; names = named; state = v }) (put_is k r c b a rest h e)
-      ∙ grip_is (suc k) r c a (nat_lt (c + 1) z.width)
+      ap (λ (v : State). record { sync = sync_after_print v; names = named; state = v }) (put_is k r c b a rest h e)
+      ∙ sync_is (suc k) r c a (nat_lt (c + 1) z.width)
 
   glyph_agreed : (s : State) (b : ℕ) → list_all agreed (shown_kinds b) ≡ true
-      → is_agreed agreed z (record { grip = Firm; names = named; state = s }) (glyph b) ≡ true
+      → is_agreed agreed z (record { sync = InSync; names = named; state = s }) (glyph b) ≡ true
   glyph_agreed s b h = rw (append-nil (shown_kinds b ++ []), append-nil (shown_kinds b)) h
 
   pub glyph_leads : (k r c b a : ℕ) (rest : List Cell) → IsAt z cells k r c → drop k cells ≡ cell b a ∷ rest
       → IsPrinted b → list_all agreed (shown_kinds b) ≡ true
-      → Leads z agreed (stand z cells Firm k (at r c) a) (glyph b ∷ []) (place z cells (suc k) r (c + 1) a)
+      → Leads z agreed (stand z cells InSync k (at r c) a) (glyph b ∷ []) (place z cells (suc k) r (c + 1) a)
   glyph_leads k r c b a rest h e is_printed shown =
-      one_leads z agreed (stand z cells Firm k (at r c) a) (glyph b) (place z cells (suc k) r (c + 1) a)
+      one_leads z agreed (stand z cells InSync k (at r c) a) (glyph b) (place z cells (suc k) r (c + 1) a)
       (record {
         spelled = of_byte b (Glyph b) is_printed.is_byte is_printed.not_escape
             (sym is_printed.means_itself);
@@ -128,17 +128,18 @@ module _ (z : Size) (cells : List Cell) (agreed : Kind → Bool) where
       (behind_glyph k r c b a rest h e)
 
   -- ---- the way
-  -- before the last column a printed byte leaves players firm
-  pub place_is : (k r c a : ℕ) → c < z.width → place z cells k r c a ≡ stand z cells Firm k (at r c) a
+  -- before the last column a printed byte leaves players in sync
+  pub place_is : (k r c a : ℕ) → c < z.width → place z cells k r c a ≡ stand z cells InSync k (at r c) a
   place_is k r c a lt = rw (lt-ltb c z.width lt) refl
 
-  pub same_stand : (j k r c d a : ℕ) → j ≡ k → c ≡ d → stand z cells Firm j (at r c) a ≡ stand z cells Firm k (at r d) a
-  same_stand j k r c d a e f = ap₂ (λ (n m : ℕ). stand z cells Firm n (at r m) a) e f
+  pub same_stand : (j k r c d a : ℕ) → j ≡ k → c ≡ d
+      → stand z cells InSync j (at r c) a ≡ stand z cells InSync k (at r d) a
+  same_stand j k r c d a e f = ap₂ (λ (n m : ℕ). stand z cells InSync n (at r m) a) e f
 
-  -- Over n blanks of the row, from where players stand firm.
+  -- Over n blanks of the row, from where players are in sync.
   abbrev pub LeadsOver : List Spelled → ℕ → ℕ → ℕ → ℕ → ℕ → Type 0
   LeadsOver xs n k r c a =
-      Leads z agreed (stand z cells Firm k (at r c) a) xs (stand z cells Firm (k + n) (at r (c + n)) a)
+      Leads z agreed (stand z cells InSync k (at r c) a) xs (stand z cells InSync (k + n) (at r (c + n)) a)
 
   skip_leads : (n k r c a : ℕ) (rest : List Cell) → IsAt z cells k r c → 0 < n → n ≤ 255 → c + n < z.width
       → drop k cells ≡ replicate n (blank_cell 0x07) ++ rest → LeadsOver (skip n ∷ []) n k r c a
@@ -148,7 +149,7 @@ module _ (z : Size) (cells : List Cell) (agreed : Kind → Bool) where
       let within = is_within z cells (k + n) r (c + n) further in
       let there = blanks_are_there z cells n k rest e (omega (arith, within)) in
       let stops : min (c + n) (z.width - 1) ≡ c + n = omega arith in
-      one_leads z agreed (stand z cells Firm k (at r c) a) (skip n) (stand z cells Firm (k + n) (at r (c + n)) a)
+      one_leads z agreed (stand z cells InSync k (at r c) a) (skip n) (stand z cells InSync (k + n) (at r (c + n)) a)
       (record {
         spelled = skip_spelled n some few;
         unmarked = skip_unmarked n few;
@@ -156,7 +157,7 @@ module _ (z : Size) (cells : List Cell) (agreed : Kind → Bool) where
         feeds_on = tt;
         agreed_there = rw (lt-ltb (c + n) z.width lt) refl;
       })
-      (ap₂ (λ (v : List Cell) (m : ℕ). record (stand z cells Firm k (at r m) a) {
+      (ap₂ (λ (v : List Cell) (m : ℕ). record (stand z cells InSync k (at r m) a) {
         state = record (state_at z cells k (at r m) a) { screen = v };
       }) there.same stops)
 
@@ -167,16 +168,16 @@ module _ (z : Size) (cells : List Cell) (agreed : Kind → Bool) where
   blanks_lead zero k r c rest h lt e =
       stays z agreed _ _ (same_stand k (k + 0) r c (c + 0) 0x07 (omega arith) (omega arith))
   blanks_lead (suc n) k r c rest h lt e =
-      let one : Leads z agreed (stand z cells Firm k (at r c) 0x07) (glyph blank ∷ [])
-      (stand z cells Firm (suc k) (at r (c + 1)) 0x07) =
-      subst (λ (v : Stand). Leads z agreed (stand z cells Firm k (at r c) 0x07) (glyph blank ∷ []) v)
+      let one : Leads z agreed (stand z cells InSync k (at r c) 0x07) (glyph blank ∷ [])
+      (stand z cells InSync (suc k) (at r (c + 1)) 0x07) =
+      subst (λ (v : Stand). Leads z agreed (stand z cells InSync k (at r c) 0x07) (glyph blank ∷ []) v)
       (place_is (suc k) r (c + 1) 0x07 (omega arith))
       (glyph_leads k r c blank 0x07 (replicate n (blank_cell 0x07) ++ rest) h e blank_printed refl) in
       let next = next_is k cells (blank_cell 0x07) (replicate n (blank_cell 0x07) ++ rest) e in
       let further : IsAt z cells (suc k) r (c + 1) =
       record { index_is = omega (arith, h.index_is); row_stated = h.row_stated; column = omega arith } in
       let more = blanks_lead n (suc k) r (c + 1) rest further (omega arith) next.left in
-      subst (λ (v : Stand). Leads z agreed (stand z cells Firm k (at r c) 0x07) (replicate (suc n) (glyph blank)) v)
+      subst (λ (v : Stand). Leads z agreed (stand z cells InSync k (at r c) 0x07) (replicate (suc n) (glyph blank)) v)
       (same_stand (suc k + n) (k + suc n) r (c + 1 + n) (c + suc n) 0x07 (omega arith) (omega arith))
       (both_lead z agreed _ _ _ (glyph blank ∷ []) (replicate n (glyph blank)) one more)
 
@@ -223,7 +224,7 @@ module _ (z : Size) (cells : List Cell) (agreed : Kind → Bool) where
       let within = is_within z cells (k + 255) r (c + 255) further in
       let there = blanks_are_there z cells 255 k back parts (omega (arith, within)) in
       let more = skips_lead q (k + 255) r (c + 255) a rest further (omega arith) there.left in
-      subst (λ (v : Stand). Leads z agreed (stand z cells Firm k (at r c) a) (replicate (suc q) (skip 255)) v)
+      subst (λ (v : Stand). Leads z agreed (stand z cells InSync k (at r c) a) (replicate (suc q) (skip 255)) v)
       (same_stand (k + 255 + 255 * q) (k + 255 * suc q) r (c + 255 + 255 * q) (c + 255 * suc q) a (omega arith)
       (omega arith))
       (both_lead z agreed _ _ _ (skip 255 ∷ []) (replicate q (skip 255)) one more)

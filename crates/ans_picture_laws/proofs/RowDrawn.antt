@@ -10,8 +10,8 @@ use Rattle.ans_model.specs.Bytes.{IsByte, blank}
 use Rattle.ans_model.specs.declared.cell.Cell.{Cell}
 use Rattle.ans_model.specs.Screen.State.{Size, at, cell}
 use Rattle.ans_model.specs.Screen.Step.{blank_cell}
-use Rattle.ans_players.specs.declared.kind.Kind.{Kind}
-use Rattle.ans_players.specs.Grips.{Firm, Stand}
+use Rattle.ans_players.specs.declared.difference.Difference.{Difference}
+use Rattle.ans_players.specs.Sync.{InSync, Stand}
 use Rattle.ans_players.specs.Situations.{Spelled}
 use Rattle.ans_redraw.specs.Colours.{colours_to}
 use Rattle.ans_redraw.specs.declared.pen.RowPen.{RowPen}
@@ -23,7 +23,7 @@ use Rattle.ans_picture_laws.proofs.Pieces.{place, place_is, IsAt, is_within, gly
 use Rattle.ans_picture_laws.proofs.Ways.{over_leads, colours_to_lead}
 
 -- a cell whose byte is printed, in kinds that are agreed
-pub record IsShownCell (agreed : Kind → Bool) (c : Cell) : Type 0 where
+pub record IsShownCell (agreed : Difference → Bool) (c : Cell) : Type 0 where
   pub printed : IsPrinted c.byte
   pub attribute : IsByte c.attribute
   pub kinds : list_all agreed (shown_kinds c.byte) ≡ true
@@ -42,7 +42,8 @@ one_more_blank n x rest e =
     ∙ ap (λ (v : List Cell). v ++ rest) (replicate-append-replicate n 1 (blank_cell 0x07))
 
 -- Behind a row that is drawn: k cells are, those of row r before column c, and those from there on are blanks.
-pub record IsRowDrawn (z : Size) (cells : List Cell) (agreed : Kind → Bool) (r : ℕ) (h : Stand) (xs : List Spelled)
+pub record IsRowDrawn (z : Size) (cells : List Cell) (agreed : Difference
+    → Bool) (r : ℕ) (h : Stand) (xs : List Spelled)
     (p : RowPen) (rest : List Cell) : Type 0 where
   pub k : ℕ
   pub c : ℕ
@@ -53,7 +54,8 @@ pub record IsRowDrawn (z : Size) (cells : List Cell) (agreed : Kind → Bool) (r
   pub leads : Leads z agreed h xs (place z cells k r c p.attribute)
 
 -- where a pen stands in a row, before cells that are shown
-pub record IsBefore (z : Size) (cells : List Cell) (agreed : Kind → Bool) (row : List Cell) (p : RowPen) (k r c : ℕ)
+pub record IsBefore (z : Size) (cells : List Cell) (agreed : Difference
+    → Bool) (row : List Cell) (p : RowPen) (k r c : ℕ)
     (rest : List Cell) : Type 0 where
   pub index_is : k ≡ r * z.width + c
   pub row_stated : r < z.lines
@@ -62,7 +64,7 @@ pub record IsBefore (z : Size) (cells : List Cell) (agreed : Kind → Bool) (row
   pub shown : All (IsShownCell agreed) row
   pub attribute : IsByte p.attribute
 
-module _ (z : Size) (cells : List Cell) (agreed : Kind → Bool) where
+module _ (z : Size) (cells : List Cell) (agreed : Difference → Bool) where
   -- the cells of the row lead to its end
   abbrev pub RowLeads : List Cell → Type 0
   RowLeads row = (p : RowPen) (k r c : ℕ) (rest : List Cell) → IsBefore z cells agreed row p k r c rest
@@ -104,7 +106,7 @@ module _ (z : Size) (cells : List Cell) (agreed : Kind → Bool) where
       (both_lead z agreed _ _ _ (over p.attribute p.passed) (colours_to p.attribute x.attribute ++ glyph x.byte ∷ [])
       (over_leads z cells agreed p.passed k r c p.attribute (x ∷ (row ++ rest)) there further.column h.left)
       (both_lead z agreed _ _ _ (colours_to p.attribute x.attribute) (glyph x.byte ∷ [])
-      (colours_to_lead z cells agreed Firm (k + p.passed) p.attribute x.attribute (at r (c + p.passed)) h.attribute
+      (colours_to_lead z cells agreed InSync (k + p.passed) p.attribute x.attribute (at r (c + p.passed)) h.attribute
       shown.attribute)
       (glyph_leads z cells agreed (k + p.passed) r (c + p.passed) x.byte x.attribute (row ++ rest) further
       blanks.left shown.printed shown.kinds)))

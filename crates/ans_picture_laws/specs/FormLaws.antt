@@ -12,9 +12,9 @@ use Rattle.ans_model.specs.Screen.StartClass.{none_known}
 use Rattle.ans_model.specs.declared.start.Start.{Start}
 use Rattle.ans_model.specs.Verdict.Good.{Picture, GoodWith}
 use Rattle.ans_model.specs.Verdict.Needs.{IsLeast}
-use Rattle.ans_players.specs.declared.kind.Kind.{Kind}
+use Rattle.ans_players.specs.declared.difference.Difference.{Difference}
 use Rattle.ans_players.specs.Classes.{IsLeastSame}
-use Rattle.ans_players.specs.Grips.{Stand}
+use Rattle.ans_players.specs.Sync.{Stand}
 use Rattle.ans_players.specs.Names.{Names, are_both, names_after}
 use Rattle.ans_players.specs.Players.{Behaviour, IsShown}
 use Rattle.ans_players.specs.Situations.{Spelled, AreAgreed, situations}
@@ -27,9 +27,9 @@ abbrev pub ColoursLead : Type 0
 ColoursLead = (z : Size) (s : State) (to : ℕ) → IsByte s.attribute → IsByte to
     → final z s (map (λ x. x.token) (colours_to s.attribute to)) ≡ record s { attribute = to }
 
--- No kind arises at them, however firmly players stand and whichever colours are named.
-abbrev pub ColoursAreCalm : Type 0
-ColoursAreCalm = (z : Size) (h : Stand) (from to : ℕ) → IsByte from → IsByte to
+-- No kind arises at them, whatever the sync of players is and whichever colours are named.
+abbrev pub ColoursAreAgreed : Type 0
+ColoursAreAgreed = (z : Size) (h : Stand) (from to : ℕ) → IsByte from → IsByte to
     → All (λ x. situations z h x ≡ []) (colours_to from to)
 
 -- They have at most ten bytes after ESC and `[`: ansilove takes a sequence of up to 14 for one.
@@ -80,16 +80,16 @@ FormFeedsOn = (z : Size) (s : State) (picture : Picture) (k : ℕ) → IsDrawabl
 
 -- From any start those kinds arise in the form that the picture's own bytes have, and no others.
 abbrev pub FormIsAgreed : Type 0
-FormIsAgreed = (agreed : Kind → Bool) (z : Size) (class : Start) (picture : Picture) → IsDrawable z picture
+FormIsAgreed = (agreed : Difference → Bool) (z : Size) (class : Start) (picture : Picture) → IsDrawable z picture
     → BytesAreAgreed agreed picture ↔ AreAgreed agreed z class (form picture)
 
 -- So its bytes are the same from every start exactly where those kinds are agreed.
 abbrev pub FormIsSame : Type 0
-FormIsSame = (agreed : Kind → Bool) (z : Size) (picture : Picture) → IsDrawable z picture
+FormIsSame = (agreed : Difference → Bool) (z : Size) (picture : Picture) → IsDrawable z picture
     → BytesAreAgreed agreed picture ↔ IsLeastSame agreed z (form_bytes picture) none_known
 
--- And such a player shows the picture, from every memory that stands firmly for any start.
-abbrev pub FormIsShown : Behaviour → Size → (Kind → Bool) → Type 0
+-- And such a player shows the picture, from every memory that is in sync with any start.
+abbrev pub FormIsShown : Behaviour → Size → (Difference → Bool) → Type 0
 FormIsShown p z agreed = (picture : Picture) → IsDrawable z picture → BytesAreAgreed agreed picture
     → IsShown p z none_known (form picture) picture
 

@@ -12,7 +12,7 @@ use Rattle.ans_model.specs.declared.note.Note.{Note}
 use Rattle.ans_model.specs.declared.note.Note.TheVariants.{NoEndMark, SizeDiffers}
 use Rattle.ans_model.specs.declared.start.Start.{Start}
 use Rattle.ans_players.specs.Classes.{IsLeastSame}
-use Rattle.ans_players.specs.declared.kind.Kind.{Kind}
+use Rattle.ans_players.specs.declared.difference.Difference.{Difference}
 use Rattle.ans_picture_laws.specs.Drawable.{BytesAreAgreed}
 use Rattle.ans_redraw.specs.Form.{form_bytes}
 use Rattle.ans_sauce.specs.Fields.{with_file_size}
@@ -65,7 +65,7 @@ ContentTellsThePicture = (file other : List ℕ) (apart other_apart new other_ne
 -- From every start the kinds in which players part that arise in a redrawn content are those of the picture's own
 -- bytes: it is the same from every start exactly on those players that agree in these.
 abbrev pub OnlyItsBytesPart : Type 0
-OnlyItsBytesPart = (agreed : Kind → Bool) (file : List ℕ) (apart new : FileParts) (picture : Picture)
+OnlyItsBytesPart = (agreed : Difference → Bool) (file : List ℕ) (apart new : FileParts) (picture : Picture)
     → CanBeRedrawn file apart picture → IsRedrawnTo file apart picture new
     → BytesAreAgreed agreed picture
     ↔ IsLeastSame agreed (stated_size new.record_bytes) (content new.body) none_known

@@ -1,20 +1,20 @@
 //! Laws of the form.
 
-ghost use Rattle.ans_picture_laws.specs.FormLaws.{ColoursAreCalm, ColoursAreRead, ColoursAreShort, ColoursKeepNames};
+ghost use Rattle.ans_picture_laws.specs.FormLaws.{ColoursAreAgreed, ColoursAreRead, ColoursAreShort, ColoursKeepNames};
 ghost use Rattle.ans_picture_laws.specs.FormLaws.{ColoursLead};
 ghost use Rattle.ans_picture_laws.specs.FormLaws.{FormEndsGrey, FormFeedsOn, FormHasNoEndMark, FormIsAgreed};
 ghost use Rattle.ans_picture_laws.specs.FormLaws.{FormIsGood};
 ghost use Rattle.ans_picture_laws.specs.FormLaws.{FormIsKept, FormIsRead, FormIsSame, FormIsShown, FormNeedsNothing};
 ghost use Rattle.ans_picture_laws.specs.FormLaws.{FormTellsThePicture, GoodPicturesAreDrawable};
 
-use ans_players::player::Player;
+use ans_players::family::Family;
 
 /// From each of the 256 attributes to each other: the colours make it so and change nothing else, no player
 /// parts from another at them, both colours stay named, and their bytes are read as they are meant. They are
 /// one sequence at most, of ten bytes at most after ESC and `[`.
 pub fn colours_lead_from_each_to_each()
     ensures lead { ColoursLead }
-    ensures calm { ColoursAreCalm }
+    ensures agreed { ColoursAreAgreed }
     ensures short { ColoursAreShort }
     ensures named { ColoursKeepNames }
     ensures read { ColoursAreRead }
@@ -41,11 +41,11 @@ pub fn form_is_the_same_on_every_player()
 {}
 
 /// So a player that draws the picture's own bytes as the profile does shows the picture, from every memory
-/// that stands firmly for any start.
+/// that is in sync with any start.
 ///
 /// What `ans_players_laws::laws::shows_everywhere` says of players and starts holds here too: a player has the
 /// stated lines and a spare row, and draws code page 437.
-pub fn form_shows_everywhere<P: Player>()
+pub fn form_shows_everywhere<P: Family>()
     ensures { FormIsShown P.behaviour P.size P.agreed }
 {}
 

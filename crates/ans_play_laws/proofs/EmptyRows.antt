@@ -8,9 +8,9 @@ use Rattle.ans_model.specs.Sequence.TokenKind.{TokenKind, Glyph, Tab}
 use Rattle.ans_model.specs.Screen.State.{Size, State}
 use Rattle.ans_model.specs.Screen.Step.{final, step, tab_blanks}
 use Rattle.ans_model.specs.Screen.StartClass.{cleared}
-use Rattle.ans_walks.specs.Pens.{before_last_blank}
-use Rattle.ans_walks.proofs.PenSteps.{more_blanks_lower}
-use Rattle.ans_walks.specs.Rows.{empty_with, empty_after, empty_rows}
+use Rattle.ans_pens.specs.Pens.{before_last_blank}
+use Rattle.ans_pens.proofs.PenSteps.{more_blanks_lower}
+use Rattle.ans_hints.specs.Rows.{empty_with, empty_after, empty_rows}
 use Rattle.ans_play_laws.specs.RowLaws.{PrintsIn, SomePrintsIn, EmptyRowsHoldNothing, NoMoreRowsAreEmpty}
 
 -- ---- the rows never become more

@@ -9,13 +9,13 @@ use Rattle.ans_model.specs.Sequence.TokenKind.{Save, Colours, Wrap}
 use Rattle.ans_model.specs.Screen.State.{Size, State}
 use Rattle.ans_model.specs.Screen.Step.{step, final}
 use Rattle.ans_model.specs.Screen.StartClass.{cleared}
-use Rattle.ans_walks.specs.declared.row.EndedRow.{EndedRow}
-use Rattle.ans_walks.specs.declared.row.Row.{Row}
-use Rattle.ans_walks.specs.declared.row.Seam.TheVariants.{Other, Wrapped, Stuck}
-use Rattle.ans_walks.specs.RowEnds.{Written, ended_by_line_feed, first_row, is_wrapped, nothing_written, returned_or}
-use Rattle.ans_walks.specs.RowEnds.{row_with, wraps, written_after, written_with}
+use Rattle.ans_hints.specs.declared.row.EndedRow.{EndedRow}
+use Rattle.ans_hints.specs.declared.row.Row.{Row}
+use Rattle.ans_hints.specs.declared.row.Seam.TheVariants.{Other, Wrapped, Stuck}
+use Rattle.ans_hints.specs.RowEnds.{Written, ended_by_line_feed, first_row, is_wrapped, nothing_written, returned_or}
+use Rattle.ans_hints.specs.RowEnds.{row_with, wraps, written_after, written_with}
 use Rattle.ans_play_laws.specs.RowEndLaws.{IsQuiet, EndsFull, EndsReturned, LineFeedEndsFullRow}
-use Rattle.ans_walks.specs.RowEnds.{written_by}
+use Rattle.ans_hints.specs.RowEnds.{written_by}
 
 -- ---- the last token that is not quiet
 

@@ -5,11 +5,11 @@ use Rattle.ans_model.specs.Sequence.TokenKind.{TokenKind, Glyph, Tab, LineFeed, 
 use Rattle.ans_model.specs.Screen.State.{Size, State}
 use Rattle.ans_model.specs.Screen.Step.{step}
 use Rattle.ans_model.specs.Screen.StartClass.{cleared}
-use Rattle.ans_walks.specs.declared.row.Row.{Row}
-use Rattle.ans_walks.specs.declared.row_ends.RowEnds.{RowEnds}
-use Rattle.ans_walks.specs.RowEnds.{Written, nothing_written, row_ends_with, written_after, written_with}
+use Rattle.ans_hints.specs.declared.row.Row.{Row}
+use Rattle.ans_hints.specs.declared.row_ends.RowEnds.{RowEnds}
+use Rattle.ans_hints.specs.RowEnds.{Written, nothing_written, row_ends_with, written_after, written_with}
 use Rattle.ans_play_laws.specs.RowEndLaws.{Prints, CountsBefore, CountsBeforeLastPrint}
-use Rattle.ans_walks.specs.RowEnds.{written_by}
+use Rattle.ans_hints.specs.RowEnds.{written_by}
 
 -- the token that prints takes over what has been counted
 print_counts : (z : Size) (s : State) (offset : ℕ) (row : Row) (ends : RowEnds) (t : TokenKind) → Prints t

@@ -28,7 +28,7 @@ use Rattle.ans_model.proofs.Reading.{one_reading}
 use Rattle.ans_model.proofs.Slices.{slice_get-take}
 use Rattle.ans_model.proofs.TabLemmas.{final_then_blanks}
 use Rattle.ans_model.proofs.WellFormed.{fits_after_tokens}
-use Rattle.ans_walks.specs.Taller.{MovesFreely}
+use Rattle.ans_pens.specs.Taller.{MovesFreely}
 use Rattle.ans_play_laws.specs.TallerLaws.{TallerShowsTheSame}
 use Rattle.ans_play_laws.proofs.TallerSteps.{tall, AreAlike, AreAlikeStates, IsRoomFor, alike_blanks, alike_step}
 use Rattle.ans_play_laws.proofs.TallerSteps.{one_where_same_row}

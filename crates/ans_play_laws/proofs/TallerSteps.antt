@@ -19,7 +19,7 @@ use Rattle.ans_model.proofs.PositionLemmas.{index-le_row_end, index-lt, row_end_
 use Rattle.ans_model.proofs.Slices.{slice_get-replicate, slice_get-set_same, slice_get-set_other}
 use Rattle.ans_model.proofs.StepLemmas.{line_feed_is}
 use Rattle.ans_model.proofs.WellFormed.{fits_after_put}
-use Rattle.ans_walks.proofs.Printed.{next, next_row, put_is}
+use Rattle.ans_pens.proofs.Printed.{next, next_row, put_is}
 
 -- ---- screens that agree in their first cells
 abbrev pub Agree : ℕ → List Cell → List Cell → Type 0

@@ -6,9 +6,9 @@ use Rattle.ans_model.specs.Sequence.TokenKind.{Colours, Wrap}
 use Rattle.ans_model.specs.Screen.State.{Size, State}
 use Rattle.ans_model.specs.Screen.Step.{final}
 use Rattle.ans_model.specs.Screen.StartClass.{cleared}
-use Rattle.ans_walks.specs.declared.row_ends.RowEnds.{RowEnds}
-use Rattle.ans_walks.specs.Counted.{count_of}
-use Rattle.ans_walks.specs.RowEnds.{ended_by_line_feed, wraps, written_by}
+use Rattle.ans_hints.specs.declared.row_ends.RowEnds.{RowEnds}
+use Rattle.ans_pens.specs.Counted.{count_of}
+use Rattle.ans_hints.specs.RowEnds.{ended_by_line_feed, wraps, written_by}
 
 -- the tokens that may stand before a line end and inside it
 abbrev pub IsQuiet : TokenKind → Type 0

@@ -5,7 +5,7 @@ use Rattle.ans_model.specs.Sequence.TokenKind.{TokenKind, Glyph, Tab}
 use Rattle.ans_model.specs.Screen.State.{Size, State}
 use Rattle.ans_model.specs.Screen.Step.{final, put, tab_blanks}
 use Rattle.ans_model.specs.Screen.StartClass.{cleared}
-use Rattle.ans_walks.specs.Rows.{empty_rows}
+use Rattle.ans_hints.specs.Rows.{empty_rows}
 
 -- in this state the token prints in this row: a glyph, or a blank of a tab
 abbrev pub PrintsIn : Size → State → TokenKind → ℕ → Type 0

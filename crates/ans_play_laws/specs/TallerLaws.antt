@@ -7,7 +7,7 @@ use Rattle.ans_model.specs.Screen.StartClass.{IsStart}
 use Rattle.ans_model.specs.Verdict.Good.{Picture, GoodWith, PlaysWell}
 use Rattle.ans_model.specs.declared.cell.Position.{Position}
 use Rattle.ans_model.specs.declared.start.Start.{Start}
-use Rattle.ans_walks.specs.Taller.{IsTaller}
+use Rattle.ans_pens.specs.Taller.{IsTaller}
 
 -- on a screen of this many lines the tokens play well from every start of the class, so that nothing scrolls, and the
 -- first lines show the picture

@@ -1,10 +1,10 @@
 //! Laws of what a drawing relies on, and of what is counted.
 
-ghost use Rattle.ans_walks.specs.Lines.{OneLineMoreIsGood};
-ghost use Rattle.ans_walks.specs.Mend.{MakesGood};
+ghost use Rattle.ans_pens.specs.Lines.{OneLineMoreIsGood};
+ghost use Rattle.ans_kinds.specs.Mend.{MakesGood};
 ghost use Rattle.ans_play_laws.specs.RowEndLaws.{CountsBeforeLastPrint, LineFeedEndsFullRow};
 ghost use Rattle.ans_play_laws.specs.RowLaws.{EmptyRowsHoldNothing, NoMoreRowsAreEmpty};
-ghost use Rattle.ans_walks.specs.SaidOfPlayers.{MendedIsSameWhereCleared};
+ghost use Rattle.ans_kinds.specs.SaidOfPlayers.{MendedIsSameWhereCleared};
 ghost use Rattle.ans_play_laws.specs.TallerLaws.{TallerShowsTheSame};
 
 /// Content that is good from the cleared start is good behind the bytes of

@@ -10,8 +10,8 @@ use Rattle.ans_model.specs.Screen.State.{Size, State, at}
 use Rattle.ans_model.specs.Screen.Step.{step, destination, line_feed, advanced, printed, put, tab_blanks}
 use Rattle.ans_model.specs.Screen.Attribute.{attribute_after_all}
 use Rattle.ans_model.specs.declared.cell.Position.{Position}
-use Rattle.ans_players.specs.declared.kind.Kind.TheVariants.{HomeOnClear, SavePlaceOnly}
-use Rattle.ans_players.specs.Grips.{Grip, Firm, Wrapped, BehindFeed, BehindReturn, Adrift, grip_after, is_home}
+use Rattle.ans_players.specs.declared.difference.Difference.TheVariants.{HomeOnClear, SavePlaceOnly}
+use Rattle.ans_players.specs.Sync.{Sync, InSync, AfterWrap, AfterFeed, AfterReturn, OutOfSync, sync_after, is_home}
 use Rattle.ans_players.specs.Players.{StaysAbove}
 
 -- where a printed byte takes the cursor
@@ -43,24 +43,24 @@ abbrev pub wrap_after : TokenKind → Bool → Bool
 wrap_after (Wrap on) wrap = on
 wrap_after t wrap = wrap
 
-abbrev pub grip_behind_place : Bool → Position → Grip
-grip_behind_place wrap p = if wrap && p.column == 0 then Wrapped else Firm
+abbrev pub sync_after_place : Bool → Position → Sync
+sync_after_place wrap p = if wrap && p.column == 0 then AfterWrap else InSync
 
-abbrev pub grip_behind_return : Grip → Position → Grip
-grip_behind_return BehindFeed p = Firm
-grip_behind_return BehindReturn p = BehindReturn
-grip_behind_return g p = if p.column == 0 then Firm else BehindReturn
+abbrev pub sync_after_return : Sync → Position → Sync
+sync_after_return AfterFeed p = InSync
+sync_after_return AfterReturn p = AfterReturn
+sync_after_return g p = if p.column == 0 then InSync else AfterReturn
 
-abbrev pub grip_of : Size → TokenKind → Grip → Position → Bool → Grip
-grip_of z (Glyph byte) g p wrap = grip_behind_place wrap (next z wrap p)
-grip_of z Tab g p wrap = grip_behind_place wrap (next_all z wrap p (tab_blanks p.column))
-grip_of z (Colours parameters) g p wrap = g
-grip_of z Bell g p wrap = g
-grip_of z CarriageReturn g p wrap = grip_behind_return g p
-grip_of z LineFeed g p wrap = if p.column == 0 then Firm else BehindFeed
-grip_of z Clear g p wrap = if is_home p then Firm else Adrift HomeOnClear
-grip_of z Save g p wrap = if is_home p then Firm else Adrift SavePlaceOnly
-grip_of z t g p wrap = Firm
+abbrev pub sync_of : Size → TokenKind → Sync → Position → Bool → Sync
+sync_of z (Glyph byte) g p wrap = sync_after_place wrap (next z wrap p)
+sync_of z Tab g p wrap = sync_after_place wrap (next_all z wrap p (tab_blanks p.column))
+sync_of z (Colours parameters) g p wrap = g
+sync_of z Bell g p wrap = g
+sync_of z CarriageReturn g p wrap = sync_after_return g p
+sync_of z LineFeed g p wrap = if p.column == 0 then InSync else AfterFeed
+sync_of z Clear g p wrap = if is_home p then InSync else OutOfSync HomeOnClear
+sync_of z Save g p wrap = if is_home p then InSync else OutOfSync SavePlaceOnly
+sync_of z t g p wrap = InSync
 
 pub record PartsAfter (z : Size) (s t : State) (p saved : Position) (a : ℕ) (wrap : Bool) : Type 0 where
   pub cursor : t.cursor ≡ p
@@ -124,18 +124,18 @@ module _ (z : Size) where
   parts_after s t above = parts_of z s (step z s t)
 
   behind_print : (t : State) (p : Position) (wrap : Bool) → t.cursor ≡ p → t.wrap ≡ wrap
-      → (if t.wrap && t.cursor.column == 0 then Wrapped else Firm) ≡ grip_behind_place wrap p
+      → (if t.wrap && t.cursor.column == 0 then AfterWrap else InSync) ≡ sync_after_place wrap p
   behind_print t p wrap e f =
-      ap (λ (b : Bool). grip_behind_place b t.cursor) f ∙ ap (λ (q : Position). grip_behind_place wrap q) e
+      ap (λ (b : Bool). sync_after_place b t.cursor) f ∙ ap (λ (q : Position). sync_after_place wrap q) e
 
-  pub grip_is : (g : Grip) (s : State) (t : TokenKind) → StaysAbove z s t
-      → grip_after z g s t ≡ grip_of z t g s.cursor s.wrap
-  grip_is g s (Glyph byte) above =
+  pub sync_is : (g : Sync) (s : State) (t : TokenKind) → StaysAbove z s t
+      → sync_after z g s t ≡ sync_of z t g s.cursor s.wrap
+  sync_is g s (Glyph byte) above =
       let after = parts_after s (Glyph byte) above in
       behind_print (step z s (Glyph byte)) _ s.wrap after.cursor after.wrap_is
-  grip_is g s Tab above =
+  sync_is g s Tab above =
       let after = parts_after s Tab above in behind_print (step z s Tab) _ s.wrap after.cursor after.wrap_is
-  grip_is BehindFeed s CarriageReturn above = refl
-  grip_is BehindReturn s CarriageReturn above = refl
-  grip_is g s CarriageReturn above = refl
-  grip_is g s t above = refl
+  sync_is AfterFeed s CarriageReturn above = refl
+  sync_is AfterReturn s CarriageReturn above = refl
+  sync_is g s CarriageReturn above = refl
+  sync_is g s t above = refl

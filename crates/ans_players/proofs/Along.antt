@@ -10,7 +10,7 @@ use Rattle.ans_model.specs.Screen.StartClass.{IsStart}
 use Rattle.ans_model.specs.declared.start.Start.{Start}
 use Rattle.ans_model.specs.Verdict.Good.{PlaysWell}
 use Rattle.ans_model.proofs.TabLemmas.{final_then_blanks}
-use Rattle.ans_players.specs.Grips.{Stand, firmly}
+use Rattle.ans_players.specs.Sync.{Stand, synced}
 use Rattle.ans_players.specs.Situations.{Spelled, spelled, stand_behind, stand_of}
 use Rattle.ans_players.specs.Players.{StaysAbove}
 
@@ -48,7 +48,7 @@ state_from z h xs k =
 
 pub state_is : (z : Size) (s : State) (xs : List Spelled) (k : ℕ)
     → (stand_of z s (take k xs)).state ≡ final z s (take k (kinds_of xs))
-state_is z s xs k = state_from z (firmly s) xs k
+state_is z s xs k = state_from z (synced s) xs k
 
 module _ (z : Size) (class : Start) (tokens : List TokenKind) (plays : PlaysWell z class tokens) (s : State)
     (start : IsStart z class s) where
@@ -71,4 +71,4 @@ module _ (z : Size) (class : Start) (xs : List Spelled) (plays : PlaysWell z cla
     (start : IsStart z class s) where
   pub above_at : (k : ℕ) (x : Spelled) → slice_get xs k ≡ Some x
       → StaysAbove z (stand_of z s (take k xs)).state x.token
-  above_at k x e = above_from z class xs plays (firmly s) start k x e
+  above_at k x e = above_from z class xs plays (synced s) start k x e

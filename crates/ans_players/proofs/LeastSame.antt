@@ -12,12 +12,12 @@ use Rattle.ans_model.proofs.ClassLemmas.{covers_starts, covers_all_known, covers
 use Rattle.ans_model.proofs.ClassLemmas.{covers_all_but_screen, covers_all_but_cursor, covers_all_but_saved}
 use Rattle.ans_model.proofs.ClassLemmas.{covers_all_but_colours, covers_all_but_wrap}
 use Rattle.ans_model.proofs.StartLemmas.{low_is_start}
-use Rattle.ans_players.specs.declared.kind.Kind.{Kind}
+use Rattle.ans_players.specs.declared.difference.Difference.{Difference}
 use Rattle.ans_players.specs.Situations.{Spelled, AreAgreed, spelled}
-use Rattle.ans_players.specs.Classes.{IsSame, IsLeastSame, IsCalm, IsFoundBySame}
+use Rattle.ans_players.specs.Classes.{IsSame, IsLeastSame, HasOnlyAgreed, IsFoundBySame}
 use Rattle.ans_players.specs.Classes.{LeastSameIsFound}
 use Rattle.ans_players.proofs.Along.{kinds_of, kinds_of_spelled}
-use Rattle.ans_players.proofs.Meets.{agreed_meet, agreed_of_two, firm_place}
+use Rattle.ans_players.proofs.Meets.{agreed_meet, agreed_of_two, place_in_sync}
 use Rattle.ans_players.proofs.OneSpelling.{one_spelling}
 
 -- ---- classes
@@ -33,7 +33,7 @@ both_covered a b c of_a of_b = record {
 
 -- ---- content of which this is so
 -- what is the same for a class is so for each class that it covers
-covered_same : (agreed : Kind → Bool) (z : Size) (content : List ℕ) (a b : Start) → Covers a b
+covered_same : (agreed : Difference → Bool) (z : Size) (content : List ℕ) (a b : Start) → Covers a b
     → IsSame agreed z a content → IsSame agreed z b content
 covered_same agreed z content a b covers same =
     let good : GoodWith z b content same.0.0 = covers_good z a b content same.0.0 covers same.0.1 in
@@ -44,18 +44,18 @@ covered_same agreed z content a b covers same =
           (one_spelling content same.0.1.tokens good.tokens same.0.1.reads good.reads) each,
     )
 
-module _ (agreed : Kind → Bool) (z : Size) (content : List ℕ) (needs : Start)
-    (calm : IsCalm agreed z content needs) where
+module _ (agreed : Difference → Bool) (z : Size) (content : List ℕ) (needs : Start)
+    (only_agreed : HasOnlyAgreed agreed z content needs) where
   abbrev xs : List Spelled
-  xs = spelled calm.same.0.1.tokens calm.same.0.1.reads.0
+  xs = spelled only_agreed.same.0.1.tokens only_agreed.same.0.1.reads.0
 
   some_columns : 0 < z.width
-  some_columns = calm.same.0.1.size.some_columns
+  some_columns = only_agreed.same.0.1.size.some_columns
 
   -- the content is spelled so, however it is read
   spelled_is : (class : Start) (good : IsGood z class content) → spelled good.1.tokens good.1.reads.0 ≡ xs
   spelled_is class good =
-      one_spelling content good.1.tokens calm.same.0.1.tokens good.1.reads calm.same.0.1.reads
+      one_spelling content good.1.tokens only_agreed.same.0.1.tokens good.1.reads only_agreed.same.0.1.reads
 
   pub plays_of : (class : Start) → IsGood z class content → PlaysWell z class (kinds_of xs)
   plays_of class good =
@@ -78,8 +78,8 @@ module _ (agreed : Kind → Bool) (z : Size) (content : List ℕ) (needs : Start
   same_meet : (a b : Start) → IsSame agreed z a content → IsSame agreed z b content
       → IsSame agreed z (both_known a b) content
   same_meet a b of_a of_b =
-      let good : IsGood z (both_known a b) content = (calm.least (both_known a b)).1
-      (both_covered a b needs ((calm.least a).0 of_a.0) ((calm.least b).0 of_b.0)) in
+      let good : IsGood z (both_known a b) content = (only_agreed.least (both_known a b)).1
+      (both_covered a b needs ((only_agreed.least a).0 of_a.0) ((only_agreed.least b).0 of_b.0)) in
       same_is (both_known a b) good
       (agreed_meet agreed z a b xs some_columns (plays_of (both_known a b) good) (agreed_is a of_a) (agreed_is b of_b))
 
@@ -89,10 +89,10 @@ module _ (agreed : Kind → Bool) (z : Size) (content : List ℕ) (needs : Start
       let clear : IsStart z all_known (cleared z) = low_is_start z all_known some_columns in
       let clear_too : IsStart z all_but_screen (cleared z) =
       covers_starts z all_but_screen all_known (cleared z) (covers_all_known all_but_screen) clear in
-      let there = agreed_is all_known calm.same (cleared z) k x clear e in
+      let there = agreed_is all_known only_agreed.same (cleared z) k x clear e in
       agreed_of_two z all_but_screen xs (plays_of all_but_screen good) s (cleared z) (cleared z) start clear_too
       clear_too agreed (record {
-        place = firm_place _ _ _ (inl (start.cursor refl));
+        place = place_in_sync _ _ _ (inl (start.cursor refl));
         saved = inl (start.saved refl);
         attribute = inl (start.attribute refl);
         wrap = inl (start.wrap refl);
@@ -115,9 +115,9 @@ module _ (agreed : Kind → Bool) (z : Size) (content : List ℕ) (needs : Start
   module _ (class : Start) (found : IsFoundBySame agreed z content needs class) where
     screen_found : (class.screen ≡ false) ↔ IsSame agreed z all_but_screen content
     screen_found = (
-      λ e. same_without_cells ((calm.least all_but_screen).1
+      λ e. same_without_cells ((only_agreed.least all_but_screen).1
           ((covers_all_but_screen needs).1 (sym found.screen ∙ e))),
-      λ same. found.screen ∙ (covers_all_but_screen needs).0 ((calm.least all_but_screen).0 same.0),
+      λ same. found.screen ∙ (covers_all_but_screen needs).0 ((only_agreed.least all_but_screen).0 same.0),
     )
 
     found_is_same : IsSame agreed z class content
@@ -131,14 +131,14 @@ module _ (agreed : Kind → Bool) (z : Size) (content : List ℕ) (needs : Start
           wrap = λ k. k;
         })
         (same_meet _ _
-        (same_with_part class.screen (λ k. record all_known { screen = k }) screen_found calm.same)
+        (same_with_part class.screen (λ k. record all_known { screen = k }) screen_found only_agreed.same)
         (same_meet _ _
-        (same_with_part class.cursor (λ k. record all_known { cursor = k }) found.cursor calm.same)
+        (same_with_part class.cursor (λ k. record all_known { cursor = k }) found.cursor only_agreed.same)
         (same_meet _ _
-        (same_with_part class.saved (λ k. record all_known { saved = k }) found.saved calm.same)
+        (same_with_part class.saved (λ k. record all_known { saved = k }) found.saved only_agreed.same)
         (same_meet _ _
-        (same_with_part class.colours (λ k. record all_known { colours = k }) found.colours calm.same)
-        (same_with_part class.wrap (λ k. record all_known { wrap = k }) found.wrap calm.same)))))
+        (same_with_part class.colours (λ k. record all_known { colours = k }) found.colours only_agreed.same)
+        (same_with_part class.wrap (λ k. record all_known { wrap = k }) found.wrap only_agreed.same)))))
 
     least_by_parts : IsLeastSame agreed z content class
     least_by_parts c = (
@@ -158,4 +158,5 @@ module _ (agreed : Kind → Bool) (z : Size) (content : List ℕ) (needs : Start
     )
 
 pub least_same_is_found : LeastSameIsFound
-least_same_is_found agreed z content needs class calm found = least_by_parts agreed z content needs calm class found
+least_same_is_found agreed z content needs class only_agreed found =
+    least_by_parts agreed z content needs only_agreed class found

@@ -16,8 +16,8 @@ use Rattle.ans_model.proofs.ClassLemmas.{covers_starts}
 use Rattle.ans_model.proofs.CleanLemmas.{some_blanks}
 use Rattle.ans_model.proofs.StartLemmas.{low_is_start}
 use Rattle.ans_model.proofs.TabLemmas.{final_then_blanks}
-use Rattle.ans_players.specs.declared.kind.Kind.{Kind}
-use Rattle.ans_players.specs.Grips.{Firm, firmly}
+use Rattle.ans_players.specs.declared.difference.Difference.{Difference}
+use Rattle.ans_players.specs.Sync.{InSync, synced}
 use Rattle.ans_players.specs.Situations.{Spelled, is_agreed, stand_of}
 use Rattle.ans_players.specs.Players.{StaysAbove}
 use Rattle.ans_players.specs.Classes.{AgreedMeet}
@@ -122,25 +122,25 @@ module _ (z : Size) (class : Start) (xs : List Spelled) (plays : PlaysWell z cla
   }
 
   -- what is agreed in the plays from two of them is agreed in that from the third, where its parts are theirs
-  pub agreed_of_two : (agreed : Kind → Bool) → IsBeside (firmly s) (firmly p) (firmly q) → (k : ℕ) (x : Spelled)
+  pub agreed_of_two : (agreed : Difference → Bool) → IsBeside (synced s) (synced p) (synced q) → (k : ℕ) (x : Spelled)
       → slice_get xs k ≡ Some x → IsTrue (is_agreed agreed z (stand_of z p (take k xs)) x)
       → IsTrue (is_agreed agreed z (stand_of z q (take k xs)) x)
       → IsTrue (is_agreed agreed z (stand_of z s (take k xs)) x)
   agreed_of_two agreed beside k x e from_p from_q =
       agreed_beside z agreed x (stand_of z s (take k xs)) _ _
-      (beside_along z xs (firmly s) (firmly p) (firmly q) beside together k x e) from_p from_q
+      (beside_along z xs (synced s) (synced p) (synced q) beside together k x e) from_p from_q
 
 -- ---- two classes
-pub firm_place : (c d e : Position) → IsOneOf Position c d e → IsOneOf Footing
-    (record { grip = Firm; cursor = c }) (record { grip = Firm; cursor = d }) (record { grip = Firm; cursor = e })
-firm_place c d e (inl f) = inl (ap (λ (v : Position). record { grip = Firm; cursor = v }) f)
-firm_place c d e (inr f) = inr (ap (λ (v : Position). record { grip = Firm; cursor = v }) f)
+pub place_in_sync : (c d e : Position) → IsOneOf Position c d e → IsOneOf Footing
+    (record { sync = InSync; cursor = c }) (record { sync = InSync; cursor = d }) (record { sync = InSync; cursor = e })
+place_in_sync c d e (inl f) = inl (ap (λ (v : Position). record { sync = InSync; cursor = v }) f)
+place_in_sync c d e (inr f) = inr (ap (λ (v : Position). record { sync = InSync; cursor = v }) f)
 
 -- a start with the parts known in both has each part from the one start or the other
 mixed_beside : (z : Size) (a b : Start) (s : State) → IsStart z (both_known a b) s
-    → IsBeside (firmly s) (firmly (start_with z a s)) (firmly (start_with z b s))
+    → IsBeside (synced s) (synced (start_with z a s)) (synced (start_with z b s))
 mixed_beside z a b s start = record {
-  place = firm_place _ _ _ (part_of_one Position a.cursor b.cursor (cleared z).cursor s.cursor start.cursor);
+  place = place_in_sync _ _ _ (part_of_one Position a.cursor b.cursor (cleared z).cursor s.cursor start.cursor);
   saved = part_of_one Position a.saved b.saved (cleared z).saved s.saved start.saved;
   attribute = part_of_one ℕ a.colours b.colours (cleared z).attribute s.attribute start.attribute;
   wrap = part_of_one Bool a.wrap b.wrap (cleared z).wrap s.wrap start.wrap;

@@ -11,9 +11,9 @@ use Rattle.ans_model.specs.declared.cell.Position.{Position}
 use Rattle.ans_model.specs.declared.start.Start.{Start}
 use Rattle.ans_model.proofs.BeginningLemmas.{home_is, reset}
 use Rattle.ans_model.proofs.StartLemmas.{low_is_start}
-use Rattle.ans_players.specs.declared.kind.Kind.{Kind}
-use Rattle.ans_players.specs.declared.kind.Kind.TheVariants.{SavePlaceOnly}
-use Rattle.ans_players.specs.Grips.{Firm, Adrift, Stand, firmly, is_home}
+use Rattle.ans_players.specs.declared.difference.Difference.{Difference}
+use Rattle.ans_players.specs.declared.difference.Difference.TheVariants.{SavePlaceOnly}
+use Rattle.ans_players.specs.Sync.{InSync, OutOfSync, Stand, synced, is_home}
 use Rattle.ans_players.specs.Mends.{sequence, mending_spelled}
 use Rattle.ans_players.specs.Names.{Names, unnamed}
 use Rattle.ans_players.specs.Situations.{AreAgreed, Spelled, is_agreed, stand_behind, stand_of}
@@ -27,13 +27,13 @@ all_named = record { foreground = λ e. refl; background = λ e. refl }
 
 -- a start behind the mending: both colours are named
 abbrev pub named : Size → Stand
-named z = record { grip = Firm; names = both; state = cleared z }
+named z = record { sync = InSync; names = both; state = cleared z }
 
 module _ (z : Size) (s : State) where
   -- with this attribute, and the cursor and the saved place here
   abbrev left : ℕ → Position → Stand
   left a p = record {
-    grip = if is_home p then Firm else Adrift SavePlaceOnly;
+    sync = if is_home p then InSync else OutOfSync SavePlaceOnly;
     names = both;
     state = record {
       screen = replicate (cell_count z) (blank_cell a);
@@ -48,14 +48,14 @@ module _ (z : Size) (s : State) where
   mending_leaves = ap₂ left (reset s.attribute) (home_is z)
 
 -- behind the mending no kind arises that does not arise from the cleared start
-pub agreed_named : (agreed : Kind → Bool) (z : Size) (xs : List Spelled) (k : ℕ) (x : Spelled)
+pub agreed_named : (agreed : Difference → Bool) (z : Size) (xs : List Spelled) (k : ℕ) (x : Spelled)
     → IsTrue (is_agreed agreed z (stand_of z (cleared z) (take k xs)) x)
     → IsTrue (is_agreed agreed z (fold (stand_behind z) (named z) (take k xs)) x)
 agreed_named agreed z xs k x all =
-    agreed_along_with_more agreed z unnamed both (firmly (cleared z)) xs k x all_named all
+    agreed_along_with_more agreed z unnamed both (synced (cleared z)) xs k x all_named all
 
 -- no kind arises in it, and behind it no others than from the cleared start
-pub agreed_behind : (agreed : Kind → Bool) (z : Size) (class : Start) (xs : List Spelled) → 0 < z.width
+pub agreed_behind : (agreed : Difference → Bool) (z : Size) (class : Start) (xs : List Spelled) → 0 < z.width
     → AreAgreed agreed z all_known xs → AreAgreed agreed z class (mending_spelled ++ xs)
 agreed_behind agreed z class xs w each s zero x start e =
     let same : x ≡ sequence (Wrap true) (codes "[?7h") = cc in rw same refl
@@ -73,7 +73,7 @@ agreed_behind agreed z class xs w each s (suc (suc (suc (suc (suc j))))) x start
     (sym (mending_leaves z s)) (agreed_named agreed z xs j x (each (cleared z) j x (low_is_start z all_known w) e))
 
 -- what arises in and behind it is the same from all starts
-pub mended_from_each : (agreed : Kind → Bool) (z : Size) (class other : Start) (xs : List Spelled) → 0 < z.width
+pub mended_from_each : (agreed : Difference → Bool) (z : Size) (class other : Start) (xs : List Spelled) → 0 < z.width
     → AreAgreed agreed z class (mending_spelled ++ xs) → AreAgreed agreed z other (mending_spelled ++ xs)
 mended_from_each agreed z class other xs w each s k x start e = go k e
   where

@@ -4,9 +4,9 @@ use Rattle.std.specs.Prelude.{IsTrue, not, ◌&&◌, ◌==◌, if◌then◌else�
 use Rattle.std.specs.List.{list_all}
 use Rattle.ans_model.specs.Sequence.TokenKind.{TokenKind, Colours}
 use Rattle.ans_model.specs.Screen.State.{Size}
-use Rattle.ans_players.specs.declared.kind.Kind.{Kind}
-use Rattle.ans_players.specs.declared.kind.Kind.TheVariants.{OwnColours}
-use Rattle.ans_players.specs.Grips.{Stand}
+use Rattle.ans_players.specs.declared.difference.Difference.{Difference}
+use Rattle.ans_players.specs.declared.difference.Difference.TheVariants.{OwnColours}
+use Rattle.ans_players.specs.Sync.{Stand}
 use Rattle.ans_players.specs.Names.{Names, unnamed, is_within, names_behind, names_after, paints}
 use Rattle.ans_players.specs.Situations.{Spelled, is_agreed, kind_if, stand_behind}
 use Rattle.ans_players.proofs.OneOfTwo.{parts_agreed, from_parts}
@@ -56,7 +56,7 @@ stands_with z [] n h = refl
 stands_with z (x ∷ xs) n h = stands_with z xs (names_after n x.token) (stand_behind z h x)
 
 -- ---- what is agreed
-module _ (agreed : Kind → Bool) where
+module _ (agreed : Difference → Bool) where
   fewer_kinds : (p a b c d : Bool) → (a ≡ true → c ≡ true) → (b ≡ true → d ≡ true)
       → IsTrue (list_all agreed (kind_if (p && not (a && b)) OwnColours))
       → IsTrue (list_all agreed (kind_if (p && not (c && d)) OwnColours))
@@ -75,7 +75,7 @@ module _ (agreed : Kind → Bool) where
     agreed_with_more n m h x more all =
         let parts = parts_agreed z agreed (with_names n h) x all in
         from_parts z agreed (with_names m h) x (record {
-          grip = parts.grip;
+          sync = parts.sync;
           token = parts.token;
           spelling = parts.spelling;
           named = fewer_kinds (paints x.token) n.foreground n.background m.foreground m.background more.foreground

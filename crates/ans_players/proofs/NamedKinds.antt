@@ -8,18 +8,19 @@ use Rattle.ans_model.specs.Screen.State.{Size, State}
 use Rattle.ans_model.specs.Screen.StartClass.{cleared, all_known}
 use Rattle.ans_model.proofs.OneCause.{is_cleared}
 use Rattle.ans_model.proofs.StartLemmas.{low_is_start}
-use Rattle.ans_players.specs.declared.kind.Kind.{Kind}
-use Rattle.ans_players.specs.declared.kind.Kind.TheVariants.{WrapAtOnce, LineEnds, HomeOnClear, ClearInColour}
-use Rattle.ans_players.specs.declared.kind.Kind.TheVariants.{SavePlaceOnly, DosColours}
-use Rattle.ans_players.specs.declared.kind.Kind.TheVariants.{TabPrints, LineErased, WrapOff, StopsAtEdge}
-use Rattle.ans_players.specs.declared.kind.Kind.TheVariants.{PageControls, TerminalControls, OwnColours}
-use Rattle.ans_players.specs.Grips.{Stand, firmly}
+use Rattle.ans_players.specs.declared.difference.Difference.{Difference}
+use Rattle.ans_players.specs.declared.difference.Difference.TheVariants.{WrapAtOnce, LineEnds, HomeOnClear}
+use Rattle.ans_players.specs.declared.difference.Difference.TheVariants.{ClearInColour}
+use Rattle.ans_players.specs.declared.difference.Difference.TheVariants.{SavePlaceOnly, DosColours}
+use Rattle.ans_players.specs.declared.difference.Difference.TheVariants.{TabPrints, LineErased, WrapOff, StopsAtEdge}
+use Rattle.ans_players.specs.declared.difference.Difference.TheVariants.{PageControls, TerminalControls, OwnColours}
+use Rattle.ans_players.specs.Sync.{Stand, synced}
 use Rattle.ans_players.specs.Situations.{Spelled, situations, is_agreed, spelled, stand_behind, stand_of, AreAgreed}
 use Rattle.ans_players.specs.Kinds.{all_kinds, is_kind, kind_number}
 use Rattle.ans_players.specs.Named.{arises, times, NamedAreLeast}
 
 -- kinds of one number are one
-at_number : (kind : Kind) → slice_get all_kinds (kind_number kind) ≡ Some kind
+at_number : (kind : Difference) → slice_get all_kinds (kind_number kind) ≡ Some kind
 at_number WrapAtOnce = refl
 at_number LineEnds = refl
 at_number HomeOnClear = refl
@@ -34,16 +35,17 @@ at_number PageControls = refl
 at_number TerminalControls = refl
 at_number OwnColours = refl
 
-pub same_kind : (k l : Kind) → kind_number k ≡ kind_number l → k ≡ l
+pub same_kind : (k l : Difference) → kind_number k ≡ kind_number l → k ≡ l
 same_kind k l e =
     let same : Some k ≡ Some l = sym (at_number k) ∙ ap (λ (n : ℕ). slice_get all_kinds n) e ∙ at_number l in cc
 
 abbrev one_if : Bool → ℕ
 one_if b = if b then 1 else 0
 
-module _ (agreed : Kind → Bool) (kind : Kind) where
+module _ (agreed : Difference → Bool) (kind : Difference) where
   -- a kind of an agreed list is agreed
-  member : (ks : List Kind) → IsTrue (list_all agreed ks) → IsTrue (list_any (is_kind kind) ks) → IsTrue (agreed kind)
+  member : (ks : List Difference) → IsTrue (list_all agreed ks) → IsTrue (list_any (is_kind kind) ks)
+      → IsTrue (agreed kind)
   member [] all any = absurd (let no : false ≡ true = any in let none : ⊥ = cc in none)
   member (k ∷ ks) all any = elim (cases_Bool (is_kind kind k)) [
     | inl is ↦ ap agreed (same_kind kind k (eqb-true _ _ is)) ∙ (and_parts _ _ all).0
@@ -77,26 +79,26 @@ module _ (agreed : Kind → Bool) (kind : Kind) where
     counted (y ∷ ys) h (suc k) x e there =
         let rest = counted ys (stand_behind z h y) k x e there in omega (arith, rest)
 
-module _ (agreed : Kind → Bool) where
-  all_from_each : (ks : List Kind)
-      → ((kind : Kind) → IsTrue (list_any (is_kind kind) ks) → IsTrue (agreed kind))
+module _ (agreed : Difference → Bool) where
+  all_from_each : (ks : List Difference)
+      → ((kind : Difference) → IsTrue (list_any (is_kind kind) ks) → IsTrue (agreed kind))
       → IsTrue (list_all agreed ks)
   all_from_each [] each = refl
   all_from_each (k ∷ ks) each =
       and_from _ _ (each k (or_left _ _ (eq-eqb (kind_number k) (kind_number k) refl)))
       (all_from_each ks (λ kind any. each kind (or_right _ _ any)))
 
-module _ (z : Size) (agreed : Kind → Bool) (xs : List Spelled) (w : 0 < z.width) where
-  pub each_is_agreed : AreAgreed agreed z all_known xs → (kind : Kind) → 0 < times kind z (firmly (cleared z)) xs
+module _ (z : Size) (agreed : Difference → Bool) (xs : List Spelled) (w : 0 < z.width) where
+  pub each_is_agreed : AreAgreed agreed z all_known xs → (kind : Difference) → 0 < times kind z (synced (cleared z)) xs
       → IsTrue (agreed kind)
-  each_is_agreed each kind some = agreed_kind agreed kind z xs (firmly (cleared z))
+  each_is_agreed each kind some = agreed_kind agreed kind z xs (synced (cleared z))
       (λ k x e. each (cleared z) k x (low_is_start z all_known w) e) some
 
-  pub all_are_agreed : ((kind : Kind) → 0 < times kind z (firmly (cleared z)) xs → IsTrue (agreed kind))
+  pub all_are_agreed : ((kind : Difference) → 0 < times kind z (synced (cleared z)) xs → IsTrue (agreed kind))
       → AreAgreed agreed z all_known xs
   all_are_agreed each s k x start e =
       all_from_each agreed (situations z (stand_of z s (take k xs)) x)
-      (λ kind any. each kind (counted agreed kind z xs (firmly (cleared z)) k x e
+      (λ kind any. each kind (counted agreed kind z xs (synced (cleared z)) k x e
       (subst (λ (v : State). IsTrue (arises kind z (stand_of z v (take k xs)) x))
       (is_cleared z s start) any)))
 

@@ -9,22 +9,22 @@ use Rattle.ans_model.specs.Sequence.TokenKind.{TokenKind, Glyph, Tab, Down}
 use Rattle.ans_model.specs.Sequence.TokenKind.{Forward, Clear, EraseLine, Save, Restore, Colours, Wrap}
 use Rattle.ans_model.specs.Screen.State.{Size}
 use Rattle.ans_model.specs.declared.cell.Position.{Position}
-use Rattle.ans_players.specs.declared.kind.Kind.{Kind}
-use Rattle.ans_players.specs.Grips.{Grip, Stand, stand_after, is_held, loose_kinds}
+use Rattle.ans_players.specs.declared.difference.Difference.{Difference}
+use Rattle.ans_players.specs.Sync.{Sync, Stand, stand_after, is_same_for_all, unsure_kinds}
 use Rattle.ans_players.specs.Names.{Names, names_after}
 use Rattle.ans_players.specs.Situations.{Spelled, is_agreed, token_kinds, spelling_kinds, own_kinds, name_kinds}
 use Rattle.ans_players.specs.Situations.{stand_behind}
 use Rattle.ans_players.specs.Players.{StaysAbove}
 use Rattle.ans_players.proofs.Afters.{next, cursor_after, saved_after, attribute_after_token, wrap_after}
-use Rattle.ans_players.proofs.Afters.{grip_of, parts_after, grip_is}
+use Rattle.ans_players.proofs.Afters.{sync_of, parts_after, sync_is}
 
--- where a play stands, and how firmly
+-- where a play stands, and in which sync
 pub record Footing : Type 0 where
-  pub grip : Grip
+  pub sync : Sync
   pub cursor : Position
 
 abbrev pub place_of : Stand → Footing
-place_of h = record { grip = h.grip; cursor = h.state.cursor }
+place_of h = record { sync = h.sync; cursor = h.state.cursor }
 
 -- one of two
 abbrev pub IsOneOf : (X : Type 0) → X → X → X → Type 0
@@ -55,16 +55,16 @@ module _ (z : Size) where
   -- where a token leads
   abbrev leads : TokenKind → Footing → Position → Bool → Footing
   leads t w saved wrap =
-      record { grip = grip_of z t w.grip w.cursor wrap; cursor = cursor_after z t w.cursor saved wrap }
+      record { sync = sync_of z t w.sync w.cursor wrap; cursor = cursor_after z t w.cursor saved wrap }
 
-  same_place : (g g' : Grip) (c c' : Position) → g ≡ g' → c ≡ c'
-      → ◌≡◌ {A = Footing} (record { grip = g; cursor = c }) (record { grip = g'; cursor = c' })
-  same_place g g' c c' e f = ap₂ (λ (x : Grip) (y : Position). record { grip = x; cursor = y }) e f
+  same_place : (g g' : Sync) (c c' : Position) → g ≡ g' → c ≡ c'
+      → ◌≡◌ {A = Footing} (record { sync = g; cursor = c }) (record { sync = g'; cursor = c' })
+  same_place g g' c c' e f = ap₂ (λ (x : Sync) (y : Position). record { sync = x; cursor = y }) e f
 
   place_is : (h : Stand) (t : TokenKind) → StaysAbove z h.state t
       → place_of (stand_after z h t) ≡ leads t (place_of h) h.state.saved h.state.wrap
   place_is h t above =
-      same_place _ _ _ _ (grip_is z h.grip h.state t above) (parts_after z h.state t above).cursor
+      same_place _ _ _ _ (sync_is z h.sync h.state t above) (parts_after z h.state t above).cursor
 
   -- a printed byte leads from one place
   print_leads : (t : TokenKind) (F : Position → Bool → Footing) (h p q : Stand)
@@ -82,13 +82,13 @@ module _ (z : Size) where
       → IsOneOf Footing (leads t (place_of h) h.state.saved h.state.wrap)
       (leads t (place_of p) p.state.saved p.state.wrap) (leads t (place_of q) q.state.saved q.state.wrap)
   leads_beside (Glyph byte) h p q one beside =
-      print_leads (Glyph byte) (λ c w. record { grip = grip_of z (Glyph byte) h.grip c w; cursor = next z w c })
+      print_leads (Glyph byte) (λ c w. record { sync = sync_of z (Glyph byte) h.sync c w; cursor = next z w c })
       h p q one beside
   leads_beside Tab h p q one beside =
-      print_leads Tab (λ c w. record { grip = grip_of z Tab h.grip c w; cursor = cursor_after z Tab c c w })
+      print_leads Tab (λ c w. record { sync = sync_of z Tab h.sync c w; cursor = cursor_after z Tab c c w })
       h p q one beside
   leads_beside Restore h p q one beside =
-      one_of Position Footing (λ v. record { grip = grip_of z Restore h.grip v true; cursor = v })
+      one_of Position Footing (λ v. record { sync = sync_of z Restore h.sync v true; cursor = v })
       h.state.saved p.state.saved q.state.saved beside.saved
   leads_beside t h p q one beside =
       one_of Footing Footing (λ w. leads t w h.state.saved h.state.wrap) (place_of h) (place_of p) (place_of q)
@@ -131,35 +131,35 @@ module _ (z : Size) where
   both_so X test x p q (inl e) yes_p yes_q = ap test e ∙ yes_p
   both_so X test x p q (inr e) yes_p yes_q = ap test e ∙ yes_q
 
-  abbrev pub grip_kinds : Grip → TokenKind → List Kind
-  grip_kinds g t = if is_held g t then [] else loose_kinds g
+  abbrev pub sync_kinds : Sync → TokenKind → List Difference
+  sync_kinds g t = if is_same_for_all g t then [] else unsure_kinds g
 
-  pub record PartsAgreed (agreed : Kind → Bool) (h : Stand) (x : Spelled) : Type 0 where
-    pub grip : IsTrue (list_all agreed (grip_kinds h.grip x.token))
+  pub record PartsAgreed (agreed : Difference → Bool) (h : Stand) (x : Spelled) : Type 0 where
+    pub sync : IsTrue (list_all agreed (sync_kinds h.sync x.token))
     pub token : IsTrue (list_all agreed (token_kinds z h.state x.token))
     pub spelling : IsTrue (list_all agreed (spelling_kinds h.state x.token x.text))
     pub named : IsTrue (list_all agreed (name_kinds h.names x.token))
 
-  pub parts_agreed : (agreed : Kind → Bool) (h : Stand) (x : Spelled) → IsTrue (is_agreed agreed z h x)
+  pub parts_agreed : (agreed : Difference → Bool) (h : Stand) (x : Spelled) → IsTrue (is_agreed agreed z h x)
       → PartsAgreed agreed h x
   parts_agreed agreed h x agrees =
-      let all = and_parts _ _ (sym (list_all-append agreed (grip_kinds h.grip x.token)
+      let all = and_parts _ _ (sym (list_all-append agreed (sync_kinds h.sync x.token)
       (own_kinds z h.state x ++ name_kinds h.names x.token)) ∙ agrees) in
       let own = and_parts _ _ (sym (list_all-append agreed (own_kinds z h.state x)
       (name_kinds h.names x.token)) ∙ all.1) in
       let others = and_parts _ _ (sym (list_all-append agreed (token_kinds z h.state x.token)
       (spelling_kinds h.state x.token x.text)) ∙ own.0) in
-      record { grip = all.0; token = others.0; spelling = others.1; named = own.1 }
+      record { sync = all.0; token = others.0; spelling = others.1; named = own.1 }
 
-  pub from_parts : (agreed : Kind → Bool) (h : Stand) (x : Spelled) → PartsAgreed agreed h x
+  pub from_parts : (agreed : Difference → Bool) (h : Stand) (x : Spelled) → PartsAgreed agreed h x
       → IsTrue (is_agreed agreed z h x)
   from_parts agreed h x parts =
-      list_all-append agreed (grip_kinds h.grip x.token) (own_kinds z h.state x ++ name_kinds h.names x.token)
-      ∙ and_from _ _ parts.grip (list_all-append agreed (own_kinds z h.state x) (name_kinds h.names x.token)
+      list_all-append agreed (sync_kinds h.sync x.token) (own_kinds z h.state x ++ name_kinds h.names x.token)
+      ∙ and_from _ _ parts.sync (list_all-append agreed (own_kinds z h.state x) (name_kinds h.names x.token)
       ∙ and_from _ _ (list_all-append agreed (token_kinds z h.state x.token)
       (spelling_kinds h.state x.token x.text) ∙ and_from _ _ parts.token parts.spelling) parts.named)
 
-  spelling_agreed : (agreed : Kind → Bool) (t : TokenKind) (text : List ℕ) (h p q : Stand) → IsBeside h p q
+  spelling_agreed : (agreed : Difference → Bool) (t : TokenKind) (text : List ℕ) (h p q : Stand) → IsBeside h p q
       → IsTrue (list_all agreed (spelling_kinds p.state t text))
       → IsTrue (list_all agreed (spelling_kinds q.state t text))
       → IsTrue (list_all agreed (spelling_kinds h.state t text))
@@ -168,7 +168,7 @@ module _ (z : Size) where
       h.state.attribute p.state.attribute q.state.attribute beside.attribute yes_p yes_q
   spelling_agreed agreed t text h p q beside yes_p yes_q = yes_p
 
-  token_agreed : (agreed : Kind → Bool) (t : TokenKind) (h p q : Stand) → IsBeside h p q
+  token_agreed : (agreed : Difference → Bool) (t : TokenKind) (h p q : Stand) → IsBeside h p q
       → IsTrue (list_all agreed (token_kinds z p.state t)) → IsTrue (list_all agreed (token_kinds z q.state t))
       → IsTrue (list_all agreed (token_kinds z h.state t))
   token_agreed agreed (Forward n) h p q beside yes_p yes_q =
@@ -185,14 +185,14 @@ module _ (z : Size) where
       h.state.attribute p.state.attribute q.state.attribute beside.attribute yes_p yes_q
   token_agreed agreed t h p q beside yes_p yes_q = yes_p
 
-  pub agreed_beside : (agreed : Kind → Bool) (x : Spelled) (h p q : Stand) → IsBeside h p q
+  pub agreed_beside : (agreed : Difference → Bool) (x : Spelled) (h p q : Stand) → IsBeside h p q
       → IsTrue (is_agreed agreed z p x) → IsTrue (is_agreed agreed z q x) → IsTrue (is_agreed agreed z h x)
   agreed_beside agreed x h p q beside yes_p yes_q =
       let of_p = parts_agreed agreed p x yes_p in
       let of_q = parts_agreed agreed q x yes_q in
       from_parts agreed h x (record {
-        grip = both_so Footing (λ w. list_all agreed (grip_kinds w.grip x.token)) (place_of h) (place_of p)
-            (place_of q) beside.place of_p.grip of_q.grip;
+        sync = both_so Footing (λ w. list_all agreed (sync_kinds w.sync x.token)) (place_of h) (place_of p)
+            (place_of q) beside.place of_p.sync of_q.sync;
         token = token_agreed agreed x.token h p q beside of_p.token of_q.token;
         spelling = spelling_agreed agreed x.token x.text h p q beside of_p.spelling of_q.spelling;
         named = ap (λ (n : Names). list_all agreed (name_kinds n x.token)) beside.names ∙ of_p.named;

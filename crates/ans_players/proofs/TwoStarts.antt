@@ -12,15 +12,15 @@ use Rattle.ans_model.specs.declared.cell.Position.{Position}
 use Rattle.ans_model.specs.declared.start.Start.{Start}
 use Rattle.ans_model.specs.Verdict.Good.{IsGood, PlaysWell}
 use Rattle.ans_model.proofs.StartLemmas.{low_is_start, high_is_start}
-use Rattle.ans_players.specs.declared.kind.Kind.{Kind}
+use Rattle.ans_players.specs.declared.difference.Difference.{Difference}
 use Rattle.ans_players.specs.Classes.{IsAgreedFrom, AgreedFromTwo, TwoStartsTell, SameByTwoStarts}
-use Rattle.ans_players.specs.Grips.{Stand, firmly}
+use Rattle.ans_players.specs.Sync.{Stand, synced}
 use Rattle.ans_players.specs.Players.{StaysAbove}
 use Rattle.ans_players.specs.Situations.{Spelled, AreAgreed, spelled, stand_behind, stand_of}
 use Rattle.ans_players.proofs.Afters.{parts_after}
 use Rattle.ans_players.proofs.Along.{above_at, kinds_of, kind_at}
 use Rattle.ans_players.proofs.LeastSame.{agreed_is, plays_of, same_is}
-use Rattle.ans_players.proofs.Meets.{agreed_of_two, firm_place, prints_at_one}
+use Rattle.ans_players.proofs.Meets.{agreed_of_two, place_in_sync, prints_at_one}
 use Rattle.ans_players.proofs.Under.{HasBitsBelow, IsBelow, IsPrintedAtOne, IsUnder, agreed_under, token_bits}
 use Rattle.ans_players.proofs.Under.{under_after}
 
@@ -101,7 +101,7 @@ module _ (z : Size) (class : Start) (xs : List Spelled) (w : 0 < z.width) (plays
   start_high : IsStart z class high
   start_high = high_is_start z class w
 
-  at_first : class.wrap ≡ true → IsBetween z (firmly low) (firmly s) (firmly high)
+  at_first : class.wrap ≡ true → IsBetween z (synced low) (synced s) (synced high)
   at_first known = record {
     low = bits_above_low class.colours s.attribute start.attribute;
     high = record {
@@ -109,7 +109,7 @@ module _ (z : Size) (class : Start) (xs : List Spelled) (w : 0 < z.width) (plays
       saved = below_high z class.saved s.saved start.saved start.well_formed.fits.saved;
       attribute = bits_below_high class.colours s.attribute start.attribute start.well_formed.attribute;
       wrap = start.wrap known ∙ sym (on_in_both class.wrap);
-      grip = inl refl;
+      sync = inl refl;
       names = refl;
     };
   }
@@ -123,7 +123,7 @@ module _ (z : Size) (class : Start) (xs : List Spelled) (w : 0 < z.width) (plays
 
   between_at : class.wrap ≡ true → (k : ℕ) (x : Spelled) → slice_get xs k ≡ Some x
       → IsBetween z (stand_of z low (take k xs)) (stand_of z s (take k xs)) (stand_of z high (take k xs))
-  between_at known = between_along z xs (firmly low) (firmly s) (firmly high) (at_first known) (λ k x e. record {
+  between_at known = between_along z xs (synced low) (synced s) (synced high) (at_first known) (λ k x e. record {
     above_low = above_at z class xs plays low start_low k x e;
     above = above_at z class xs plays s start k x e;
     above_high = above_at z class xs plays high start_high k x e;
@@ -131,13 +131,13 @@ module _ (z : Size) (class : Start) (xs : List Spelled) (w : 0 < z.width) (plays
   })
 
 -- a start of which all is known but wrap is the low or the high one
-wrap_alone : (agreed : Kind → Bool) (z : Size) (xs : List Spelled) → 0 < z.width
+wrap_alone : (agreed : Difference → Bool) (z : Size) (xs : List Spelled) → 0 < z.width
     → PlaysWell z all_but_wrap (kinds_of xs) → IsAgreedFrom agreed z (low_start z all_but_wrap) xs
     → IsAgreedFrom agreed z (high_start z all_but_wrap) xs → AreAgreed agreed z all_but_wrap xs
 wrap_alone agreed z xs w plays from_low from_high s k x start e =
     agreed_of_two z all_but_wrap xs plays s (low_start z all_but_wrap) (high_start z all_but_wrap) start
     (low_is_start z all_but_wrap w) (high_is_start z all_but_wrap w) agreed (record {
-      place = firm_place _ _ _ (inl (start.cursor refl));
+      place = place_in_sync _ _ _ (inl (start.cursor refl));
       saved = inl (start.saved refl);
       attribute = inl (start.attribute refl);
       wrap = off_or_on s.wrap;
@@ -161,9 +161,9 @@ two_starts_tell agreed z class xs w (inr is) plays from s k x start e =
     wrap_alone agreed z xs w (subst (λ (c : Start). PlaysWell z c (kinds_of xs)) is plays) low high s k x
     (subst (λ (c : Start). IsStart z c s) is start) e
 
--- ---- calm content
+-- ---- content in which only agreed kinds arise
 -- what is agreed from every start is so from the low and the high one
-from_two : (agreed : Kind → Bool) (z : Size) (class : Start) (xs : List Spelled) → 0 < z.width
+from_two : (agreed : Difference → Bool) (z : Size) (class : Start) (xs : List Spelled) → 0 < z.width
     → AreAgreed agreed z class xs → AgreedFromTwo agreed z class xs
 from_two agreed z class xs w each = (
   λ k x e. each (low_start z class) k x (low_is_start z class w) e,
@@ -171,15 +171,15 @@ from_two agreed z class xs w each = (
 )
 
 pub same_by_two_starts : SameByTwoStarts
-same_by_two_starts agreed z content needs class calm told =
-    let w : 0 < z.width = calm.same.0.1.size.some_columns in
-    let xs : List Spelled = spelled calm.same.0.1.tokens calm.same.0.1.reads.0 in (
+same_by_two_starts agreed z content needs class only_agreed told =
+    let w : 0 < z.width = only_agreed.same.0.1.size.some_columns in
+    let xs : List Spelled = spelled only_agreed.same.0.1.tokens only_agreed.same.0.1.reads.0 in (
       λ same. (
-        (calm.least class).0 same.0,
-        from_two agreed z class xs w (agreed_is agreed z content needs calm class same),
+        (only_agreed.least class).0 same.0,
+        from_two agreed z class xs w (agreed_is agreed z content needs only_agreed class same),
       ),
       λ both.
-          let good : IsGood z class content = (calm.least class).1 both.0 in
-          same_is agreed z content needs calm class good (two_starts_tell agreed z class xs w told
-          (plays_of agreed z content needs calm class good) both.1),
+          let good : IsGood z class content = (only_agreed.least class).1 both.0 in
+          same_is agreed z content needs only_agreed class good (two_starts_tell agreed z class xs w told
+          (plays_of agreed z content needs only_agreed class good) both.1),
     )

@@ -1,4 +1,4 @@
--- A play under another: no part of it is greater, and it stands as firmly at least.
+-- A play under another: no part of it is greater, and its sync is as sure at least.
 use Rattle.std.proofs.Common.{◌≡◌, ◌⊎◌, inl, inr, ℕ, ◌+◌, ◌≤◌, Bool, true, false, refl, ap, ◌∙◌}
 use Rattle.std.proofs.Common.{sym, subst, List, [], ◌∷◌, Some, None, Option, arith}
 use Rattle.std.proofs.lemmas.Bool.{and_parts, and_from, cases_Bool, eqb-true, eq-eqb, lt-ltb, ltb-false, le-ltb}
@@ -15,19 +15,20 @@ use Rattle.ans_model.specs.Screen.Attribute.{rendition_of}
 use Rattle.ans_model.specs.Screen.Attribute.{renditions}
 use Rattle.ans_model.specs.Screen.State.{Size}
 use Rattle.ans_model.specs.declared.cell.Position.{Position}
-use Rattle.ans_players.specs.declared.kind.Kind.{Kind}
-use Rattle.ans_players.specs.declared.kind.Kind.TheVariants.{HomeOnClear, SavePlaceOnly, ClearInColour, DosColours}
-use Rattle.ans_players.specs.declared.kind.Kind.TheVariants.{StopsAtEdge}
-use Rattle.ans_players.specs.Grips.{Grip, Firm, BehindFeed, BehindReturn, Adrift, Stand, stand_after, is_held}
-use Rattle.ans_players.specs.Grips.{is_home}
+use Rattle.ans_players.specs.declared.difference.Difference.{Difference}
+use Rattle.ans_players.specs.declared.difference.Difference.TheVariants.{HomeOnClear, SavePlaceOnly, ClearInColour}
+use Rattle.ans_players.specs.declared.difference.Difference.TheVariants.{DosColours}
+use Rattle.ans_players.specs.declared.difference.Difference.TheVariants.{StopsAtEdge}
+use Rattle.ans_players.specs.Sync.{Sync, InSync, AfterFeed, AfterReturn, OutOfSync, Stand, stand_after, is_same_for_all}
+use Rattle.ans_players.specs.Sync.{is_home}
 use Rattle.ans_players.specs.Players.{StaysAbove}
 use Rattle.ans_players.specs.Names.{Names, names_after}
 use Rattle.ans_model.specs.Sequence.Omitted.{omits}
 use Rattle.ans_players.specs.Situations.{Spelled, is_agreed, is_grey, kind_if, name_kinds, spelling_kinds}
 use Rattle.ans_players.specs.Situations.{token_kinds}
-use Rattle.ans_players.proofs.Afters.{cursor_after, saved_after, attribute_after_token, wrap_after, grip_of}
-use Rattle.ans_players.proofs.Afters.{grip_behind_return, next, parts_after, grip_is}
-use Rattle.ans_players.proofs.OneOfTwo.{grip_kinds, parts_agreed, from_parts}
+use Rattle.ans_players.proofs.Afters.{cursor_after, saved_after, attribute_after_token, wrap_after, sync_of}
+use Rattle.ans_players.proofs.Afters.{sync_after_return, next, parts_after, sync_is}
+use Rattle.ans_players.proofs.OneOfTwo.{sync_kinds, parts_agreed, from_parts}
 
 -- ---- the parts
 -- no row or column is greater
@@ -41,22 +42,22 @@ below_itself p q e = subst (λ (v : Position). IsBelow p v) e (omega arith, omeg
 abbrev pub HasBitsBelow : ℕ → ℕ → Type 0
 HasBitsBelow a b = (i : ℕ) → bit_at a i ≤ bit_at b i
 
--- a grip behind a line end that is not held by all
-abbrev IsLineEnd : Grip → Type 0
-IsLineEnd BehindFeed = Unit {0}
-IsLineEnd BehindReturn = Unit {0}
+-- the sync after a line end at which not all do the same
+abbrev IsLineEnd : Sync → Type 0
+IsLineEnd AfterFeed = Unit {0}
+IsLineEnd AfterReturn = Unit {0}
 IsLineEnd g = ⊥
 
--- the same grip, or firm; and then in the first column where the other is behind a line end
-abbrev pub IsFirmer : Grip → ℕ → Grip → Type 0
-IsFirmer g column k = (g ≡ k) ⊎ ((g ≡ Firm) × (IsLineEnd k → column ≡ 0))
+-- the same sync, or in sync; and then in the first column where the other is behind a line end
+abbrev pub IsSurer : Sync → ℕ → Sync → Type 0
+IsSurer g column k = (g ≡ k) ⊎ ((g ≡ InSync) × (IsLineEnd k → column ≡ 0))
 
 pub record IsUnder (h k : Stand) : Type 0 where
   pub cursor : IsBelow h.state.cursor k.state.cursor
   pub saved : IsBelow h.state.saved k.state.saved
   pub attribute : HasBitsBelow h.state.attribute k.state.attribute
   pub wrap : h.state.wrap ≡ k.state.wrap
-  pub grip : IsFirmer h.grip h.state.cursor.column k.grip
+  pub sync : IsSurer h.sync h.state.cursor.column k.sync
   pub names : h.names ≡ k.names
 
 -- what is printed is printed at one place
@@ -90,16 +91,16 @@ module _ (z : Size) where
   saved_below Save p q saved other b there = b
   saved_below t p q saved other b there = there
 
-  -- ---- grips
+  -- ---- sync
   -- a test of the first column
-  by_column : (g : Grip) (p q : Position) (column : ℕ) → IsBelow p q → ((p.column == 0) ≡ true → column ≡ 0)
-      → IsFirmer (if p.column == 0 then Firm else g) column (if q.column == 0 then Firm else g)
+  by_column : (g : Sync) (p q : Position) (column : ℕ) → IsBelow p q → ((p.column == 0) ≡ true → column ≡ 0)
+      → IsSurer (if p.column == 0 then InSync else g) column (if q.column == 0 then InSync else g)
   by_column g p q column b first = go (p.column == 0) refl
     where
       go : (c : Bool) → (p.column == 0) ≡ c
-          → IsFirmer (if c then Firm else g) column (if q.column == 0 then Firm else g)
+          → IsSurer (if c then InSync else g) column (if q.column == 0 then InSync else g)
       go true e = inr (refl, λ line_end. first e)
-      go false e = inl (sym (ap (λ (d : Bool). if d then Firm else g) (not_first e)))
+      go false e = inl (sym (ap (λ (d : Bool). if d then InSync else g) (not_first e)))
         where
           not_first : (p.column == 0) ≡ false → (q.column == 0) ≡ false
           not_first e = elim (cases_Bool (q.column == 0)) [
@@ -117,18 +118,18 @@ module _ (z : Size) where
       and_from _ _ (eq-eqb p.row 0 (omega (arith, b.0, eqb-true q.row 0 parts.0)))
       (eq-eqb p.column 0 (omega (arith, b.1, eqb-true q.column 0 parts.1)))
 
-  no_line_end : (b : Bool) (kind : Kind) → IsLineEnd (if b then Firm else Adrift kind) → ⊥
+  no_line_end : (b : Bool) (kind : Difference) → IsLineEnd (if b then InSync else OutOfSync kind) → ⊥
   no_line_end true kind h = h
   no_line_end false kind h = h
 
-  by_home : (kind : Kind) (p q : Position) (column : ℕ) → IsBelow p q
-      → IsFirmer (if is_home p then Firm else Adrift kind) column (if is_home q then Firm else Adrift kind)
+  by_home : (kind : Difference) (p q : Position) (column : ℕ) → IsBelow p q
+      → IsSurer (if is_home p then InSync else OutOfSync kind) column (if is_home q then InSync else OutOfSync kind)
   by_home kind p q column b = elim (cases_Bool (is_home p)) [
     | inl home ↦ inr (
-      ap (λ (d : Bool). if d then Firm else Adrift kind) home,
+      ap (λ (d : Bool). if d then InSync else OutOfSync kind) home,
       λ line_end. absurd (no_line_end (is_home q) kind line_end),
     )
-    | inr away ↦ inl (ap (λ (d : Bool). if d then Firm else Adrift kind) (away ∙ sym (away_too away)))
+    | inr away ↦ inl (ap (λ (d : Bool). if d then InSync else OutOfSync kind) (away ∙ sym (away_too away)))
   ]
     where
       away_too : is_home p ≡ false → is_home q ≡ false
@@ -138,39 +139,40 @@ module _ (z : Size) where
       ]
 
   -- behind a return
-  return_firmer : (g k : Grip) (p q : Position) → IsBelow p q → IsFirmer g p.column k
-      → IsFirmer (grip_behind_return g p) 0 (grip_behind_return k q)
-  return_firmer g k p q b (inl e) = subst (λ (v : Grip). IsFirmer (grip_behind_return v p) 0 (grip_behind_return k q))
+  return_surer : (g k : Sync) (p q : Position) → IsBelow p q → IsSurer g p.column k
+      → IsSurer (sync_after_return g p) 0 (sync_after_return k q)
+  return_surer g k p q b (inl e) = subst (λ (v : Sync). IsSurer (sync_after_return v p) 0 (sync_after_return k q))
       (sym e) (same k)
     where
-      same : (v : Grip) → IsFirmer (grip_behind_return v p) 0 (grip_behind_return v q)
-      same BehindFeed = inl refl
-      same BehindReturn = inl refl
-      same v = by_column BehindReturn p q 0 b (λ e. refl)
-  return_firmer g k p q b (inr h) = subst (λ (v : Grip). IsFirmer (grip_behind_return v p) 0 (grip_behind_return k q))
-      (sym h.0) (firm k h.1)
+      same : (v : Sync) → IsSurer (sync_after_return v p) 0 (sync_after_return v q)
+      same AfterFeed = inl refl
+      same AfterReturn = inl refl
+      same v = by_column AfterReturn p q 0 b (λ e. refl)
+  return_surer g k p q b (inr h) = subst (λ (v : Sync). IsSurer (sync_after_return v p) 0 (sync_after_return k q))
+      (sym h.0) (in_sync k h.1)
     where
-      firm : (v : Grip) → (IsLineEnd v → p.column ≡ 0)
-          → IsFirmer (grip_behind_return Firm p) 0 (grip_behind_return v q)
-      firm BehindFeed first = inl (ap (λ (d : Bool). if d then Firm else BehindReturn) (eq-eqb p.column 0 (first tt)))
-      firm BehindReturn first =
-          inr (ap (λ (d : Bool). if d then Firm else BehindReturn) (eq-eqb p.column 0 (first tt)), λ line_end. refl)
-      firm v first = by_column BehindReturn p q 0 b (λ e. refl)
+      in_sync : (v : Sync) → (IsLineEnd v → p.column ≡ 0)
+          → IsSurer (sync_after_return InSync p) 0 (sync_after_return v q)
+      in_sync AfterFeed first =
+          inl (ap (λ (d : Bool). if d then InSync else AfterReturn) (eq-eqb p.column 0 (first tt)))
+      in_sync AfterReturn first =
+          inr (ap (λ (d : Bool). if d then InSync else AfterReturn) (eq-eqb p.column 0 (first tt)), λ line_end. refl)
+      in_sync v first = by_column AfterReturn p q 0 b (λ e. refl)
 
-  grip_firmer : (t : TokenKind) (g k : Grip) (p q saved : Position) (wrap : Bool) → IsPrintedAtOne t p q → IsBelow p q
-      → IsFirmer g p.column k
-      → IsFirmer (grip_of z t g p wrap) (cursor_after z t p saved wrap).column (grip_of z t k q wrap)
-  grip_firmer (Glyph byte) g k p q saved wrap one b h =
-      inl (ap (λ (v : Position). grip_of z (Glyph byte) Firm v wrap) one)
-  grip_firmer Tab g k p q saved wrap one b h = inl (ap (λ (v : Position). grip_of z Tab Firm v wrap) one)
-  grip_firmer (Colours parameters) g k p q saved wrap one b h = h
-  grip_firmer Bell g k p q saved wrap one b h = h
-  grip_firmer CarriageReturn g k p q saved wrap one b h = return_firmer g k p q b h
-  grip_firmer LineFeed g k p q saved wrap one b h =
-      by_column BehindFeed p q p.column b (λ e. eqb-true p.column 0 e)
-  grip_firmer Clear g k p q saved wrap one b h = by_home HomeOnClear p q 0 b
-  grip_firmer Save g k p q saved wrap one b h = by_home SavePlaceOnly p q p.column b
-  grip_firmer t g k p q saved wrap one b h = inl refl
+  sync_surer : (t : TokenKind) (g k : Sync) (p q saved : Position) (wrap : Bool) → IsPrintedAtOne t p q → IsBelow p q
+      → IsSurer g p.column k
+      → IsSurer (sync_of z t g p wrap) (cursor_after z t p saved wrap).column (sync_of z t k q wrap)
+  sync_surer (Glyph byte) g k p q saved wrap one b h =
+      inl (ap (λ (v : Position). sync_of z (Glyph byte) InSync v wrap) one)
+  sync_surer Tab g k p q saved wrap one b h = inl (ap (λ (v : Position). sync_of z Tab InSync v wrap) one)
+  sync_surer (Colours parameters) g k p q saved wrap one b h = h
+  sync_surer Bell g k p q saved wrap one b h = h
+  sync_surer CarriageReturn g k p q saved wrap one b h = return_surer g k p q b h
+  sync_surer LineFeed g k p q saved wrap one b h =
+      by_column AfterFeed p q p.column b (λ e. eqb-true p.column 0 e)
+  sync_surer Clear g k p q saved wrap one b h = by_home HomeOnClear p q 0 b
+  sync_surer Save g k p q saved wrap one b h = by_home SavePlaceOnly p q p.column b
+  sync_surer t g k p q saved wrap one b h = inl refl
 
 -- ---- attributes
 bits_by : (r : Option Rendition) (a b : ℕ) → HasBitsBelow a b → HasBitsBelow (attribute_by r a) (attribute_by r b)
@@ -220,14 +222,14 @@ module _ (z : Size) where
       (cursor_after z t k.state.cursor k.state.saved w)) under.wrap
       (cursor_below z t h.state.cursor k.state.cursor h.state.saved k.state.saved h.state.wrap one under.cursor
       under.saved) in
-      let grips : IsFirmer (grip_of z t h.grip h.state.cursor h.state.wrap)
+      let syncs : IsSurer (sync_of z t h.sync h.state.cursor h.state.wrap)
       (cursor_after z t h.state.cursor h.state.saved h.state.wrap).column
-      (grip_of z t k.grip k.state.cursor k.state.wrap) =
-      subst (λ (w : Bool). IsFirmer (grip_of z t h.grip h.state.cursor h.state.wrap)
-      (cursor_after z t h.state.cursor h.state.saved h.state.wrap).column (grip_of z t k.grip k.state.cursor w))
+      (sync_of z t k.sync k.state.cursor k.state.wrap) =
+      subst (λ (w : Bool). IsSurer (sync_of z t h.sync h.state.cursor h.state.wrap)
+      (cursor_after z t h.state.cursor h.state.saved h.state.wrap).column (sync_of z t k.sync k.state.cursor w))
       under.wrap
-      (grip_firmer z t h.grip k.grip h.state.cursor k.state.cursor h.state.saved h.state.wrap one under.cursor
-      under.grip) in
+      (sync_surer z t h.sync k.sync h.state.cursor k.state.cursor h.state.saved h.state.wrap one under.cursor
+      under.sync) in
       record {
         cursor = rw (of_h.cursor, of_k.cursor) cursors;
         saved = rw (of_h.saved_is, of_k.saved_is)
@@ -235,19 +237,19 @@ module _ (z : Size) where
         attribute = rw (of_h.attribute, of_k.attribute)
             (token_bits t h.state.attribute k.state.attribute under.attribute);
         wrap = of_h.wrap_is ∙ wrap_same t h.state.wrap k.state.wrap under.wrap ∙ sym of_k.wrap_is;
-        grip = rw (grip_is z h.grip h.state t above_h, grip_is z k.grip k.state t above_k, of_h.cursor) grips;
+        sync = rw (sync_is z h.sync h.state t above_h, sync_is z k.sync k.state t above_k, of_h.cursor) syncs;
         names = ap (λ (n : Names). names_after n t) under.names;
       }
 
   -- ---- what is agreed
   -- a kind that arises only where another test holds too
-  kind_under : (agreed : Kind → Bool) (kind : Kind) (b c : Bool) → (b ≡ true → c ≡ true)
+  kind_under : (agreed : Difference → Bool) (kind : Difference) (b c : Bool) → (b ≡ true → c ≡ true)
       → IsTrue (list_all agreed (kind_if c kind)) → IsTrue (list_all agreed (kind_if b kind))
   kind_under agreed kind true c there all = ap (λ (d : Bool). list_all agreed (kind_if d kind)) (sym (there refl)) ∙ all
   kind_under agreed kind false c there all = refl
 
   -- a kind that arises only where one of two does
-  kind_of_two : (agreed : Kind → Bool) (kind : Kind) (a b c : Bool) → (a ≡ true → c ≡ true → b ≡ true)
+  kind_of_two : (agreed : Difference → Bool) (kind : Difference) (a b c : Bool) → (a ≡ true → c ≡ true → b ≡ true)
       → IsTrue (list_all agreed (kind_if (not a) kind)) → IsTrue (list_all agreed (kind_if (not c) kind))
       → IsTrue (list_all agreed (kind_if (not b) kind))
   kind_of_two agreed kind true true c both low high = refl
@@ -257,12 +259,12 @@ module _ (z : Size) where
   kind_of_two agreed kind true false true both low high =
       let no : false ≡ true = both refl refl in absurd (let none : ⊥ = cc in none)
 
-  grips_agreed : (agreed : Kind → Bool) (t : TokenKind) (g k : Grip) (column : ℕ) → IsFirmer g column k
-      → IsTrue (list_all agreed (grip_kinds z k t)) → IsTrue (list_all agreed (grip_kinds z g t))
-  grips_agreed agreed t g k column (inl e) all =
-      ap (λ (v : Grip). list_all agreed (grip_kinds z v t)) e ∙ all
-  grips_agreed agreed t g k column (inr h) all =
-      ap (λ (v : Grip). list_all agreed (grip_kinds z v t)) h.0 ∙ none (is_held Firm t)
+  sync_agreed : (agreed : Difference → Bool) (t : TokenKind) (g k : Sync) (column : ℕ) → IsSurer g column k
+      → IsTrue (list_all agreed (sync_kinds z k t)) → IsTrue (list_all agreed (sync_kinds z g t))
+  sync_agreed agreed t g k column (inl e) all =
+      ap (λ (v : Sync). list_all agreed (sync_kinds z v t)) e ∙ all
+  sync_agreed agreed t g k column (inr h) all =
+      ap (λ (v : Sync). list_all agreed (sync_kinds z v t)) h.0 ∙ none (is_same_for_all InSync t)
     where
       none : (b : Bool) → list_all agreed (if b then [] else []) ≡ true
       none true = refl
@@ -274,7 +276,7 @@ module _ (z : Size) where
     | inr past ↦ ap not (le-ltb (b + n) z.width (omega (arith, le, ltb-false (a + n) z.width past)))
   ]
 
-  module _ (agreed : Kind → Bool) (l h k : Stand) (low : HasBitsBelow l.state.attribute h.state.attribute)
+  module _ (agreed : Difference → Bool) (l h k : Stand) (low : HasBitsBelow l.state.attribute h.state.attribute)
       (under : IsUnder h k) where
     greys : (is_grey l.state) ≡ true → (is_grey k.state) ≡ true → (is_grey h.state) ≡ true
     greys e f = grey_between l.state.attribute h.state.attribute k.state.attribute low under.attribute e f
@@ -321,7 +323,7 @@ module _ (z : Size) where
         let of_l = parts_agreed z agreed l x from_l in
         let of_k = parts_agreed z agreed k x from_k in
         from_parts z agreed h x (record {
-          grip = grips_agreed agreed x.token h.grip k.grip h.state.cursor.column under.grip of_k.grip;
+          sync = sync_agreed agreed x.token h.sync k.sync h.state.cursor.column under.sync of_k.sync;
           token = tokens_agreed x.token of_l.token of_k.token;
           spelling = spellings_agreed x.token x.text of_l.spelling of_k.spelling;
           named = ap (λ (n : Names). list_all agreed (name_kinds n x.token)) under.names ∙ of_k.named;

@@ -1,18 +1,21 @@
 -- The kinds in which players part: their order and their words.
 use Rattle.std.specs.Prelude.{ℕ, Bool, ◌==◌, not, List, [], ◌∷◌, codes}
-use Rattle.ans_players.specs.declared.kind.Kind.{Kind}
-use Rattle.ans_players.specs.declared.kind.Kind.TheVariants.{WrapAtOnce, LineEnds, HomeOnClear, ClearInColour}
-use Rattle.ans_players.specs.declared.kind.Kind.TheVariants.{SavePlaceOnly, DosColours, TabPrints, LineErased, WrapOff}
-use Rattle.ans_players.specs.declared.kind.Kind.TheVariants.{StopsAtEdge, PageControls, TerminalControls, OwnColours}
+use Rattle.ans_players.specs.declared.difference.Difference.{Difference}
+use Rattle.ans_players.specs.declared.difference.Difference.TheVariants.{WrapAtOnce, LineEnds, HomeOnClear}
+use Rattle.ans_players.specs.declared.difference.Difference.TheVariants.{ClearInColour}
+use Rattle.ans_players.specs.declared.difference.Difference.TheVariants.{SavePlaceOnly, DosColours, TabPrints}
+use Rattle.ans_players.specs.declared.difference.Difference.TheVariants.{LineErased, WrapOff}
+use Rattle.ans_players.specs.declared.difference.Difference.TheVariants.{StopsAtEdge, PageControls, TerminalControls}
+use Rattle.ans_players.specs.declared.difference.Difference.TheVariants.{OwnColours}
 
 -- the kinds in their order
-abbrev pub all_kinds : List Kind
+abbrev pub all_kinds : List Difference
 all_kinds =
     WrapAtOnce ∷ LineEnds ∷ HomeOnClear ∷ ClearInColour ∷ SavePlaceOnly ∷ DosColours ∷ TabPrints ∷ LineErased ∷ WrapOff
     ∷ StopsAtEdge ∷ PageControls ∷ TerminalControls ∷ OwnColours ∷ []
 
 -- where a kind stands among them
-abbrev pub kind_number : Kind → ℕ
+abbrev pub kind_number : Difference → ℕ
 kind_number WrapAtOnce = 0
 kind_number LineEnds = 1
 kind_number HomeOnClear = 2
@@ -28,15 +31,15 @@ kind_number TerminalControls = 11
 kind_number OwnColours = 12
 
 -- two kinds are one
-abbrev pub is_kind : Kind → Kind → Bool
+abbrev pub is_kind : Difference → Difference → Bool
 is_kind kind other = kind_number kind == kind_number other
 
 -- each kind but this one
-abbrev pub all_but : Kind → Kind → Bool
+abbrev pub all_but : Difference → Difference → Bool
 all_but kind other = not (is_kind kind other)
 
 -- the word that names a kind
-abbrev pub kind_word : Kind → List ℕ
+abbrev pub kind_word : Difference → List ℕ
 kind_word WrapAtOnce = codes "wrap-at-once"
 kind_word LineEnds = codes "line-ends"
 kind_word HomeOnClear = codes "home-on-clear"

@@ -1,7 +1,7 @@
 -- Where players part, and what is the same on all of them.
 pub mod Kinds
 pub mod Names
-pub mod Grips
+pub mod Sync
 pub mod Situations
 pub mod Players
 pub mod Named

@@ -11,8 +11,8 @@ use Rattle.ans_model.specs.declared.fault.Cause.{Cause}
 use Rattle.ans_model.specs.declared.start.Start.{Start}
 use Rattle.ans_model.specs.Verdict.Good.{Picture}
 use Rattle.ans_model.specs.Verdict.TokenFault.{HasStaticFault}
-use Rattle.ans_players.specs.declared.kind.Kind.{Kind}
-use Rattle.ans_players.specs.Grips.{Stand, firmly}
+use Rattle.ans_players.specs.declared.difference.Difference.{Difference}
+use Rattle.ans_players.specs.Sync.{Stand, synced}
 use Rattle.ans_players.specs.Situations.{Spelled, is_agreed, stand_behind}
 
 -- the screen does not scroll, and nothing is printed in the spare row
@@ -29,7 +29,7 @@ pub record IsAllowed (z : Size) (s : State) (t : TokenKind) : Type 0 where
   pub stays_above : StaysAbove z s t
 
 -- What some player does: it has a memory, shows cells by it, and plays spelled tokens. Its memory stands for states of
--- the profile, and more or less firmly.
+-- the profile, in sync with them or not.
 pub record Behaviour : Type 1 where
   pub Memory : Type 0
   pub shows : Memory → Position → Option Cell
@@ -39,17 +39,17 @@ pub record Behaviour : Type 1 where
 -- A player on a screen of this size that does as the profile does in the agreed kinds. It shows the stated cells of
 -- the states for which it stands, and goes along through each token that the profile does not refuse and at which no
 -- kinds but agreed ones arise. All else is left open.
-pub record IsPlayer (z : Size) (agreed : Kind → Bool) (p : Behaviour) : Type 0 where
+pub record IsPlayer (z : Size) (agreed : Difference → Bool) (p : Behaviour) : Type 0 where
   pub shows_the_same : (m : p.Memory) (h : Stand) (at : Position) → p.StandsFor m h → IsStated z at
       → p.shows m at ≡ cell_at z h.state.screen at
   pub goes_along : (m : p.Memory) (h : Stand) (x : Spelled) → p.StandsFor m h → IsAllowed z h.state x.token
       → IsTrue (is_agreed agreed z h x) → p.StandsFor (p.plays m x) (stand_behind z h x)
 
--- Each state of a start on a screen of this size has a memory that stands firmly for it.
+-- Each state of a start on a screen of this size has a memory that is in sync with it.
 abbrev pub StandsForStarts : Size → Behaviour → Type 0
-StandsForStarts z p = (s : State) → IsWellFormed z s → (m : p.Memory) × p.StandsFor m (firmly s)
+StandsForStarts z p = (s : State) → IsWellFormed z s → (m : p.Memory) × p.StandsFor m (synced s)
 
--- After the tokens the player shows the picture, from every memory that stands firmly for a start of the class.
+-- After the tokens the player shows the picture, from every memory that is in sync with a start of the class.
 abbrev pub IsShown : Behaviour → Size → Start → List Spelled → Picture → Type 0
 IsShown p z class xs picture = (m : p.Memory) (s : State) (at : Position) → IsStart z class s
-    → p.StandsFor m (firmly s) → IsStated z at → p.shows (fold p.plays m xs) at ≡ cell_at z picture.cells at
+    → p.StandsFor m (synced s) → IsStated z at → p.shows (fold p.plays m xs) at ≡ cell_at z picture.cells at

@@ -8,15 +8,16 @@ use Rattle.ans_model.specs.Sequence.Omitted.{omits}
 use Rattle.ans_model.specs.Screen.State.{Size, State}
 use Rattle.ans_model.specs.Screen.StartClass.{IsStart}
 use Rattle.ans_model.specs.declared.start.Start.{Start}
-use Rattle.ans_players.specs.declared.kind.Kind.{Kind}
-use Rattle.ans_players.specs.declared.kind.Kind.TheVariants.{ClearInColour, SavePlaceOnly, DosColours, TabPrints}
-use Rattle.ans_players.specs.declared.kind.Kind.TheVariants.{LineErased, WrapOff, StopsAtEdge, PageControls}
-use Rattle.ans_players.specs.declared.kind.Kind.TheVariants.{TerminalControls, OwnColours}
+use Rattle.ans_players.specs.declared.difference.Difference.{Difference}
+use Rattle.ans_players.specs.declared.difference.Difference.TheVariants.{ClearInColour, SavePlaceOnly, DosColours}
+use Rattle.ans_players.specs.declared.difference.Difference.TheVariants.{TabPrints}
+use Rattle.ans_players.specs.declared.difference.Difference.TheVariants.{LineErased, WrapOff, StopsAtEdge, PageControls}
+use Rattle.ans_players.specs.declared.difference.Difference.TheVariants.{TerminalControls, OwnColours}
 use Rattle.ans_players.specs.Names.{Names, is_within, are_both, paints}
-use Rattle.ans_players.specs.Grips.{Stand, loose_kinds, is_held, firmly, stand_after}
+use Rattle.ans_players.specs.Sync.{Stand, unsure_kinds, is_same_for_all, synced, stand_after}
 
 -- the kind, where the test holds
-abbrev pub kind_if : Bool → Kind → List Kind
+abbrev pub kind_if : Bool → Difference → List Difference
 kind_if test kind = if test then kind ∷ [] else []
 
 -- a number of a colour that all players take alike
@@ -36,8 +37,8 @@ is_terminal_control byte =
 abbrev pub is_grey : State → Bool
 is_grey s = s.attribute == 0x07
 
--- The kinds of a token, however it is spelled and at whichever grip. Each looks at one part of the state at most.
-abbrev pub token_kinds : Size → State → TokenKind → List Kind
+-- The kinds of a token, however it is spelled and whatever the sync is. Each looks at one part of the state at most.
+abbrev pub token_kinds : Size → State → TokenKind → List Difference
 token_kinds z s (Glyph byte) =
     kind_if (is_page_control byte) PageControls ++ kind_if (is_terminal_control byte) TerminalControls
 token_kinds z s Bell = PageControls ∷ []
@@ -64,38 +65,38 @@ spelled _ _ = []
 
 -- The kinds of how a token is spelled. An omitted colour is 0 to the profile and nothing to some player, which is the
 -- same where it is white on black already.
-abbrev pub spelling_kinds : State → TokenKind → List ℕ → List Kind
+abbrev pub spelling_kinds : State → TokenKind → List ℕ → List Difference
 spelling_kinds s (Colours parameters) text =
     kind_if (omits text && not (is_grey s && list_all (λ n. n == 0) parameters)) DosColours
 spelling_kinds s t text = []
 
--- the kinds of a spelled token, at whichever grip
-abbrev pub own_kinds : Size → State → Spelled → List Kind
+-- the kinds of a spelled token, whatever the sync is
+abbrev pub own_kinds : Size → State → Spelled → List Difference
 own_kinds z s x = token_kinds z s x.token ++ spelling_kinds s x.token x.text
 
 -- The kind of what is printed or blanked while not both colours are named, whatever the state is.
-abbrev pub name_kinds : Names → TokenKind → List Kind
+abbrev pub name_kinds : Names → TokenKind → List Difference
 name_kinds n t = kind_if (paints t && not (are_both n)) OwnColours
 
 -- The kinds in which players that stand so may part at the token: mostly none.
-abbrev pub situations : Size → Stand → Spelled → List Kind
+abbrev pub situations : Size → Stand → Spelled → List Difference
 situations z h x =
-    (if is_held h.grip x.token then [] else loose_kinds h.grip)
+    (if is_same_for_all h.sync x.token then [] else unsure_kinds h.sync)
     ++ (own_kinds z h.state x ++ name_kinds h.names x.token)
 
 -- all kinds that arise at the token are agreed
-abbrev pub is_agreed : (Kind → Bool) → Size → Stand → Spelled → Bool
+abbrev pub is_agreed : (Difference → Bool) → Size → Stand → Spelled → Bool
 is_agreed agreed z h x = list_all agreed (situations z h x)
 
 -- the stand behind a spelled token
 abbrev pub stand_behind : Size → Stand → Spelled → Stand
 stand_behind z h x = stand_after z h x.token
 
--- the stand behind these tokens, from where players stand firm
+-- the stand behind these tokens, from where players are in sync
 abbrev pub stand_of : Size → State → List Spelled → Stand
-stand_of z start xs = fold (stand_behind z) (firmly start) xs
+stand_of z start xs = fold (stand_behind z) (synced start) xs
 
 -- From every start of the class, no kinds but agreed ones arise at the tokens.
-abbrev pub AreAgreed : (Kind → Bool) → Size → Start → List Spelled → Type 0
+abbrev pub AreAgreed : (Difference → Bool) → Size → Start → List Spelled → Type 0
 AreAgreed agreed z class xs = (s : State) (k : ℕ) (x : Spelled) → IsStart z class s → slice_get xs k ≡ Some x
     → IsTrue (is_agreed agreed z (stand_of z s (take k xs)) x)

@@ -16,14 +16,14 @@
 //!   cursor that stands further down on a taller screen.
 //! - A cell is a byte and an attribute, and all players draw a byte from 20h on, but for 7Fh, as the character
 //!   of code page 437. A terminal that reads UTF-8 is a player only behind a conversion.
-//! - The laws speak of the memories that stand firmly for a start. Each player has one for each state of a
+//! - The laws speak of the memories that are in sync with a start. Each player has one for each state of a
 //!   start, and of its other memories nothing is said.
 //!
-//! `specs/Situations.antt` says at which tokens which kinds arise, `specs/Grips.antt` how firmly the players
-//! are where the profile is, `specs/Names.antt` which colours are named, and `specs/Players.antt` what a
+//! `specs/Situations.antt` says at which tokens which kinds arise, `specs/Sync.antt` how sure it
+//! is that players are where the profile is, `specs/Names.antt` which colours are named, and `specs/Players.antt` what a
 //! player is. `specs/Named.antt` and `specs/Classes.antt` say what is said of a drawing. `proofs` has what the
 //! crates above rest on; the laws and examples stand in `ans_players_laws`.
 #![tactic(auto)]
 
-pub mod kind;
-pub mod player;
+pub mod difference;
+pub mod family;

@@ -7,14 +7,14 @@ use Rattle.ans_model.specs.Screen.StartClass.{IsStart}
 use Rattle.ans_model.specs.declared.cell.Position.{Position}
 use Rattle.ans_model.specs.declared.start.Start.{Start}
 use Rattle.ans_model.specs.Verdict.Good.{Picture, GoodWith, PlaysWell, Shows}
-use Rattle.ans_players.specs.declared.kind.Kind.{Kind}
-use Rattle.ans_players.specs.Grips.{Stand, firmly}
+use Rattle.ans_players.specs.declared.difference.Difference.{Difference}
+use Rattle.ans_players.specs.Sync.{Stand, synced}
 use Rattle.ans_players.specs.Situations.{Spelled, is_agreed, spelled, AreAgreed, stand_behind}
 use Rattle.ans_players.specs.Players.{Behaviour, IsAllowed, IsPlayer, IsShown}
 use Rattle.ans_players.proofs.Along.{above_from, kind_at, kinds_of, kinds_of_spelled, state_after}
 
 -- a player goes along through tokens that are allowed and agreed
-module _ (z : Size) (agreed : Kind → Bool) (p : Behaviour) (player : IsPlayer z agreed p) where
+module _ (z : Size) (agreed : Difference → Bool) (p : Behaviour) (player : IsPlayer z agreed p) where
   pub stands_after : (xs : List Spelled) (m : p.Memory) (h : Stand) → p.StandsFor m h
       → ((k : ℕ) (x : Spelled) → slice_get xs k ≡ Some x
       → IsAllowed z (fold (stand_behind z) h (take k xs)).state x.token
@@ -36,7 +36,7 @@ module _ (z : Size) (class : Start) (xs : List Spelled) (plays : PlaysWell z cla
   }
 
 -- the picture on one player, from a memory that stands for a start, whichever colours are named
-pub shown_from : (z : Size) (agreed : Kind → Bool) (p : Behaviour) → IsPlayer z agreed p → (class : Start)
+pub shown_from : (z : Size) (agreed : Difference → Bool) (p : Behaviour) → IsPlayer z agreed p → (class : Start)
     → (xs : List Spelled) (picture : Picture) → PlaysWell z class (kinds_of xs) → Shows z class (kinds_of xs) picture
     → (h : Stand) → IsStart z class h.state
     → ((k : ℕ) (x : Spelled) → slice_get xs k ≡ Some x
@@ -52,11 +52,11 @@ shown_from z agreed p player class xs picture well good h start each m stands q 
     ∙ ap (λ (v : State). cell_at z v.screen q) (state_after z h xs)
     ∙ good.shown h.state q start stated
 
-pub shown_by : (z : Size) (agreed : Kind → Bool) (p : Behaviour) → IsPlayer z agreed p → (class : Start)
+pub shown_by : (z : Size) (agreed : Difference → Bool) (p : Behaviour) → IsPlayer z agreed p → (class : Start)
     → (xs : List Spelled) (picture : Picture) → PlaysWell z class (kinds_of xs) → Shows z class (kinds_of xs) picture
     → AreAgreed agreed z class xs → IsShown p z class xs picture
 shown_by z agreed p player class xs picture well good each m s q start stands stated =
-    shown_from z agreed p player class xs picture well good (firmly s) start (λ k x e. each s k x start e) m stands q
+    shown_from z agreed p player class xs picture well good (synced s) start (λ k x e. each s k x start e) m stands q
     stated
 
 -- the tokens of good content play well and show its picture
@@ -72,7 +72,7 @@ spelled_plays z class content picture good =
     )
 
 -- so of good content
-pub good_is_shown : (z : Size) (agreed : Kind → Bool) (p : Behaviour) → IsPlayer z agreed p → (class : Start)
+pub good_is_shown : (z : Size) (agreed : Difference → Bool) (p : Behaviour) → IsPlayer z agreed p → (class : Start)
     → (content : List ℕ) (picture : Picture) (good : GoodWith z class content picture)
     → AreAgreed agreed z class (spelled good.tokens good.reads.0)
     → IsShown p z class (spelled good.tokens good.reads.0) picture

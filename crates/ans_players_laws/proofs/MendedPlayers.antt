@@ -9,8 +9,8 @@ use Rattle.ans_model.specs.declared.start.Start.{Start}
 use Rattle.ans_model.proofs.BeginningLemmas.{place_is_within}
 use Rattle.ans_model.proofs.OneCause.{is_cleared}
 use Rattle.ans_model.proofs.StartLemmas.{low_is_start}
-use Rattle.ans_players.specs.declared.kind.Kind.{Kind}
-use Rattle.ans_players.specs.Grips.{Stand, firmly}
+use Rattle.ans_players.specs.declared.difference.Difference.{Difference}
+use Rattle.ans_players.specs.Sync.{Stand, synced}
 use Rattle.ans_players.specs.Mends.{sequence, mending_spelled}
 use Rattle.ans_players.specs.Names.{unnamed}
 use Rattle.ans_players.specs.Players.{Behaviour, IsAllowed, IsPlayer}
@@ -23,7 +23,7 @@ use Rattle.ans_players_laws.proofs.OwnGoes.{agreed_along_or_own}
 
 -- ---- what is agreed
 -- behind the mending each kind arises that does so from the cleared start, but own-colours
-agreed_before : (agreed : Kind → Bool) (z : Size) (class : Start) (xs : List Spelled) → 0 < z.width
+agreed_before : (agreed : Difference → Bool) (z : Size) (class : Start) (xs : List Spelled) → 0 < z.width
     → AreAgreed agreed z class (mending_spelled ++ xs) → AreAgreed (or_own agreed) z all_known xs
 agreed_before agreed z class xs w each s k x start e =
     let low : State = low_start z class in
@@ -31,7 +31,7 @@ agreed_before agreed z class xs w each s k x start e =
     each low (suc (suc (suc (suc (suc k))))) x (low_is_start z class w) e in
     subst (λ (v : State). IsTrue (is_agreed (or_own agreed) z (stand_of z v (take k xs)) x))
     (sym (is_cleared z s start))
-    (agreed_along_or_own agreed z unnamed both (firmly (cleared z)) xs k x
+    (agreed_along_or_own agreed z unnamed both (synced (cleared z)) xs k x
     (subst (λ (h : Stand). IsTrue (is_agreed agreed z (fold (stand_behind z) h (take k xs)) x)) (mending_leaves z low)
     behind))
 
@@ -64,16 +64,16 @@ mending_is_allowed z w s (suc (suc (suc (suc zero)))) x e =
 mending_is_allowed z w s (suc (suc (suc (suc (suc k))))) x e = absurd (let no : ⊥ = cc in no)
 
 -- nothing is named in the mending alone
-none_named : (agreed : Kind → Bool) (z : Size) (class : Start) → AreAgreed agreed z class []
+none_named : (agreed : Difference → Bool) (z : Size) (class : Start) → AreAgreed agreed z class []
 none_named agreed z class s k x start e = absurd (let no : ⊥ = cc in no)
 
-module _ (z : Size) (agreed : Kind → Bool) (p : Behaviour) (player : IsPlayer z agreed p) where
-  -- behind it each player stands firmly for the cleared state
-  stands_cleared : 0 < z.width → (m : p.Memory) (s : State) → IsStart z none_known s → p.StandsFor m (firmly s)
+module _ (z : Size) (agreed : Difference → Bool) (p : Behaviour) (player : IsPlayer z agreed p) where
+  -- behind it each player is in sync with the cleared state
+  stands_cleared : 0 < z.width → (m : p.Memory) (s : State) → IsStart z none_known s → p.StandsFor m (synced s)
       → p.StandsFor (fold p.plays m mending_spelled) (named z)
   stands_cleared w m s start stands =
       subst (λ (h : Stand). p.StandsFor (fold p.plays m mending_spelled) h) (mending_leaves z s)
-      (stands_after z agreed p player mending_spelled m (firmly s) stands (λ k x e. (
+      (stands_after z agreed p player mending_spelled m (synced s) stands (λ k x e. (
         mending_is_allowed z w (stand_of z s (take k mending_spelled)).state k x e,
         agreed_behind agreed z none_known [] w (none_named agreed z all_known) s k x start e,
       )))

@@ -6,8 +6,8 @@ use Rattle.std.specs.Prelude.{IsTrue, slice_get}
 use Rattle.ans_model.specs.Screen.State.{Size}
 use Rattle.ans_model.specs.Screen.StartClass.{cleared, all_known}
 use Rattle.ans_model.proofs.Slices.{slice_get-take}
-use Rattle.ans_players.specs.declared.kind.Kind.{Kind}
-use Rattle.ans_players.specs.Grips.{firmly}
+use Rattle.ans_players.specs.declared.difference.Difference.{Difference}
+use Rattle.ans_players.specs.Sync.{synced}
 use Rattle.ans_players.specs.Situations.{Spelled, spelled, stand_behind}
 use Rattle.ans_players.specs.Named.{arises, times_cleared, bytes_before, ArisesFirst}
 use Rattle.ans_players.proofs.NamedKinds.{counted, each_is_agreed, all_are_agreed}
@@ -30,14 +30,14 @@ taken_before (x ∷ xs) zero (suc j) lt = absurd (let no : ⊥ = omega arith in 
 taken_before (x ∷ xs) (suc k) (suc j) lt =
     ap (λ (ys : List Spelled). x ∷ ys) (taken_before xs k j (omega arith))
 
-module _ (kind : Kind) (z : Size) (xs : List Spelled) where
+module _ (kind : Difference) (z : Size) (xs : List Spelled) where
   -- before the first there is none
   none_before : (o p : ℕ) (first : ArisesFirst kind z xs o) (other : ArisesFirst kind z xs p) → first.k < other.k → ⊥
   none_before o p first other lt =
       let some : 0 < times_cleared kind z (take other.k xs) =
-      counted (λ k. true) kind z (take other.k xs) (firmly (cleared z)) first.k first.x
+      counted (λ k. true) kind z (take other.k xs) (synced (cleared z)) first.k first.x
       (taken_there xs other.k first.k first.x lt first.there)
-      (subst (λ (ys : List Spelled). IsTrue (arises kind z (fold (stand_behind z) (firmly (cleared z)) ys) first.x))
+      (subst (λ (ys : List Spelled). IsTrue (arises kind z (fold (stand_behind z) (synced (cleared z)) ys) first.x))
       (sym (taken_before xs other.k first.k lt)) first.arises_there) in
       omega (arith, some, other.not_before)
 

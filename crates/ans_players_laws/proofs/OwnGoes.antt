@@ -4,17 +4,17 @@ use Rattle.std.proofs.lemmas.Bool.{and_from, and_parts, or_right}
 use Rattle.std.specs.Prelude.{IsTrue, not, ◌&&◌}
 use Rattle.std.specs.List.{list_all}
 use Rattle.ans_model.specs.Screen.State.{Size}
-use Rattle.ans_players.specs.declared.kind.Kind.{Kind}
-use Rattle.ans_players.specs.declared.kind.Kind.TheVariants.{OwnColours}
-use Rattle.ans_players.specs.Grips.{Stand}
+use Rattle.ans_players.specs.declared.difference.Difference.{Difference}
+use Rattle.ans_players.specs.declared.difference.Difference.TheVariants.{OwnColours}
+use Rattle.ans_players.specs.Sync.{Stand}
 use Rattle.ans_players.specs.Names.{Names, are_both, paints}
 use Rattle.ans_players.specs.Situations.{Spelled, is_agreed, kind_if, stand_behind}
 use Rattle.ans_players.proofs.MoreNames.{names_of, stands_with, with_names}
 use Rattle.ans_players.proofs.OneOfTwo.{parts_agreed, from_parts}
 use Rattle.ans_players_laws.specs.Laws.{or_own}
 
-module _ (agreed : Kind → Bool) where
-  all_or_own : (ks : List Kind) → IsTrue (list_all agreed ks) → IsTrue (list_all (or_own agreed) ks)
+module _ (agreed : Difference → Bool) where
+  all_or_own : (ks : List Difference) → IsTrue (list_all agreed ks) → IsTrue (list_all (or_own agreed) ks)
   all_or_own [] all = refl
   all_or_own (k ∷ ks) all =
       let parts = and_parts _ _ all in and_from _ _ (or_right _ _ parts.0) (all_or_own ks parts.1)
@@ -30,7 +30,7 @@ module _ (agreed : Kind → Bool) where
     agreed_or_own n m h x all =
         let parts = parts_agreed z agreed (with_names m h) x all in
         from_parts z (or_own agreed) (with_names n h) x (record {
-          grip = all_or_own _ parts.grip;
+          sync = all_or_own _ parts.sync;
           token = all_or_own _ parts.token;
           spelling = all_or_own _ parts.spelling;
           named = own_is_agreed (paints x.token && not (are_both n));

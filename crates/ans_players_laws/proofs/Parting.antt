@@ -6,18 +6,18 @@ use Rattle.std.specs.Prelude.{IsTrue}
 use Rattle.std.specs.List.{list_all}
 use Rattle.ans_model.specs.Screen.State.{Size, State, cell_at}
 use Rattle.ans_model.specs.Screen.Step.{step}
-use Rattle.ans_players.specs.declared.kind.Kind.{Kind}
-use Rattle.ans_players.specs.Grips.{Stand}
+use Rattle.ans_players.specs.declared.difference.Difference.{Difference}
+use Rattle.ans_players.specs.Sync.{Stand}
 use Rattle.ans_players.specs.Situations.{Spelled, is_agreed, name_kinds, own_kinds}
-use Rattle.ans_players.proofs.OneOfTwo.{grip_kinds}
+use Rattle.ans_players.proofs.OneOfTwo.{sync_kinds}
 use Rattle.ans_players_laws.specs.Witnesses.{IsProfilePlayer, PartsWhereKindsArise}
 
 -- the kinds of the token itself are agreed
-own_agreed : (z : Size) (agreed : Kind → Bool) (h : Stand) (x : Spelled) → IsTrue (is_agreed agreed z h x)
+own_agreed : (z : Size) (agreed : Difference → Bool) (h : Stand) (x : Spelled) → IsTrue (is_agreed agreed z h x)
     → IsTrue (list_all agreed (own_kinds z h.state x))
 own_agreed z agreed h x agrees =
     (and_parts _ _ (sym (list_all-append agreed (own_kinds z h.state x) (name_kinds h.names x.token))
-    ∙ (and_parts _ _ (sym (list_all-append agreed (grip_kinds z h.grip x.token)
+    ∙ (and_parts _ _ (sym (list_all-append agreed (sync_kinds z h.sync x.token)
     (own_kinds z h.state x ++ name_kinds h.names x.token)) ∙ agrees)).1)).0
 
 pub parting : PartsWhereKindsArise

@@ -11,11 +11,11 @@ use Rattle.ans_model.specs.Screen.StartClass.{IsStart, start_with}
 use Rattle.ans_model.specs.declared.cell.Position.{Position}
 use Rattle.ans_model.specs.declared.start.Start.{Start}
 use Rattle.ans_model.specs.Verdict.Good.{PlaysWell}
-use Rattle.ans_players.specs.declared.kind.Kind.{Kind}
-use Rattle.ans_players.specs.Grips.{Stand, firmly}
+use Rattle.ans_players.specs.declared.difference.Difference.{Difference}
+use Rattle.ans_players.specs.Sync.{Stand, synced}
 use Rattle.ans_players.specs.Situations.{Spelled, AreAgreed, is_agreed, stand_behind, stand_of}
 use Rattle.ans_players.proofs.Along.{kinds_of}
-use Rattle.ans_players.proofs.Meets.{agreed_of_two, firm_place, mixed_is_start}
+use Rattle.ans_players.proofs.Meets.{agreed_of_two, place_in_sync, mixed_is_start}
 
 -- ---- numbers below a bound
 -- the test holds at each
@@ -36,11 +36,11 @@ from_each (suc n) test each = and_from _ _ (each n (omega arith)) (from_each n t
 
 -- ---- tokens
 -- all of them are agreed from this stand on
-abbrev pub all_agreed : (Kind → Bool) → Size → Stand → List Spelled → Bool
+abbrev pub all_agreed : (Difference → Bool) → Size → Stand → List Spelled → Bool
 all_agreed agreed z h [] = true
 all_agreed agreed z h (x ∷ xs) = is_agreed agreed z h x && all_agreed agreed z (stand_behind z h x) xs
 
-module _ (agreed : Kind → Bool) (z : Size) where
+module _ (agreed : Difference → Bool) (z : Size) where
   pub agreed_at : (xs : List Spelled) (h : Stand) → IsTrue (all_agreed agreed z h xs) → (k : ℕ) (x : Spelled)
       → slice_get xs k ≡ Some x → IsTrue (is_agreed agreed z (fold (stand_behind z) h (take k xs)) x)
   agreed_at [] h all k x e = absurd (let no : ⊥ = cc in no)
@@ -79,14 +79,14 @@ blank_is_well_formed z cursor saved attribute wrap on there lt = record {
   attribute = lt;
 }
 
-module _ (agreed : Kind → Bool) (z : Size) (class : Start) (xs : List Spelled) (w : 0 < z.width) (attributes : ℕ)
+module _ (agreed : Difference → Bool) (z : Size) (class : Start) (xs : List Spelled) (w : 0 < z.width) (attributes : ℕ)
     (bytes : attributes ≡ 256) where
   -- the class' start with these parts where they are not known
   abbrev start_of : Position → Position → ℕ → Bool → State
   start_of cursor saved attribute wrap = start_with z class (blank_state z cursor saved attribute wrap)
 
   abbrev from_start : Position → Position → ℕ → Bool → Bool
-  from_start cursor saved attribute wrap = all_agreed agreed z (firmly (start_of cursor saved attribute wrap)) xs
+  from_start cursor saved attribute wrap = all_agreed agreed z (synced (start_of cursor saved attribute wrap)) xs
 
   -- from each of them all tokens are agreed
   abbrev looked_up : Bool
@@ -119,7 +119,7 @@ module _ (agreed : Kind → Bool) (z : Size) (class : Start) (xs : List Spelled)
       one : (cursor saved : Position) (a : ℕ) (wrap : Bool) → IsOnScreen z cursor → IsOnScreen z saved → a < attributes
           → IsTrue (from_start cursor saved a wrap)
       one cursor saved a wrap on there lt =
-          all_from_each agreed z xs (firmly (start_of cursor saved a wrap)) (λ k x e.
+          all_from_each agreed z xs (synced (start_of cursor saved a wrap)) (λ k x e.
           each (start_of cursor saved a wrap) k x (mixed_is_start z class (blank_state z cursor saved a wrap) w
           (blank_is_well_formed z cursor saved a wrap on there (omega (arith, lt, bytes)))) e)
 
@@ -135,11 +135,11 @@ module _ (agreed : Kind → Bool) (z : Size) (class : Start) (xs : List Spelled)
       let start_p : IsStart z class p = mixed_is_start z class (blank_state z s.cursor s.saved s.attribute s.wrap) w
       (blank_is_well_formed z s.cursor s.saved s.attribute s.wrap well.fits.cursor well.fits.saved well.attribute) in
       let there : IsTrue (is_agreed agreed z (stand_of z p (take k xs)) x) =
-      agreed_at agreed z xs (firmly p)
+      agreed_at agreed z xs (synced p)
       (found_at all s.cursor s.saved s.attribute s.wrap well.fits.cursor well.fits.saved
       (omega (arith, well.attribute, bytes))) k x e in
       agreed_of_two z class xs plays s p p start start_p start_p agreed (record {
-        place = firm_place _ _ _ (inl (same_part class.cursor _ s.cursor start.cursor));
+        place = place_in_sync _ _ _ (inl (same_part class.cursor _ s.cursor start.cursor));
         saved = inl (same_part class.saved _ s.saved start.saved);
         attribute = inl (same_part class.colours _ s.attribute start.attribute);
         wrap = inl (same_part class.wrap _ s.wrap start.wrap);
@@ -154,6 +154,6 @@ module _ (agreed : Kind → Bool) (z : Size) (class : Start) (xs : List Spelled)
         let none : ⊥ = cc in none)
   ]
 
-pub agreed_or_not : (agreed : Kind → Bool) (z : Size) (class : Start) (xs : List Spelled) → 0 < z.width
+pub agreed_or_not : (agreed : Difference → Bool) (z : Size) (class : Start) (xs : List Spelled) → 0 < z.width
     → PlaysWell z class (kinds_of xs) → AreAgreed agreed z class xs ⊎ ¬ AreAgreed agreed z class xs
 agreed_or_not agreed z class xs w plays = looked_up_or_not agreed z class xs w 256 refl plays

@@ -9,14 +9,14 @@ use Rattle.ans_model.specs.Screen.State.{Size, at, cell_at}
 use Rattle.ans_model.specs.declared.cell.Position.{Position}
 use Rattle.ans_model.specs.declared.start.Start.{Start}
 use Rattle.ans_model.specs.Verdict.Good.{Picture, GoodWith, IsPictureOf}
-use Rattle.ans_players.specs.declared.kind.Kind.{Kind}
-use Rattle.ans_players.specs.Grips.{Stand, firmly}
+use Rattle.ans_players.specs.declared.difference.Difference.{Difference}
+use Rattle.ans_players.specs.Sync.{Stand, synced}
 use Rattle.ans_players.specs.Players.{IsShown}
 use Rattle.ans_players.specs.Situations.{Spelled, AreAgreed, is_agreed, spelled, stand_behind, stand_of}
 use Rattle.ans_players_laws.specs.Witnesses.{strictest, strict_step, strict_cells, IsStrictPlayer, StrictTells}
 use Rattle.ans_players_laws.proofs.Everywhere.{good_is_shown}
 
-module _ (z : Size) (agreed : Kind → Bool) where
+module _ (z : Size) (agreed : Difference → Bool) where
   shows_cells : (m : Option Stand) (h : Stand) (p : Position) → m ≡ Some h
       → strict_cells z m p ≡ cell_at z h.state.screen p
   shows_cells m h p e = ap (λ (v : Option Stand). strict_cells z v p) e
@@ -66,7 +66,7 @@ first_cell z picture w l is e =
     let there = slice_get-get_or picture.cells (0 * z.width + 0) (record { byte = 0; attribute = 0 }) within in
     cc
 
-shown_is_agreed : (z : Size) (class : Start) (agreed : Kind → Bool) (content : List ℕ) (picture : Picture)
+shown_is_agreed : (z : Size) (class : Start) (agreed : Difference → Bool) (content : List ℕ) (picture : Picture)
     → (good : GoodWith z class content picture)
     → IsShown (strictest agreed z) z class (spelled good.tokens good.reads.0) picture
     → AreAgreed agreed z class (spelled good.tokens good.reads.0)
@@ -75,8 +75,8 @@ shown_is_agreed z class agreed content picture good shown s k t start e = elim (
       | inl goes ↦ goes
       | inr stops ↦ absurd (first_cell z picture good.size.some_columns good.size.some_lines good.shows.is_picture
           (sym (ap (λ (m : Option Stand). strict_cells z m (at 0 0))
-          (breaks z agreed (spelled good.tokens good.reads.0) (firmly s) k t e stops))
-          ∙ shown (Some (firmly s)) s (at 0 0) start refl (good.size.some_lines, good.size.some_columns)))
+          (breaks z agreed (spelled good.tokens good.reads.0) (synced s) k t e stops))
+          ∙ shown (Some (synced s)) s (at 0 0) start refl (good.size.some_lines, good.size.some_columns)))
     ]
 
 pub strict_tells : StrictTells

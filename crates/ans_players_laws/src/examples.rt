@@ -6,10 +6,12 @@ ghost use Rattle.std.specs.Prelude.{[], ◌∷◌, ◌++◌, codes, true, false}
 ghost use Rattle.ans_model.specs.Screen.State.{sized};
 ghost use Rattle.ans_model.specs.Sequence.TokenKind.{Up, Down, Forward, Backward, Place, Clear, EraseLine, Save};
 ghost use Rattle.ans_model.specs.Sequence.TokenKind.{Restore, Colours, Wrap};
-ghost use Rattle.ans_players.specs.declared.kind.Kind.TheVariants.{WrapAtOnce, LineEnds, HomeOnClear, ClearInColour};
-ghost use Rattle.ans_players.specs.declared.kind.Kind.TheVariants.{SavePlaceOnly, DosColours, TabPrints, LineErased};
-ghost use Rattle.ans_players.specs.declared.kind.Kind.TheVariants.{WrapOff, StopsAtEdge, PageControls};
-ghost use Rattle.ans_players.specs.declared.kind.Kind.TheVariants.{TerminalControls, OwnColours};
+ghost use Rattle.ans_players.specs.declared.difference.Difference.TheVariants.{WrapAtOnce, LineEnds, HomeOnClear};
+ghost use Rattle.ans_players.specs.declared.difference.Difference.TheVariants.{ClearInColour};
+ghost use Rattle.ans_players.specs.declared.difference.Difference.TheVariants.{SavePlaceOnly, DosColours, TabPrints};
+ghost use Rattle.ans_players.specs.declared.difference.Difference.TheVariants.{LineErased};
+ghost use Rattle.ans_players.specs.declared.difference.Difference.TheVariants.{WrapOff, StopsAtEdge, PageControls};
+ghost use Rattle.ans_players.specs.declared.difference.Difference.TheVariants.{TerminalControls, OwnColours};
 ghost use Rattle.ans_players_laws.specs.Examples.{Arise, AriseAtOnce, AriseAtOnceOn, AriseOn, bytes};
 ghost use Rattle.ans_players.specs.Mends.{sequence, mending_spelled};
 

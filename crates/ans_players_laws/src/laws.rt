@@ -12,16 +12,16 @@ ghost use Rattle.ans_players_laws.specs.Laws.{LeastSameExists, LeastSameIsOne, M
 ghost use Rattle.ans_players_laws.specs.Laws.{MendingIsRead, NamedOneWay};
 ghost use Rattle.ans_players_laws.specs.Witnesses.{IsStrictPlayer, StrictNeedsNamed, StrictTells};
 
-use ans_players::player::Player;
+use ans_players::family::Family;
 
 /// Where no kinds but agreed ones arise from any start of the class, good content shows its picture on
-/// every player that does as the profile does in those, from every memory that stands firmly for a start
+/// every player that does as the profile does in those, from every memory that is in sync with a start
 /// of the class.
 ///
 /// Each such player has the stated lines and a spare row, so a screen of exactly the stated lines is none for
 /// a drawing that enters the spare row. A start has its cursor on these rows. The bytes from 20h on, but for
 /// 7Fh, are of code page 437 on all of them, so a terminal that reads UTF-8 is one only behind a conversion.
-pub fn shows_everywhere<P: Player>()
+pub fn shows_everywhere<P: Family>()
     ensures { (class : Start) (content : List ℕ) (picture : Picture)
         → (good : GoodWith P.size class content picture)
         → AreAgreed P.agreed P.size class (spelled good.tokens good.reads.0)
@@ -74,13 +74,13 @@ pub fn mended_tokens_are_agreed()
 {}
 
 /// So good content in which no kinds but agreed ones arise from the cleared start shows its picture behind
-/// these bytes on every player that does as the profile does in those, from every memory that stands firmly
-/// for any start.
+/// these bytes on every player that does as the profile does in those, from every memory that is in sync
+/// with any start.
 ///
 /// Here too a player has the stated lines and a spare row and draws code page 437, and a start has its cursor
 /// on these rows: see `shows_everywhere`. So nothing is said of a screen of exactly the stated lines where the
 /// drawing enters the spare row, of a cursor that stands below the spare row of a taller screen, or of a
 /// terminal that reads UTF-8 with no conversion before it.
-pub fn mended_content_shows_everywhere<P: Player>()
+pub fn mended_content_shows_everywhere<P: Family>()
     ensures { MendedIsShown P.behaviour P.size P.agreed }
 {}

@@ -6,7 +6,7 @@ ghost use Rattle.ans_model.specs.Screen.State.{State, cell_at, sized};
 ghost use Rattle.ans_model.specs.Screen.Step.{step};
 ghost use Rattle.ans_players_laws.specs.Witnesses.{IsProfilePlayer, PartsWhereKindsArise, profile};
 
-use ans_players::player::Player;
+use ans_players::family::Family;
 
 /// The profile is a player, whatever is agreed.
 pub fn profile_is_a_player()
@@ -21,7 +21,7 @@ pub fn players_may_part_where_kinds_arise()
 /// The profile as a player, on a screen of 80 columns and 25 lines.
 pub struct Profile;
 
-impl Player for Profile {
+impl Family for Profile {
     ghost size = { sized 80 25 };
 
     ghost agreed = { λ kind. false };

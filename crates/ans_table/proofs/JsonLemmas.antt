@@ -18,11 +18,11 @@ use Rattle.ans_model.specs.Text.Characters.{shown_bytes}
 use Rattle.ans_sauce.specs.declared.parts.Parts.{Parts}
 use Rattle.ans_sauce.specs.declared.judged.Judged.TheVariants.{NoContent, Refused, Passes}
 use Rattle.ans_model.specs.Text.Words.{part_names}
-use Rattle.ans_walks.specs.KindsUsed.{words_used}
-use Rattle.ans_walks.specs.declared.players.Players.{Players}
-use Rattle.ans_walks.specs.declared.players.Players.TheVariants.{Any, InNamedColours, Agreeing}
+use Rattle.ans_kinds.specs.KindsUsed.{words_used}
+use Rattle.ans_kinds.specs.declared.players.Players.{Players}
+use Rattle.ans_kinds.specs.declared.players.Players.TheVariants.{Any, InNamedColours, Agreeing}
 use Rattle.ans_players.specs.Kinds.{kind_word}
-use Rattle.ans_players.specs.declared.kind.Kind.TheVariants.{OwnColours}
+use Rattle.ans_players.specs.declared.difference.Difference.TheVariants.{OwnColours}
 use Rattle.ans_table.specs.Findings.{Finding, RowFinding, parts_of, sauce_of}
 use Rattle.ans_table.specs.NameText.{name_text}
 use Rattle.ans_table.specs.Columns.{by_pair}

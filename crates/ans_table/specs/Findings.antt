@@ -14,9 +14,9 @@ use Rattle.ans_sauce.specs.declared.judged.Judged.{Judged}
 use Rattle.ans_sauce.specs.declared.judged.Judged.TheVariants.{NoContent, Refused, Passes}
 use Rattle.ans_sauce.specs.declared.parts.Parts.{Parts}
 use Rattle.ans_model.specs.Verdict.LastFault.{IsDeserved}
-use Rattle.ans_walks.specs.Evidence.{ShowsCursors}
-use Rattle.ans_walks.specs.SaidOfPlayers.{IsSaidOfPlayers}
-use Rattle.ans_walks.specs.Taller.{IsTaller}
+use Rattle.ans_pens.specs.Evidence.{ShowsCursors}
+use Rattle.ans_kinds.specs.SaidOfPlayers.{IsSaidOfPlayers}
+use Rattle.ans_pens.specs.Taller.{IsTaller}
 use Rattle.ans_table.specs.declared.counts.Outcome.{Outcome}
 use Rattle.ans_table.specs.declared.counts.Outcome.TheVariants as outcome
 use Rattle.ans_table.specs.declared.finding.FaultFinding.{FaultFinding}

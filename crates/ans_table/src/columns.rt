@@ -11,11 +11,11 @@ ghost use Rattle.ans_table.specs.Columns.{verdict_columns};
 
 use crate::finding::{Finding, PassFinding, RowFinding};
 use crate::labels::put_labels;
+use ans_kinds::Players;
 use ans_model::fault::Fault;
-use ans_players::kind::Kind;
+use ans_players::difference::Difference;
 use ans_report::{answer_text, put_needed_parts, put_words};
 use ans_sauce::{Judged, Parts, Record};
-use ans_walks::Players;
 use ans_write::{Outbox, put_characters};
 use std::io::Write;
 
@@ -51,7 +51,7 @@ fn put_players<W: Write>(out: &mut Outbox<'_, W>, players: &Players)
             out.put(b"\t");
         }
         Players::InNamedColours(class, _) => {
-            put_column(out, Kind::OwnColours.word().as_bytes());
+            put_column(out, Difference::OwnColours.word().as_bytes());
             put_needed_parts(out, *class);
             out.put(b"\t");
         }

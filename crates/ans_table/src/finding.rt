@@ -13,10 +13,11 @@ ghost use Rattle.ans_table.specs.Findings.{IsFaultFinding, IsPassFinding, IsReco
 ghost use Rattle.ans_table.specs.Findings.{sauce_in, sauce_of, unread_text};
 
 use crate::counts::Outcome;
+use ans_kinds::{Players, Reach};
 use ans_model::fault::Fault;
 use ans_model::start::Start;
+use ans_pens::cursors_before;
 use ans_sauce::{Judged, Parts, Record, cut_record};
-use ans_walks::{Players, Reach, cursors_before};
 
 /// Why a file was not read.
 #[derive(Debug, Clone, Copy, PartialEq, Eq)]

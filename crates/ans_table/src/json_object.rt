@@ -18,12 +18,12 @@ ghost use Rattle.ans_model.specs.Text.Words.{texts_of, part_names};
 
 use crate::finding::{Finding, PassFinding, RowFinding, parts_of, sauce_of};
 use crate::name_text::put_name;
+use ans_kinds::Players;
 use ans_model::fault::{Cause, Fault};
 use ans_model::note::Note;
 use ans_model::start::Start;
-use ans_players::kind::Kind;
+use ans_players::difference::Difference;
 use ans_sauce::{Judged, Parts, Record};
-use ans_walks::Players;
 use ans_write::{Outbox, Tried, glyph_text};
 use serde_json::{Map, Value, push, put};
 use std::alloc::{AllocError, Global};
@@ -147,7 +147,7 @@ fn put_players(members: &mut Members, alloc: Global, players: &Players) -> Added
             )
         }
         Players::InNamedColours(class, _) => {
-            let kind = words_value(alloc, &[Kind::OwnColours.word()])?;
+            let kind = words_value(alloc, &[Difference::OwnColours.word()])?;
             put(members, alloc, "players", kind)?;
             put(
                 members,

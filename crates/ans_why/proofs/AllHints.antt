@@ -2,7 +2,7 @@
 use Rattle.std.proofs.Common.{ℕ, ◌≤◌, Bool, List, [], length, take, drop, arith, subst₂}
 use Rattle.std.proofs.lemmas.List.{take_all, drop_all}
 use Rattle.ans_model.specs.Screen.State.{Size}
-use Rattle.ans_walks.specs.declared.hints.Hints.{Hints}
+use Rattle.ans_hints.specs.declared.hints.Hints.{Hints}
 use Rattle.ans_why.specs.Explained.{AreHintsOf}
 
 -- nothing stands behind it

@@ -8,7 +8,7 @@ use Rattle.ans_model.specs.declared.fault.Cause.{Cause}
 use Rattle.ans_model.specs.declared.fault.Cause.TheVariants.{LinesUnstated}
 use Rattle.ans_sauce.specs.Found.{body_in, record_in}
 use Rattle.ans_sauce.specs.WithoutLines.{lacks_lines_alone}
-use Rattle.ans_walks.specs.Lines.{IsNeverGood}
+use Rattle.ans_pens.specs.Lines.{IsNeverGood}
 use Rattle.ans_why.specs.Explained.{IsEnough, IsSaidOfLines}
 use Rattle.ans_why.specs.declared.why.Enough.{Enough}
 

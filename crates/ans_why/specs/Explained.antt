@@ -22,13 +22,13 @@ use Rattle.ans_sauce.specs.declared.judged.Judged.{Judged}
 use Rattle.ans_sauce.specs.Found.{IsFound, body_in, record_in}
 use Rattle.ans_sauce.specs.WithoutLines.{lacks_lines_alone}
 use Rattle.ans_model.specs.Verdict.LastFault.{IsDeserved}
-use Rattle.ans_walks.specs.Evidence.{ShowsCursors, ShowsNamed}
+use Rattle.ans_pens.specs.Evidence.{ShowsCursors, ShowsNamed}
 use Rattle.ans_model.specs.Screen.Beginning.{mending}
-use Rattle.ans_walks.specs.Lines.{IsGoodOn, IsLeastLines, IsNeverGood}
-use Rattle.ans_walks.specs.SaidOfPlayers.{IsSaidOfPlayers}
-use Rattle.ans_walks.specs.Taller.{IsTaller}
-use Rattle.ans_walks.specs.Hints.{AreHints}
-use Rattle.ans_walks.specs.declared.hints.Hints.{Hints}
+use Rattle.ans_pens.specs.Lines.{IsGoodOn, IsLeastLines, IsNeverGood}
+use Rattle.ans_kinds.specs.SaidOfPlayers.{IsSaidOfPlayers}
+use Rattle.ans_pens.specs.Taller.{IsTaller}
+use Rattle.ans_hints.specs.Hints.{AreHints}
+use Rattle.ans_hints.specs.declared.hints.Hints.{Hints}
 use Rattle.ans_why.specs.Blamed.{AreToBlame}
 use Rattle.ans_why.specs.Known.{known_sequence}
 use Rattle.ans_why.specs.declared.why.Enough.{Enough}

@@ -4,11 +4,11 @@ use Rattle.ans_model.specs.Text.Characters.{shown_bytes}
 use Rattle.ans_model.specs.Text.FaultText.{line_of}
 use Rattle.ans_report.specs.Counted as counted
 use Rattle.ans_why.specs.Fonts.{font_name, has_other_code_page}
-use Rattle.ans_walks.specs.Hints.{much_dark}
-use Rattle.ans_walks.specs.RowEnds.{wider_rows}
-use Rattle.ans_walks.specs.declared.hints.Hints.{Hints}
-use Rattle.ans_walks.specs.declared.row_ends.WiderRows.{WiderRows}
-use Rattle.ans_walks.specs.declared.times.Times.{Times}
+use Rattle.ans_hints.specs.Hints.{much_dark}
+use Rattle.ans_hints.specs.RowEnds.{wider_rows}
+use Rattle.ans_hints.specs.declared.hints.Hints.{Hints}
+use Rattle.ans_hints.specs.declared.row_ends.WiderRows.{WiderRows}
+use Rattle.ans_pens.specs.declared.times.Times.{Times}
 
 -- a line that begins with `hint: `
 abbrev pub hint_line : List ℕ → List ℕ

@@ -8,20 +8,20 @@ use Rattle.ans_model.specs.Text.NeedsText.{needed_parts}
 use Rattle.ans_model.specs.Text.RecordText.{named_line}
 use Rattle.ans_model.specs.Text.Words.{words_text}
 use Rattle.ans_players.specs.Kinds.{all_kinds, kind_word}
-use Rattle.ans_players.specs.declared.kind.Kind.{Kind}
-use Rattle.ans_players.specs.declared.kind.Kind.TheVariants.{OwnColours}
-use Rattle.ans_walks.specs.KindsUsed.{used_of, words_used}
-use Rattle.ans_walks.specs.declared.kinds.KindsUsed.{KindsUsed}
-use Rattle.ans_walks.specs.declared.players.Players.{Players}
-use Rattle.ans_walks.specs.declared.players.Players.TheVariants.{Agreeing, Any, InNamedColours}
-use Rattle.ans_walks.specs.declared.times.Times.{Times}
+use Rattle.ans_players.specs.declared.difference.Difference.{Difference}
+use Rattle.ans_players.specs.declared.difference.Difference.TheVariants.{OwnColours}
+use Rattle.ans_kinds.specs.KindsUsed.{used_of, words_used}
+use Rattle.ans_kinds.specs.declared.kinds.KindsUsed.{KindsUsed}
+use Rattle.ans_kinds.specs.declared.players.Players.{Players}
+use Rattle.ans_kinds.specs.declared.players.Players.TheVariants.{Agreeing, Any, InNamedColours}
+use Rattle.ans_pens.specs.declared.times.Times.{Times}
 
 -- how often, where it is more than once
 abbrev pub more_times : ℕ → List ℕ
 more_times count = if count == 1 then [] else codes ", " ++ (decimal count ++ codes " times")
 
 -- where a kind arises first, and how often
-abbrev pub kind_line : Kind → Option Times → List ℕ
+abbrev pub kind_line : Difference → Option Times → List ℕ
 kind_line kind None = []
 kind_line kind (Some times) =
     line_of (codes "at " ++ (decimal times.first ++ (codes ": " ++ (kind_word kind ++ more_times times.count))))

@@ -17,8 +17,8 @@ use Rattle.ans_sauce.specs.declared.parts.Parts.{Parts}
 use Rattle.ans_sauce.specs.Parts.{notes_of, record_of, size_of}
 pub use Rattle.ans_report.specs.Counted.{counted_text}
 pub use Rattle.ans_report.specs.Quoted.{quoted, quoted_byte}
-use Rattle.ans_walks.specs.Hints.{are_torn}
-use Rattle.ans_walks.specs.declared.hints.Hints.{Hints}
+use Rattle.ans_hints.specs.Hints.{are_torn}
+use Rattle.ans_hints.specs.declared.hints.Hints.{Hints}
 use Rattle.ans_why.specs.HintsText.{hints_text}
 use Rattle.ans_why.specs.Known.{known_behind_end_mark, known_text}
 use Rattle.ans_why.specs.PlayersText.{players_lines}

@@ -10,7 +10,7 @@ ghost use Rattle.ans_model.specs.Verdict.Needs.{IsLeast};
 ghost use Rattle.ans_sauce.specs.Found.{body_in, record_in};
 ghost use Rattle.ans_sauce.specs.Parts.{content_of, record_of, size_of, width_of};
 ghost use Rattle.ans_sauce.specs.WithoutLines.{lacks_lines_alone};
-ghost use Rattle.ans_walks.specs.Lines.{IsLeastLines, IsNeverGood};
+ghost use Rattle.ans_pens.specs.Lines.{IsLeastLines, IsNeverGood};
 ghost use Rattle.ans_sauce.specs.Judged.{IsRecordFault};
 ghost use Rattle.ans_model.specs.Verdict.LastFault.{IsDeserved};
 ghost use Rattle.ans_why.specs.Blamed.{AreToBlame};
@@ -21,14 +21,15 @@ ghost use Rattle.ans_why.specs.Explained.{IsRecordRefusal, IsRefusal};
 use crate::blamed::bytes_to_blame;
 use crate::known_bytes::known_sequence;
 use crate::why::{Enough, Pass, Place, RecordRefusal, Refusal, Reliance, Shown};
+use ans_hints::{Hints, Overview};
 use ans_model::beginning::SAFE_BEGINNING;
 use ans_model::cell::Position;
 use ans_model::fault::{Cause, Fault};
 use ans_model::limits::MAX_FILE;
 use ans_model::size::Size;
 use ans_model::start::Start;
+use ans_pens::{cells_of_fault, cursors_before, least_lines};
 use ans_sauce::{Parts, WithoutLines, find, without_lines};
-use ans_walks::{Hints, Overview, cells_of_fault, cursors_before, least_lines};
 
 fn place(size: Size, position: Position) -> Place
     requires { IsOnScreen size position }

@@ -5,8 +5,9 @@ ghost use Rattle.ans_why.specs.HintsText.{row_hints, hint_times_line, wider_line
 ghost use Rattle.ans_write.specs.Puts.{Puts};
 
 use crate::font::{font_name, has_other_code_page};
+use ans_hints::{Hints, WiderRows};
+use ans_pens::Times;
 use ans_report::put_times;
-use ans_walks::{Hints, Times, WiderRows};
 use ans_write::{Outbox, put_characters};
 use std::io::Write;
 

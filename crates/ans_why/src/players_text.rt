@@ -3,13 +3,14 @@
 ghost use Rattle.std.specs.Prelude.{◌≡◌};
 ghost use Rattle.ans_why.specs.PlayersText.{agreeing_lines, everywhere_line, is_same_class, kind_line};
 ghost use Rattle.ans_why.specs.PlayersText.{kind_lines, more_times, players_lines};
-ghost use Rattle.ans_walks.specs.declared.players.Players.TheVariants.{Any, InNamedColours};
+ghost use Rattle.ans_kinds.specs.declared.players.Players.TheVariants.{Any, InNamedColours};
 ghost use Rattle.ans_write.specs.Puts.{Puts};
 
+use ans_kinds::{KindsUsed, Players};
 use ans_model::start::Start;
-use ans_players::kind::Kind;
+use ans_pens::Times;
+use ans_players::difference::Difference;
 use ans_report::{put_needed_parts, put_words};
-use ans_walks::{KindsUsed, Players, Times};
 use ans_write::Outbox;
 use std::io::Write;
 
@@ -24,7 +25,7 @@ fn put_more_times<W: Write>(out: &mut Outbox<'_, W>, count: usize)
     out.put(b" times");
 }
 
-fn put_kind_line<W: Write>(out: &mut Outbox<'_, W>, kind: Kind, times: Option<Times>)
+fn put_kind_line<W: Write>(out: &mut Outbox<'_, W>, kind: Difference, times: Option<Times>)
     ensures { Puts W.contents out.old out.new (kind_line kind times) }
 {
     let Some(times) = times else {
@@ -41,7 +42,7 @@ fn put_kind_line<W: Write>(out: &mut Outbox<'_, W>, kind: Kind, times: Option<Ti
 fn put_kind_lines<W: Write>(out: &mut Outbox<'_, W>, used: &KindsUsed)
     ensures { Puts W.contents out.old out.new (kind_lines used.now) }
 {
-    for kind in &Kind::ALL {
+    for kind in &Difference::ALL {
         put_kind_line(out, *kind, used.of(*kind));
     }
 }
@@ -87,7 +88,7 @@ fn put_named_colours<W: Write>(out: &mut Outbox<'_, W>, needs: Start, class: Sta
     ensures { Puts W.contents out.old out.new (players_lines needs (InNamedColours class times)) }
 {
     out.put(b"players: own-colours\n");
-    put_kind_line(out, Kind::OwnColours, Some(times));
+    put_kind_line(out, Difference::OwnColours, Some(times));
     put_everywhere_line(out, needs, class);
 }
 

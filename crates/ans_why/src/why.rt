@@ -1,11 +1,12 @@
 //! What `why` says of a file.
 
 use crate::known_bytes::Known;
+use ans_hints::Hints;
+use ans_kinds::Players;
 use ans_model::cell::Cell;
 use ans_model::fault::Fault;
 use ans_model::start::Start;
 use ans_sauce::{Found, Judged};
-use ans_walks::{Hints, Players};
 
 /// A position on the screen, with its row and its column counted from 1.
 #[derive(Debug, Clone, Copy, PartialEq, Eq)]

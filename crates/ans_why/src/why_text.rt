@@ -9,7 +9,7 @@ ghost use Rattle.ans_report.specs.Counted.{counted_text};
 ghost use Rattle.ans_why.specs.WhyText.{bytes_line, place_text, cell_text, shown_lines};
 ghost use Rattle.ans_why.specs.WhyText.{mend_line, reliance_lines, lines_line, after_end_mark_text, enough_lines};
 ghost use Rattle.ans_why.specs.WhyText.{heading_lines, known_found, known_line, told_hints};
-ghost use Rattle.ans_walks.specs.Hints.{are_torn};
+ghost use Rattle.ans_hints.specs.Hints.{are_torn};
 ghost use Rattle.ans_model.specs.Text.Words.{answer_text};
 ghost use Rattle.ans_why.specs.WhyText.{found_line, pass_lines, refusal_lines, why_text};
 
@@ -17,13 +17,13 @@ use crate::hints_text::put_hints;
 use crate::known_bytes::{Known, known_behind_end_mark};
 use crate::players_text::put_players;
 use crate::why::{Enough, Pass, Place, RecordRefusal, Refusal, Reliance, Shown, Why};
+use ans_hints::Hints;
 use ans_model::cell::Cell;
 use ans_report::{
     answer_text, put_counted, put_fault_line, put_named_line, put_needed_parts, put_notes,
     put_quoted, put_refusal, put_size_line,
 };
 use ans_sauce::{Found, Judged, Parts};
-use ans_walks::Hints;
 use ans_write::{Outbox, hex_byte, put_characters};
 use std::io::Write;
 

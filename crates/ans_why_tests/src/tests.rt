@@ -1,10 +1,10 @@
 //! Contents with their hints, from bytes to the whole text.
 
+use ans_hints::Hints;
 use ans_model::fault::Cause;
 use ans_model::size::Size;
 use ans_samples::Narrow;
 use ans_sauce::Found;
-use ans_walks::Hints;
 use ans_why::{
     Known, font_name, has_other_code_page, known_behind_end_mark, known_found, known_sequence,
     put_hints,

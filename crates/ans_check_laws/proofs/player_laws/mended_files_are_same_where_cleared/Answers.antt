@@ -1,4 +1,4 @@
-use Rattle.ans_players.specs.declared.kind.Kind.TheVariants.{OwnColours}
+use Rattle.ans_players.specs.declared.difference.Difference.TheVariants.{OwnColours}
 use Rattle.ans_players.specs.Kinds.{is_kind}
 use Rattle.ans_check_laws.proofs.PlayersShown.{needs_nothing, is_same_where_cleared, none_agreed}
 use Rattle.ans_check_laws.proofs.player_laws.mended_files_are_same_where_cleared.Goals as goal

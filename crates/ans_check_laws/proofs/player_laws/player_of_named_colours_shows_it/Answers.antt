@@ -3,5 +3,5 @@ use Rattle.ans_check_laws.proofs.player_laws.player_of_named_colours_shows_it.Go
 
 pub returns : goal.returns
 returns g c bytes class known times picture said own covers good =
-    named_is_shown g.P.Player.size bytes g.P.Player.agreed g.P.Player.behaviour g.P.Player.is_player own class known
+    named_is_shown g.P.Family.size bytes g.P.Family.agreed g.P.Family.behaviour g.P.Family.is_player own class known
     picture said.0 covers good

@@ -4,7 +4,7 @@ use Rattle.ans_check_laws.proofs.player_laws.redrawn_files_show_everywhere.Goals
 pub returns : goal.returns
 returns g c = record {
   shown = λ file new redrawn class apart picture h size agreed passes.
-      redrawn_is_shown file new redrawn h class apart picture passes g.P.Player.size g.P.Player.agreed
-      g.P.Player.behaviour g.P.Player.is_player size agreed;
+      redrawn_is_shown file new redrawn h class apart picture passes g.P.Family.size g.P.Family.agreed
+      g.P.Family.behaviour g.P.Family.is_player size agreed;
   any = any_is_said;
 }

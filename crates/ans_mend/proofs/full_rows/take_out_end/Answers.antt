@@ -1,7 +1,7 @@
 use Rattle.std.proofs.Common.{◌≡◌, ◌+◌, ◌-◌, ◌<◌, ◌≤◌, List, ◌++◌, take, drop, ap, ap₂, ◌∙◌, append_assoc, arith, ℕ}
 use Rattle.std.proofs.Common.{sym}
 use Rattle.std.proofs.Common.{Option}
-use Rattle.ans_walks.specs.FullRowEnds.{bytes_by, without}
+use Rattle.ans_hints.specs.FullRowEnds.{bytes_by, without}
 use Rattle.ans_mend.proofs.RowEndsOut.{pair_out}
 use Rattle.ans_mend.proofs.full_rows.take_out_end.Goals as goal
 

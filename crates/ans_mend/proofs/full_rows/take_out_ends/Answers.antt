@@ -2,10 +2,10 @@ use Rattle.std.proofs.Common.{◌≡◌, ◌+◌, ◌-◌, ◌≤◌, ℕ, List,
 use Rattle.std.proofs.Common.{arith, Option, true}
 use Rattle.std.specs.List.{flat_map}
 use Rattle.std.proofs.lemmas.List.{drop-drop, length-drop, length-take-le}
-use Rattle.ans_walks.specs.Counted.{counted}
-use Rattle.ans_walks.specs.FullRowEnds.{IsFirstEnd, StandsBetween, bytes_of, without, without_ends}
-use Rattle.ans_walks.specs.declared.full_row_ends.FullRowEnd.{FullRowEnd}
-use Rattle.ans_walks.specs.declared.times.Times.{Times}
+use Rattle.ans_pens.specs.Counted.{counted}
+use Rattle.ans_hints.specs.FullRowEnds.{IsFirstEnd, StandsBetween, bytes_of, without, without_ends}
+use Rattle.ans_hints.specs.declared.full_row_ends.FullRowEnd.{FullRowEnd}
+use Rattle.ans_pens.specs.declared.times.Times.{Times}
 use Rattle.ans_mend.specs.FullRows.{first_byte, times_with}
 use Rattle.ans_mend.proofs.RowEndsOut.{counted_within, feed_behind, next_window, over_window, total_next, window}
 use Rattle.ans_mend.proofs.full_rows.take_out_ends.Goals as goal

@@ -1,8 +1,8 @@
 use Rattle.std.proofs.Common.{◌≡◌, ◌≤◌, ◌-◌, ℕ, List, ◌++◌, length, take, drop, None}
 use Rattle.std.specs.List.{flat_map}
-use Rattle.ans_walks.specs.Counted.{count_of}
-use Rattle.ans_walks.specs.FullRowEnds.{AreEndsOver, bytes_of, without, without_ends}
-use Rattle.ans_walks.specs.declared.full_row_ends.FullRowEnd.{FullRowEnd}
+use Rattle.ans_pens.specs.Counted.{count_of}
+use Rattle.ans_hints.specs.FullRowEnds.{AreEndsOver, bytes_of, without, without_ends}
+use Rattle.ans_hints.specs.declared.full_row_ends.FullRowEnd.{FullRowEnd}
 use Rattle.ans_mend.specs.FullRows.{times_with}
 use Rattle.ans_mend.proofs.full_rows.take_out_ends.Given as goal
 

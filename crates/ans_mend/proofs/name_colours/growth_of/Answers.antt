@@ -1,6 +1,6 @@
 use Rattle.std.proofs.Common.{ℕ, ◌+◌, ◌-◌, List, length, drop, refl, sym, subst, Option}
 use Rattle.ans_model.specs.Sequence.Reads.{Reads}
-use Rattle.ans_walks.specs.declared.times.Times.{Times}
+use Rattle.ans_pens.specs.declared.times.Times.{Times}
 use Rattle.ans_mend.specs.NameSearch.{IsNamedFirst, NoneIsNamed}
 use Rattle.ans_mend.proofs.NamedGrowth.{GrownTo, grown_more, grown_to_nothing, grown_whole, rest_of, unread}
 use Rattle.ans_mend.proofs.name_colours.growth_of.Goals as goal

@@ -1,4 +1,4 @@
-use Rattle.ans_walks.specs.NamesShown.{shown_names}
+use Rattle.ans_kinds.specs.NamesShown.{shown_names}
 use Rattle.ans_mend.specs.NamedColours.{missing_numbers}
 use Rattle.ans_mend.proofs.NamedParts.{left_between, left_whole, named_parts}
 use Rattle.ans_mend.proofs.naming.naming_of.Goals as goal

@@ -3,4 +3,4 @@ use Rattle.ans_picture_laws.proofs.form_laws.form_shows_everywhere.Goals as goal
 
 pub returns : goal.returns
 returns g c =
-    form_is_shown g.P.Player.size g.P.Player.agreed g.P.Player.behaviour g.P.Player.is_player
+    form_is_shown g.P.Family.size g.P.Family.agreed g.P.Family.behaviour g.P.Family.is_player

@@ -1,4 +1,4 @@
-use Rattle.ans_walks.proofs.Mended.{makes_good}
+use Rattle.ans_kinds.proofs.Mended.{makes_good}
 use Rattle.ans_play_laws.proofs.walk_laws.mended_content_is_good.Goals as goal
 
 pub returns : goal.returns

@@ -1,8 +1,8 @@
 use Rattle.std.proofs.Common.{◌≡◌, ◌∙◌, ◌∷◌, [], ap, append_assoc, rules, sym}
 use Rattle.ans_model.specs.Text.Words.{texts_of, words_text}
 use Rattle.ans_players.specs.Kinds.{kind_word}
-use Rattle.ans_players.specs.declared.kind.Kind.TheVariants.{OwnColours}
-use Rattle.ans_walks.specs.KindsUsed.{words_used}
+use Rattle.ans_players.specs.declared.difference.Difference.TheVariants.{OwnColours}
+use Rattle.ans_kinds.specs.KindsUsed.{words_used}
 use Rattle.ans_write.proofs.PutsLemmas.{Puts-same, Puts-then}
 use Rattle.ans_table.specs.Columns.{players_columns, tab}
 use Rattle.ans_table.proofs.columns.put_players.Goals as goal

@@ -1,7 +1,7 @@
 use Rattle.std.proofs.Common.{ℕ, List, ap, ◌∙◌, subst₂}
 use Rattle.ans_model.specs.Bytes.{most_lines}
 use Rattle.ans_model.specs.File.Record.{stated_width}
-use Rattle.ans_walks.specs.Lines.{IsNeverGood}
+use Rattle.ans_pens.specs.Lines.{IsNeverGood}
 use Rattle.ans_why.proofs.explain.enough.Goals as goal
 
 pub returns-in_default-clause-none : goal.returns-in_default-clause-none

@@ -1,6 +1,6 @@
 use Rattle.std.proofs.Common.{rules, ◌≡◌}
 use Rattle.ans_model.specs.Text.Words.{texts_of}
-use Rattle.ans_walks.specs.KindsUsed.{words_used}
+use Rattle.ans_kinds.specs.KindsUsed.{words_used}
 use Rattle.ans_write.proofs.PutsLemmas.{Puts-then}
 use Rattle.ans_why.proofs.players_text.put_agreeing.Goals as goal
 

@@ -1,5 +1,5 @@
 use Rattle.ans_players.specs.Kinds.{all_kinds}
-use Rattle.ans_walks.specs.KindsUsed.{used_of}
+use Rattle.ans_kinds.specs.KindsUsed.{used_of}
 use Rattle.ans_why.specs.PlayersText.{kind_line}
 use Rattle.ans_write.proofs.PutsLemmas.{Puts-next}
 use Rattle.ans_why.proofs.players_text.put_kind_lines.Goals as goal

@@ -1,7 +1,7 @@
 use Rattle.std.proofs.Common.{take}
 use Rattle.std.specs.List.{flat_map}
 use Rattle.ans_players.specs.Kinds.{all_kinds}
-use Rattle.ans_walks.specs.KindsUsed.{used_of}
+use Rattle.ans_kinds.specs.KindsUsed.{used_of}
 use Rattle.ans_why.specs.PlayersText.{kind_line}
 use Rattle.ans_write.specs.Puts.{Puts}
 use Rattle.ans_why.proofs.players_text.put_kind_lines.Given as goal

@@ -1,6 +1,6 @@
 use Rattle.std.proofs.Common.{[], codes, decimal, sym, ap, ◌∙◌}
 use Rattle.std.specs.Prelude.{if◌then◌else◌}
-use Rattle.ans_walks.specs.Hints.{are_torn}
+use Rattle.ans_hints.specs.Hints.{are_torn}
 use Rattle.ans_write.proofs.PutsLemmas.{Puts-same, Puts-then}
 use Rattle.ans_why.specs.WhyText.{lines_line}
 use Rattle.ans_why.proofs.WhyLines.{lines_line_is}

@@ -1,0 +1,9 @@
+pub mod TextTests
+pub mod HintsFound
+mod PlainConditions
+pub mod RunHints
+mod LineEndBytes
+mod FullRowsFound
+mod FullRowsEnded
+mod SurveyFound
+mod SeenPieces

@@ -1,0 +1,6 @@
+use Rattle.std.proofs.Common.{refl}
+use Rattle.ans_hints.proofs.full_row_ends.SearchWalker.take.Goals as goal
+
+pub returns-clause-walked : goal.returns-clause-walked
+returns-clause-walked c first front behind next h =
+    c.requires.takes first front c.args._offset c.args._run.now behind refl next h

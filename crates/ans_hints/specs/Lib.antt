@@ -1,0 +1,9 @@
+pub mod Places
+pub mod Conditions
+pub mod Rows
+pub mod RowEnds
+pub mod Hints
+pub mod Walks
+pub mod FullRowEnds
+pub mod FullRowSearch
+pub mod Surveyed

@@ -1,0 +1,163 @@
+//! What the ends of a drawing's rows tell.
+
+ghost use Rattle.std.specs.Prelude.{◌≡◌, ◌+◌, ◌≤◌, ◌<◌};
+ghost use Rattle.ans_model.specs.Bytes.{longest_file};
+ghost use Rattle.ans_pens.specs.Counted.{count_of};
+ghost use Rattle.ans_hints.specs.RowEnds.{CountsRows, no_row_ends, over_with, wider_rows};
+ghost use Rattle.ans_hints.specs.RowEnds.{are_all_ended, printed_behind, with_end, with_glyph};
+
+use crate::row::EndedRow;
+use ans_pens::times::{Times, count};
+
+/// Rows with a line end that take more columns than the screen has.
+#[derive(Debug, Clone, Copy, PartialEq, Eq)]
+pub struct RowsOver {
+    /// How often, and the offset of the first one's line end.
+    pub times: Option<Times>,
+    /// How many columns the widest takes, or 0.
+    pub widest: usize,
+    /// How many are as wide as the widest.
+    pub as_wide: usize,
+}
+
+/// Rows of a drawing that was made for more columns: how many run over the edge and then end, the offset
+/// of the first one's line end, and how many columns the widest takes.
+#[derive(Debug, Clone, Copy, PartialEq, Eq)]
+pub struct WiderRows {
+    pub times: Times,
+    pub columns: usize,
+}
+
+/// What the ends of a drawing's rows tell. A *line end* is a line feed, or a return and then a line feed;
+/// a row is *full* where its last glyph wraps. Colours, wrap, a save, a bell or an erased line may stand
+/// between the glyph and the line end, and between return and line feed.
+#[derive(Debug, Clone, Copy, PartialEq, Eq)]
+pub struct RowEnds {
+    /// How many columns the screen has.
+    pub width: usize,
+    /// How many glyphs wrap: the full rows.
+    pub full: usize,
+    /// How many line ends there are.
+    pub line_ends: usize,
+    /// Full rows with a line end behind them, at the offset of the line end.
+    pub ended: Option<Times>,
+    /// How many rows were full when something was printed last.
+    pub full_before: usize,
+    /// How many of these had a line end behind them.
+    pub ended_before: usize,
+    pub over: RowsOver,
+    /// Glyphs that are printed over the glyph before them, in the last column with wrap off.
+    pub overprints: Option<Times>,
+    /// Whether some token is a return.
+    pub returns: bool,
+}
+
+impl RowsOver {
+    /// One row more has ended, on a screen of so many columns.
+    fn end(&mut self, width: usize, row: EndedRow)
+        requires rows { self.old.as_wide ≤ longest_file }
+        requires times { count_of self.old.times ≤ longest_file }
+        ensures over { self.new ≡ over_with width self.old row }
+        ensures rows { self.new.as_wide ≤ self.old.as_wide + 1 }
+        ensures times { count_of self.new.times ≤ count_of self.old.times + 1 }
+    {
+        if row.columns <= width {
+            return;
+        }
+        count(&mut self.times, true, row.offset);
+        if row.columns > self.widest {
+            self.widest = row.columns;
+            self.as_wide = 1;
+        } else if row.columns == self.widest {
+            self.as_wide += 1;
+        }
+    }
+}
+
+impl RowEnds {
+    /// Those before the first token.
+    pub(crate) fn none(width: usize) -> RowEnds
+        ensures { result ≡ no_row_ends width }
+    {
+        RowEnds {
+            width,
+            full: 0,
+            line_ends: 0,
+            ended: None,
+            full_before: 0,
+            ended_before: 0,
+            over: RowsOver {
+                times: None,
+                widest: 0,
+                as_wide: 0,
+            },
+            overprints: None,
+            returns: false,
+        }
+    }
+
+    /// Something is printed.
+    #[inline(always)]
+    pub(crate) fn print(&mut self)
+        ensures { self.new ≡ printed_behind self.old }
+    {
+        self.full_before = self.full;
+        self.ended_before = match self.ended {
+            Some(times) => times.count,
+            None => 0,
+        };
+    }
+
+    /// A glyph is printed at this offset: it wraps or not, and it is printed over the one before it or not.
+    #[inline(always)]
+    pub(crate) fn glyph(&mut self, offset: usize, wraps: bool, is_over: bool)
+        requires within { CountsRows self.old offset }
+        requires room { offset < longest_file }
+        ensures rows { self.new ≡ with_glyph self.old offset wraps is_over }
+        ensures within { CountsRows self.new (offset + 1) }
+    {
+        self.print();
+        self.full += usize::from(wraps);
+        count(&mut self.overprints, is_over, offset);
+    }
+
+    /// A row ends with a line end.
+    pub(crate) fn end(&mut self, offset: usize, row: EndedRow)
+        requires within { CountsRows self.old offset }
+        requires room { offset < longest_file }
+        ensures rows { self.new ≡ with_end self.old row }
+        ensures within { CountsRows self.new (offset + 1) }
+    {
+        self.line_ends += 1;
+        count(&mut self.ended, row.is_full, row.offset);
+        self.over.end(self.width, row);
+    }
+
+    /// Whether a line end stands behind every full row that something is printed behind, and there are
+    /// two of these.
+    pub fn are_all_ended(&self) -> bool
+        ensures { result ≡ are_all_ended self.now }
+    {
+        self.ended_before >= 2 && self.ended_before == self.full_before
+    }
+
+    /// The rows of a drawing that was made for more columns: three rows run over the edge and then end,
+    /// none of them twice, they are at least half of all that end, and at least half of them are as wide
+    /// as the widest. None where it is not so.
+    pub fn wider_rows(&self) -> Option<WiderRows>
+        ensures { result ≡ wider_rows self.now }
+    {
+        let times = self.over.times?;
+        let is_regular = times.count.saturating_sub(self.over.as_wide) <= self.over.as_wide;
+        let is_once_over = self.over.widest.saturating_sub(self.width) <= self.width;
+        let are_most = self.line_ends.saturating_sub(times.count) <= times.count;
+        if times.count >= 3 && is_once_over && are_most && is_regular {
+            Some(WiderRows {
+                times,
+                columns: self.over.widest,
+            })
+        } else {
+            None
+        }
+    }
+}

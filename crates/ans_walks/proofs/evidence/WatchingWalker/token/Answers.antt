@@ -1,8 +1,0 @@
-use Rattle.std.proofs.Common.{refl}
-use Rattle.ans_walks.proofs.WatchedSoFar.{watched_token}
-use Rattle.ans_walks.proofs.evidence.WatchingWalker.token.Goals as goal
-
-pub returns-clause-walked : goal.returns-clause-walked
-returns-clause-walked c first front text next h =
-    watched_token first c.args.self.now _ front.tokens _ h refl refl c.step.ensures.stand
-    (rw c.kind.ensures at c.step.ensures.watched)

@@ -1,6 +1,0 @@
-use Rattle.std.proofs.Common.{refl}
-use Rattle.ans_walks.proofs.full_row_ends.SearchWalker.take.Goals as goal
-
-pub returns-clause-walked : goal.returns-clause-walked
-returns-clause-walked c first front behind next h =
-    c.requires.takes first front c.args._offset c.args._run.now behind refl next h

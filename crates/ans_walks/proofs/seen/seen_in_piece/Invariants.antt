@@ -1,5 +1,0 @@
-use Rattle.ans_walks.proofs.SeenPieces.{Counts}
-use Rattle.ans_walks.proofs.seen.seen_in_piece.Given as goal
-
-abbrev pub invariant-loop-i : goal.invariant-loop-i
-invariant-loop-i l = Counts l.piece l.i l.seen
