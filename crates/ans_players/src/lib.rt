@@ -19,10 +19,10 @@
 //! - The laws speak of the memories that are in sync with a start. Each player has one for each state of a
 //!   start, and of its other memories nothing is said.
 //!
-//! `specs/Situations.antt` says at which tokens which kinds arise, `specs/Sync.antt` how sure it
-//! is that players are where the profile is, `specs/Names.antt` which colours are named, and `specs/Players.antt` what a
-//! player is. `specs/Named.antt` and `specs/Classes.antt` say what is said of a drawing. `proofs` has what the
-//! crates above rest on; the laws and examples stand in `ans_players_laws`.
+//! `specs/Situations.antt` says at which tokens which kinds arise, `specs/Sync.antt` how sure it is that
+//! players are where the profile is, `specs/Names.antt` which colours are named, and `specs/Players.antt` what
+//! a player is. `specs/Named.antt` and `specs/Classes.antt` say what is said of a drawing. `proofs` has what
+//! the crates above rest on; the laws and examples are in `ans_players_laws`.
 #![tactic(auto)]
 
 pub mod difference;

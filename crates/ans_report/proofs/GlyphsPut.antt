@@ -1,6 +1,7 @@
 -- The lines of glyphs, whose offsets share all but their last digit by tens.
 use Rattle.std.proofs.Common.{◌≡◌, ◌↔◌, ℕ, ◌+◌, ◌*◌, ◌/◌, ◌%◌, ◌^◌, ◌<◌, ◌≤◌, List, [], ◌∷◌, ◌++◌, length}
-use Rattle.std.proofs.Common.{get_or, drop, map, codes, decimal, Option, Ok, Err, refl, sym, ap, ap₂, ◌∙◌, arith, append_assoc}
+use Rattle.std.proofs.Common.{get_or, drop, map, codes, decimal, Option, Ok, Err, refl, sym, ap, ap₂, ◌∙◌, arith}
+use Rattle.std.proofs.Common.{append_assoc}
 use Rattle.std.specs.Prelude.{Result, IsOk, OnOk}
 use Rattle.std.specs.Fmt.{digits}
 use Rattle.std.specs.List.{concat}
@@ -94,8 +95,8 @@ module _ {W : Type 0} {contents : W → Option (List ℕ)} {first : Outbox W} (o
   one_line_more at i early h line c rest =
       h c (Puts-same (sym (ap (run_lines at) (drop_more run i 0 early))) (Puts-then line rest))
 
-  pub run_put : {now : Outbox W} (at i : ℕ) → length run ≤ i → PutsWithRest contents first offset run now at (drop i run)
-      → Puts contents first now (run_lines offset run)
+  pub run_put : {now : Outbox W} (at i : ℕ) → length run ≤ i
+      → PutsWithRest contents first offset run now at (drop i run) → Puts contents first now (run_lines offset run)
   run_put {now} at i late h = h now (Puts-same (sym (ap (run_lines at) (drop_all i run late))) (Puts-nothing now))
 
 -- the lines of a front and of a run behind it

@@ -13,5 +13,6 @@ returns-clause-puts g c =
       | then-offset-tens-ge10 w ↦ rw w.tens-is (w.go_to.ensures.ready, omega (arith, w.go_to.ensures.near))
       | else-offset-tens-ge10 w ↦ rw w.tens-is (c.requires, omega (arith, w.if-offset-tens-ge10.false))
     ] in
-    Puts-same (glyph_line_is tens offset c.args.byte (offset - tens.start) ready.0 ready.1 (omega (arith, ready.0.begin)))
+    Puts-same
+    (glyph_line_is tens offset c.args.byte (offset - tens.start) ready.0 ready.1 (omega (arith, ready.0.begin)))
     (Puts-then (rw c.as_slice.ensures.value at c.put.ensures) (rw c.rest_of_glyph.ensures at c.put-2.ensures))

@@ -8,5 +8,6 @@ invariant-loop-byte g l = record {
   at_is : l.at ≡ l.fn.offset + l.byte-index;
   ready : AreReady l.self.tens l.at;
   same : l.self.out.ghost_name ≡ l.fn.self.out.ghost_name;
-  puts : PutsWithRest g.W.Write.contents l.fn.self.out.now l.fn.offset l.run l.self.out.now l.at (drop l.byte-index l.run);
+  puts : PutsWithRest g.W.Write.contents l.fn.self.out.now l.fn.offset l.run l.self.out.now l.at
+      (drop l.byte-index l.run);
 }
