@@ -51,7 +51,10 @@ fn likely_parts(content: &[u8], fault: Fault) -> &'static [Part]
     requires { length content.now ≤ longest_file }
 {
     let before = fault.offset.min(content.len());
-    match (fault.cause, memmem::find(&content[..before], CLEAR).is_some()) {
+    match (
+        fault.cause,
+        memmem::find(&content[..before], CLEAR).is_some(),
+    ) {
         (Cause::UnknownCell { .. }, false) => &[Part::Screen, Part::Colours],
         (Cause::UnknownCell { .. }, true) => &[Part::Colours, Part::Screen],
         (_, false) => &[Part::Cursor, Part::Wrap, Part::Saved],

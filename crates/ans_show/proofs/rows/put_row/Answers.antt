@@ -21,7 +21,7 @@ line_is : (markup : Markup) (p : Picture) (row : ℕ) (bytes attributes text : L
     → attributes ≡ attributes_of_row p row → text ≡ cells_shown markup 256 (zip2 cell bytes attributes)
     → (length (run_end_in markup) ≤ length text)
     × (drop (length (run_end_in markup)) text ++ (run_end_in markup ++ end_in markup)
-        ≡ line_in markup (cells_of_row p row))
+    ≡ line_in markup (cells_of_row p row))
 line_is markup p row bytes attributes text whole columns size glyphs colours is =
     let cells = cells_of_row p row in
     let zipped = ap₂ (λ (x y : List ℕ). zip2 cell x y) glyphs colours ∙ cells_zipped cells in

@@ -33,7 +33,7 @@ returns-in_ok-class-in-Ok-clause-least g c =
     let passing : IsPassingClass z content c.in-Ok.passing = rw c.in-Ok.is at c.in_ok-cleared.ensures.passes in
     let least : IsLeast z content class =
     least_by_parts z content class (good_when_cleared z content c.in-Ok.passing.class passing.good)
-        c.in_ok-class-in-Ok.ensures.found in
+    c.in_ok-class-in-Ok.ensures.found in
     record {
       least = least;
       nothing = tt;
