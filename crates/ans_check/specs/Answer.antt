@@ -6,7 +6,7 @@ use Rattle.std.specs.Str.{bytes_eq}
 use Rattle.clap.specs.Words.{Text}
 use Rattle.ans_mend.specs.MendedText.{mended_text, unmended_text}
 use Rattle.ans_redraw.specs.RedrawnText.{redrawn_text, unredrawn_text}
-use Rattle.ans_options.specs.CommandLine.{HasKindAmong, IsAskedBy, RanOutOfMemory, faults_of}
+use Rattle.ans_options.specs.CommandLine.{HasKindAmong, IsAskedBy, RanOutOfMemory, faults_of, words_asked}
 use Rattle.ans_options.specs.Topics.{topic_of}
 use Rattle.ans_options.specs.declared.command.Asked.{Asked}
 use Rattle.ans_options.specs.declared.command.Asked.TheVariants as asked
@@ -151,19 +151,19 @@ EndsAsTold remaining contents is_file is_standard is_missing (asked.Table form n
 EndsAsTold remaining contents is_file is_standard is_missing (asked.Meaning topic) output output_after ending =
     PrintsHelp contents output output_after (meaning_text topic) ending
 
--- The words ask for something, and the program ends with it. Words that clap reads have no fault.
+-- The words ask for something, and the program ends with it. Words that clap reads, with their command, have no fault.
 pub record EndsAsAsked {R W : Type 0} (remaining : R → Option (List ℕ)) (contents : W → Option (List ℕ))
     (is_file : Text → R → Type 0) (is_standard : R → Type 0) (is_missing : Text → Type 0) (words : List Text)
     (output output_after : Tried W) (ending : Ending) : Type 0 where
   pub asked : Asked
   pub asked_by : IsAskedBy words asked
-  pub faultless : topic_of words ≡ None → faults_of words ≡ []
+  pub faultless : topic_of words ≡ None → faults_of (words_asked words) ≡ []
   pub ends : EndsAsTold remaining contents is_file is_standard is_missing asked output output_after ending
 
--- The error is one that these words can have. Where they have no fault, it is want of memory.
+-- The error is one that these words, with their command, can have. If they have no fault, it is want of memory.
 pub record IsRefusalOf (words : List Text) (refusal : WordsError) : Type 0 where
-  pub kind : HasKindAmong (faults_of words) refusal
-  pub memory : faults_of words ≡ [] → RanOutOfMemory refusal
+  pub kind : HasKindAmong (faults_of (words_asked words)) refusal
+  pub memory : faults_of (words_asked words) ≡ [] → RanOutOfMemory refusal
 
 -- Help was asked for, and is printed; or there was no memory for its text. Which text it is, is clap's.
 abbrev pub EndsHelp : {W : Type 0} → (W → Option (List ℕ)) → Tried W → Tried W → Ending → Type 0

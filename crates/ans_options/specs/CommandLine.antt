@@ -1,8 +1,8 @@
 -- The command line, and the options that its words give.
 use Rattle.std.specs.Prelude.{map, fold, ◌≡◌, ◌≢◌, ◌↔◌, not, Bool, true, false, List, [], ◌∷◌, Option, Some, codes}
 use Rattle.std.specs.Prelude.{option_map, string_bytes, IsSomeAnd, IsTrue, MatchOption, if◌then◌else◌, unwrap_or, ⊤}
-use Rattle.std.specs.Prelude.{◌||◌, ◌≤◌, ℕ, IfSome, pos}
-use Rattle.std.specs.List.{list_any}
+use Rattle.std.specs.Prelude.{◌||◌, ◌&&◌, ◌≤◌, ℕ, IfSome, nat_eq, pos}
+use Rattle.std.specs.List.{list_any, starts_with}
 use Rattle.std.specs.Option.{option_map_or}
 use Rattle.std.specs.Str.{bytes_eq}
 use Rattle.std.specs.Str.Parse.{IsNumeral, digits_value, without_leading_plus}
@@ -313,9 +313,22 @@ AsksAs (asked.Meaning topic) sub = ⊥
 abbrev pub IsReadAs : List Text → Asked → Type 0
 IsReadAs words a = IsSomeAnd (subcommand_of anscheck (words_meant words)) (AsksAs a)
 
--- the words ask for this: where they name a topic for what it means, and else for what clap reads in them
+-- Whether a first word names a file: it is no command's name, is not `help`, and does not begin with `-`.
+abbrev pub names_file : Text → Bool
+names_file word =
+    not (bytes_eq word (codes "help"))
+    && not (list_any (bytes_eq word) command_names)
+    && not (starts_with nat_eq word (codes "-"))
+
+-- The words with their command: if the first word after the program's name names a file, `why` comes before it.
+abbrev pub words_asked : List Text → List Text
+words_asked (program ∷ word ∷ more) =
+    program ∷ (if names_file word then command_name Why ∷ word ∷ more else word ∷ more)
+words_asked words = words
+
+-- the words ask for this: if they name a topic for what it means, and else for what clap reads in them and their command
 abbrev pub IsAskedBy : List Text → Asked → Type 0
-IsAskedBy words a = MatchOption (topic_of words) (IsReadAs words a) (λ topic. a ≡ asked.Meaning topic)
+IsAskedBy words a = MatchOption (topic_of words) (IsReadAs (words_asked words) a) (λ topic. a ≡ asked.Meaning topic)
 
 -- the kinds that the first fault of what the words mean may have; to ask for help or for the version counts as a fault
 abbrev pub faults_of : List Text → Kinds

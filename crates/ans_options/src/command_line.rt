@@ -16,6 +16,7 @@ ghost use Rattle.ans_options.specs.CommandLine.{number_asked, number_rule};
 ghost use Rattle.ans_model.specs.MendFlags.{row_of_flag, with_given};
 ghost use Rattle.ans_model.specs.Text.Words.{texts_of};
 ghost use Rattle.ans_options.specs.CommandLine.{AsksAs, IsAskedBy, IsReadAs, files_of, is_table, table_form_asked};
+ghost use Rattle.ans_options.specs.CommandLine.{names_file, words_asked};
 ghost use Rattle.ans_options.specs.Topics.{topic_of};
 ghost use Rattle.ans_options.specs.declared.command.Command.TheVariants.{Check, Show, Table, Mend};
 ghost use Rattle.ans_model.specs.declared.mends.TheConstants.Mends as no_mends;
@@ -147,17 +148,18 @@ Exit status:
   1  The file is refused, or would be too long; standard error says which
   2  There is no answer; standard error says why";
 
-/// How the program is used, where words name no command. A drawing's name alone is such a word.
+/// How the program is used.
 const PROGRAM_USAGE: &str = "\
-anscheck <COMMAND>
-
-  tip: to begin with a drawing, 'anscheck why drawing.ans'";
+anscheck <FILE>
+       anscheck <COMMAND>";
 
 /// The last lines of the program's help.
 const PROGRAM_END: &str = with_exit_statuses!(
     "\
+anscheck FILE is anscheck why FILE; a file named check is ./check.
+
 Examples:
-  anscheck why drawing.ans
+  anscheck drawing.ans
   anscheck mend drawing.ans > mended.ans
   anscheck redraw drawing.ans > redrawn.ans
   anscheck check --cleared drawing.ans
@@ -667,10 +669,33 @@ fn read_words(alloc: Global, words: &[&str]) -> Result<Asked, WordsError>
     read_matches(alloc, &matches)
 }
 
+/// Whether a first word names a file: it is no command's name, is not `help`, and does not begin with `-`.
+fn names_file(word: &str) -> bool
+    ensures { result ≡ names_file word.now }
+{
+    word != "help" && command_named(word).is_none() && !word.as_bytes().starts_with(b"-")
+}
+
+/// The words with their command: `why` before a first word that names a file.
+fn words_asked<'a>(alloc: Global, words: &[&'a str]) -> Result<Vec<&'a str>, AllocError>
+    ensures { IfOk result (λ v. texts_of v.items ≡ words_asked (texts_of words.now)) }
+{
+    match words {
+        [program, word, more @ ..] if names_file(word) => {
+            let mut asked = Vec::from_slice(alloc, &[*program, "why", *word])?;
+            asked.extend_from_slice(more)?;
+            Ok(asked)
+        }
+        _ => Vec::from_slice(alloc, words),
+    }
+}
+
 /// Reads the program's words, its own name first: `anscheck why [FILE]`, `anscheck mend` with its flags and
 /// `[FILE]`, `anscheck redraw [FILE]`, `anscheck needs [FILE]`, `anscheck check` or `anscheck show` with its
 /// flags and `[FILE]`, `anscheck sauce [FILE]`, `anscheck tokens [FILE]`, or `anscheck table` with its flags
-/// and `[FILE]..`.
+/// and `[FILE]..`. `anscheck FILE` is `anscheck why FILE`: a first word that is no command's name, is not `help`
+/// and does not begin with `-` names a file, and `why` is put before it. A command's name is the command, so a
+/// file of that name is given as `./check`.
 /// A part of the start is known where its flag is given, as `--known-cursor`, and all are where `--cleared`
 /// is. With `show` all are known, too, where neither such a flag nor `--any` is given; with `check` `--any`
 /// changes nothing. Cells are asked for where `--cells` is given. A picture comes as a page where `--html`
@@ -689,17 +714,22 @@ fn read_words(alloc: Global, words: &[&str]) -> Result<Asked, WordsError>
 /// of the kinds that their first fault may have. To ask for help or for the version counts as a fault.
 pub fn asked(alloc: Global, words: &[&str]) -> Result<Asked, WordsError>
     ensures ok { IfOk result (IsAskedBy (texts_of words.now)) }
-    ensures accepted { IfOk result (λ a. topic_of (texts_of words.now) ≡ None → faults_of (texts_of words.now) ≡ []) }
+    ensures accepted { IfOk result (λ a.
+        topic_of (texts_of words.now) ≡ None → faults_of (words_asked (texts_of words.now)) ≡ []) }
     ensures errors { IfErr result (λ e.
-        (topic_of (texts_of words.now) ≡ None) × IsErrorOf (texts_of words.now) e) }
+        (topic_of (texts_of words.now) ≡ None) × IsErrorOf (words_asked (texts_of words.now)) e) }
 {
-    match topic_of(words) {
-        Some(topic) => Ok(Asked::Meaning(topic)),
-        None => read_words(alloc, words),
+    if let Some(topic) = topic_of(words) {
+        return Ok(Asked::Meaning(topic));
     }
+    let Ok(asked) = words_asked(alloc, words) else {
+        return Err(WordsError::Memory);
+    };
+    read_words(alloc, asked.as_slice())
 }
 
-/// Reads the options and the file from the program's words, as [`asked`] does, and fails as it does.
+/// Reads the options and the file from the program's words, as [`asked`] does, and fails as it does. It reads the
+/// words as they are, and puts no `why` before a file's name.
 /// The file's name comes as it is given, `-` too. Of a table the options alone come, and no name. Words that
 /// ask what a fault or a note means have no options: of them comes what `clap` says, which knows no such help.
 pub fn options(alloc: Global, words: &[&str]) -> Result<(Options, Option<String>), WordsError>

@@ -4,9 +4,10 @@
 //! name of one file, the form of a table and the names of many, the [`Mends`] and the name of a file to be
 //! mended, or the name of a file to be redrawn; or a [`WordsError`]. Before that it sees whether they ask for
 //! help on a [`Topic`], a fault or a note by its name, which `clap` knows nothing of.
-//! [`options`] gives the options alone with the one name. Which words ask for what stands in
-//! `specs/CommandLine.antt`, the topics in `specs/Topics.antt`; there `help` stands for `--help`, and
-//! `help COMMAND` for `COMMAND --help`. Laws of it are in `ans_check_laws`.
+//! A drawing's name in the place of a command has `why` put before it (`words_asked`).
+//! [`options`] gives the options alone with the one name, and reads the words as they are. Which words ask for
+//! what is in `specs/CommandLine.antt`, the topics in `specs/Topics.antt`; there `help` means `--help`, and
+//! `help COMMAND` means `COMMAND --help`. Laws of it are in `ans_check_laws`.
 //!
 //! But for want of memory the answer is a function of the words: there are options exactly where the
 //! words have no fault (`faults_of`), and an error has one of the kinds that their first fault may

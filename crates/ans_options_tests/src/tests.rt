@@ -15,6 +15,7 @@ macro_rules! words {
 }
 
 mod command_line;
+mod drawings;
 mod faults;
 mod mends;
 mod redraws;
