@@ -28,7 +28,7 @@ _anscheck() {{
     local commands="{commands}" flags="--help"
     COMPREPLY=()
     if [ "$COMP_CWORD" -eq 1 ]; then
-        mapfile -t COMPREPLY < <(compgen -W "$commands help --help --version" -- "$word")
+        mapfile -t COMPREPLY < <(compgen -f -W "$commands help --help --version" -- "$word")
     elif [ "$command" = help ]; then
         mapfile -t COMPREPLY < <(compgen -W "$commands {topics}" -- "$word")
     elif [[ " {valued} " == *" $before "* ]]; then
@@ -56,6 +56,7 @@ _anscheck() {{
     if (( CURRENT == 2 )); then
         commands+=('help:Print help on a command, a fault or a note' '--help:Print help' '--version:Print version')
         _describe 'command' commands
+        _files
         return
     fi
     case $words[2] in
@@ -123,7 +124,7 @@ def zsh(commands, flags):
 
 
 def fish(commands, flags):
-    first = 'complete -c anscheck -n "not __fish_seen_subcommand_from $commands" -f'
+    first = 'complete -c anscheck -n "not __fish_seen_subcommand_from $commands"'
     lines = [f"{first} -a {name} -d '{quoted(what)}'" for name, what in commands.items()]
     lines.append(f"{first} -a help -d 'Print help on a command, a fault or a note'")
     for words in (" ".join(commands), " ".join(TOPICS)):

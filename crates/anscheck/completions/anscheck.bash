@@ -5,7 +5,7 @@ _anscheck() {
     local commands="why mend redraw needs check show sauce tokens table" flags="--help"
     COMPREPLY=()
     if [ "$COMP_CWORD" -eq 1 ]; then
-        mapfile -t COMPREPLY < <(compgen -W "$commands help --help --version" -- "$word")
+        mapfile -t COMPREPLY < <(compgen -f -W "$commands help --help --version" -- "$word")
     elif [ "$command" = help ]; then
         mapfile -t COMPREPLY < <(compgen -W "$commands F1 F2 F3 F4 F5 F6 F7 F8 F9 F10 F11 F12 F13 F14 F15 F16 F17 F19 F20 F21 F22 F23 F24 F25 N1 N2 N3 N4 N5 N6" -- "$word")
     elif [[ " --lines --width " == *" $before "* ]]; then
