@@ -326,7 +326,7 @@ words_asked (program ∷ word ∷ more) =
     program ∷ (if names_file word then command_name Why ∷ word ∷ more else word ∷ more)
 words_asked words = words
 
--- the words ask for this: if they name a topic for what it means, and else for what clap reads in them and their command
+-- the words ask for this: what a topic means if they name one, and else what clap reads in them with their command
 abbrev pub IsAskedBy : List Text → Asked → Type 0
 IsAskedBy words a = MatchOption (topic_of words) (IsReadAs (words_asked words) a) (λ topic. a ≡ asked.Meaning topic)
 
