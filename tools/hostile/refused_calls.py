@@ -80,6 +80,7 @@ TEST_ERRORS = (b"error: AllocError\n", b"error: AllocFailed", b"Error: AllocErro
 OF_REJECTED_WORDS = {
     "tests::cut_off::rejected_words_end_alike_where_nothing_can_be_said",
     "tests::endings::words_without_options_have_their_endings",
+    "tests::drawings::other_words_stay_as_they_are",
     "tests::faults::help_takes_one_command",
     "tests::faults::mistakes_have_their_kinds",
     "tests::mends::wrong_words_of_mending_have_their_kind",

@@ -1,10 +1,9 @@
 -- What the words mean, by their form.
-use Rattle.std.proofs.Common.{◌≡◌, ◌≢◌, ◌≤◌, ◌<◌, ◌∙◌, ◌&&◌, Bool, true, false, true≢false, not, nat_eq}
-use Rattle.std.proofs.Common.{List, [], ◌∷◌, length, Option, Some, None}
+use Rattle.std.proofs.Common.{◌≡◌, ◌≢◌, ◌≤◌, ◌<◌, false, List, [], ◌∷◌, length, Option, Some, None}
 use Rattle.std.proofs.Common.{arith, codes, refl, slice_index_or}
-use Rattle.std.specs.Prelude.{IfNone, IfSome, is_some}
+use Rattle.std.specs.Prelude.{IfNone, is_some}
 use Rattle.std.specs.Borrow.{Bor}
-use Rattle.std.specs.List.{list_any, starts_with}
+use Rattle.std.specs.List.{list_any}
 use Rattle.std.specs.Str.{bytes_eq}
 use Rattle.std.proofs.lemmas.Slice.Eq.{bytes_eq-Decides}
 use Rattle.clap.specs.Words.{Text}
@@ -14,8 +13,7 @@ use Rattle.ans_options.specs.declared.command.Command.TheVariants.{Redraw}
 use Rattle.ans_options.specs.declared.command.Form.TheVariants.{Terminal}
 use Rattle.ans_model.specs.declared.mends.TheConstants.Mends as no_mends
 use Rattle.ans_options.specs.declared.command.TableForm.TheVariants.{Headed}
-use Rattle.ans_options.specs.CommandLine.{IsNoCommand, command_name, command_names, help_on, is_mend, is_redraw}
-use Rattle.ans_options.specs.CommandLine.{is_table, names_file}
+use Rattle.ans_options.specs.CommandLine.{IsNoCommand, command_names, help_on, is_mend, is_redraw, is_table}
 use Rattle.ans_options.specs.CommandLine.{words_meant}
 use Rattle.ans_model.specs.declared.mends.Mends.{Mends}
 use Rattle.ans_options.specs.declared.command.TableForm.{TableForm}
@@ -39,38 +37,6 @@ no_command_name name h =
       unequal name (codes "tokens") (h Tokens),
       unequal name (codes "table") (h (Table Headed)),
     ) refl
-
--- the name of a command is among theirs
-named : (c : Command) → list_any (bytes_eq (command_name c)) command_names ≡ true
-named Why = refl
-named Check = refl
-named (Show form) = refl
-named Sauce = refl
-named Tokens = refl
-named Needs = refl
-named (Table form) = refl
-named (Mend mends) = refl
-named Redraw = refl
-
--- a name is among theirs exactly if a command of that name is found
-pub is_named : (name : Text) (found : Option Command) → IfSome found (λ c. name ≡ command_name c)
-    → IfNone found (IsNoCommand name) → list_any (bytes_eq name) command_names ≡ is_some found
-is_named name None some none = no_command_name name none
-is_named name (Some c) some none = rw some (named c)
-
--- what is neither `help` nor a command's name names a file exactly if it does not begin with `-`
-pub no_word : (name : Text) (found : Option Command) (dash : Bool) → true ≡ not (bytes_eq name (codes "help"))
-    → IfSome found (λ c. name ≡ command_name c) → IfNone found (IsNoCommand name) → is_some found ≡ false
-    → dash ≡ starts_with nat_eq name (codes "-") → not dash ≡ names_file name
-no_word name found dash other some none unfound is =
-    rw is (go (bytes_eq name (codes "help")) (list_any (bytes_eq name) command_names)
-    (starts_with nat_eq name (codes "-")) other (is_named name found some none ∙ unfound))
-  where
-    go : (help command dash : Bool) → true ≡ not help → command ≡ false
-        → not dash ≡ (not help && not command && not dash)
-    go false false dash other none = refl
-    go true command dash other none = absurd (true≢false other)
-    go false true dash other none = absurd (true≢false none)
 
 -- `help` on what is no command
 pub help_on_none : (topic : List (Bor Text)) (none : Bor Text) (found : Option Command) → 1 ≤ length topic

@@ -1,7 +1,7 @@
 -- The command line, and the options that its words give.
 use Rattle.std.specs.Prelude.{map, fold, ◌≡◌, ◌≢◌, ◌↔◌, not, Bool, true, false, List, [], ◌∷◌, Option, Some, codes}
 use Rattle.std.specs.Prelude.{option_map, string_bytes, IsSomeAnd, IsTrue, MatchOption, if◌then◌else◌, unwrap_or, ⊤}
-use Rattle.std.specs.Prelude.{◌||◌, ◌&&◌, ◌≤◌, ℕ, IfSome, nat_eq, pos}
+use Rattle.std.specs.Prelude.{◌||◌, ◌&&◌, ◌==◌, ◌≤◌, ℕ, IfSome, nat_eq, pos}
 use Rattle.std.specs.List.{list_any, starts_with}
 use Rattle.std.specs.Option.{option_map_or}
 use Rattle.std.specs.Str.{bytes_eq}
@@ -313,12 +313,13 @@ AsksAs (asked.Meaning topic) sub = ⊥
 abbrev pub IsReadAs : List Text → Asked → Type 0
 IsReadAs words a = IsSomeAnd (subcommand_of anscheck (words_meant words)) (AsksAs a)
 
--- Whether a first word names a file: it is no command's name, is not `help`, and does not begin with `-`.
+-- a dot or a slash: no command's name has one, nor does `help`
+abbrev pub is_dot_or_slash : ℕ → Bool
+is_dot_or_slash byte = byte == 0x2E || byte == 0x2F
+
+-- Whether a first word names a file: it has a dot or a slash, and does not begin with `-`.
 abbrev pub names_file : Text → Bool
-names_file word =
-    not (bytes_eq word (codes "help"))
-    && not (list_any (bytes_eq word) command_names)
-    && not (starts_with nat_eq word (codes "-"))
+names_file word = list_any is_dot_or_slash word && not (starts_with nat_eq word (codes "-"))
 
 -- The words with their command: if the first word after the program's name names a file, `why` comes before it.
 abbrev pub words_asked : List Text → List Text

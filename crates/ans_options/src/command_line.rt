@@ -1,6 +1,7 @@
 //! The command line, and the options that its words give.
 ghost use Rattle.std.specs.Prelude.{◌≡◌, true, IfOk, option_map, string_bytes, codes, map, IfSome, IfNone, IfErr};
 ghost use Rattle.std.specs.Prelude.{IsSomeAnd, IsSome, None, IsTrue, ◌↔◌, ◌≢◌, false, [], ◌∷◌};
+ghost use Rattle.std.specs.List.{list_any};
 ghost use Rattle.clap.specs.Words.{app_of, first_of, found_of, rows_of, rule_of, subcommand_rows_of, takes};
 ghost use Rattle.clap.specs.Words.{fault_of, subcommand_of};
 ghost use Rattle.ans_model.specs.Screen.StartClass.{none_known};
@@ -16,7 +17,7 @@ ghost use Rattle.ans_options.specs.CommandLine.{number_asked, number_rule};
 ghost use Rattle.ans_model.specs.MendFlags.{row_of_flag, with_given};
 ghost use Rattle.ans_model.specs.Text.Words.{texts_of};
 ghost use Rattle.ans_options.specs.CommandLine.{AsksAs, IsAskedBy, IsReadAs, files_of, is_table, table_form_asked};
-ghost use Rattle.ans_options.specs.CommandLine.{names_file, words_asked};
+ghost use Rattle.ans_options.specs.CommandLine.{is_dot_or_slash, names_file, words_asked};
 ghost use Rattle.ans_options.specs.Topics.{topic_of};
 ghost use Rattle.ans_options.specs.declared.command.Command.TheVariants.{Check, Show, Table, Mend};
 ghost use Rattle.ans_model.specs.declared.mends.TheConstants.Mends as no_mends;
@@ -148,15 +149,16 @@ Exit status:
   1  The file is refused, or would be too long; standard error says which
   2  There is no answer; standard error says why";
 
-/// How the program is used.
+/// How the program is used, where words name no command. A drawing's name without a dot or a slash is such a word.
 const PROGRAM_USAGE: &str = "\
-anscheck <FILE>
-       anscheck <COMMAND>";
+anscheck <COMMAND>
+
+  tip: to begin with a drawing, 'anscheck why drawing.ans'";
 
 /// The last lines of the program's help.
 const PROGRAM_END: &str = with_exit_statuses!(
     "\
-anscheck FILE is anscheck why FILE; a file named check is ./check.
+If FILE has a dot or a slash, anscheck FILE is anscheck why FILE.
 
 Examples:
   anscheck drawing.ans
@@ -669,11 +671,17 @@ fn read_words(alloc: Global, words: &[&str]) -> Result<Asked, WordsError>
     read_matches(alloc, &matches)
 }
 
-/// Whether a first word names a file: it is no command's name, is not `help`, and does not begin with `-`.
+fn has_dot_or_slash(bytes: &[u8]) -> bool
+    ensures { result ≡ list_any is_dot_or_slash bytes.now }
+{
+    bytes.iter().any(|byte| *byte == b'.' || *byte == b'/')
+}
+
+/// Whether a first word names a file: it has a dot or a slash, and does not begin with `-`.
 fn names_file(word: &str) -> bool
     ensures { result ≡ names_file word.now }
 {
-    word != "help" && command_named(word).is_none() && !word.as_bytes().starts_with(b"-")
+    has_dot_or_slash(word.as_bytes()) && !word.as_bytes().starts_with(b"-")
 }
 
 /// The words with their command: `why` before a first word that names a file.
@@ -693,9 +701,9 @@ fn words_asked<'a>(alloc: Global, words: &[&'a str]) -> Result<Vec<&'a str>, All
 /// Reads the program's words, its own name first: `anscheck why [FILE]`, `anscheck mend` with its flags and
 /// `[FILE]`, `anscheck redraw [FILE]`, `anscheck needs [FILE]`, `anscheck check` or `anscheck show` with its
 /// flags and `[FILE]`, `anscheck sauce [FILE]`, `anscheck tokens [FILE]`, or `anscheck table` with its flags
-/// and `[FILE]..`. `anscheck FILE` is `anscheck why FILE`: a first word that is no command's name, is not `help`
-/// and does not begin with `-` names a file, and `why` is put before it. A command's name is the command, so a
-/// file of that name is given as `./check`.
+/// and `[FILE]..`. `anscheck FILE` is `anscheck why FILE`: a first word that has a dot or a slash and does not
+/// begin with `-` names a file, and `why` is put before it. No command's name has one. A file whose name has
+/// neither is given as `./NAME`.
 /// A part of the start is known where its flag is given, as `--known-cursor`, and all are where `--cleared`
 /// is. With `show` all are known, too, where neither such a flag nor `--any` is given; with `check` `--any`
 /// changes nothing. Cells are asked for where `--cells` is given. A picture comes as a page where `--html`

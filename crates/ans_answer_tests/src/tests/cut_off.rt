@@ -136,7 +136,7 @@ fn what_is_said_may_be_cut_off(rt: HostRuntime) -> Result<(), AllocError> {
 fn rejected_words_end_alike_where_nothing_can_be_said(rt: HostRuntime) -> Result<(), AllocError> {
     for words in [
         ["anscheck", "check", "--bogus"].as_slice(),
-        &["anscheck", "help", "other"],
+        &["anscheck", "other"],
         &["anscheck", "check", "f", "g"],
     ] {
         let answered = answer_in(&rt, words, Shelf::new(&[], NAMES), (4096, 0))?;

@@ -9,44 +9,62 @@ use std::alloc::AllocError;
 use std::process::Abort;
 
 /// Words that ask why of a file, and the file.
-static DRAWINGS: [(&[&str], Option<&str>); 20] = words! {
+static DRAWINGS: [(&[&str], Option<&str>); 22] = words! {
     "drawing.ans" => Some("drawing.ans");
+    "a.ans" => Some("a.ans");
+    "a/b" => Some("a/b");
+    "/a" => Some("/a");
+    "a." => Some("a.");
+    "." => Some(".");
+    ".." => Some("..");
     "./check" => Some("./check");
     "./help" => Some("./help");
     "./-" => Some("./-");
     "check.ans" => Some("check.ans");
-    "chek" => Some("chek");
-    "checks" => Some("checks");
-    "chec" => Some("chec");
-    "Check" => Some("Check");
-    "Help" => Some("Help");
-    "helps" => Some("helps");
-    "F20" => Some("F20");
-    "" => Some("");
-    " -" => Some(" -");
-    "drawing.ans" "--" => Some("drawing.ans");
+    "check/" => Some("check/");
+    "help.me" => Some("help.me");
+    " -.ans" => Some(" -.ans");
+    "a-.ans" => Some("a-.ans");
+    "a.ans" "--" => Some("a.ans");
     "why" => None;
-    "why" "drawing.ans" => Some("drawing.ans");
+    "why" "a.ans" => Some("a.ans");
+    "why" "drawing" => Some("drawing");
     "why" "why" => Some("why");
     "why" "check" => Some("check");
     "why" "--" "--cleared" => Some("--cleared");
 };
 
 /// Words that ask for nothing, and of which kind `clap` says they are.
-static OTHERS: [Row; 13] = words! {
-    "drawing.ans" "other.ans" => UnknownArgument;
-    "chek" "drawing.ans" => UnknownArgument;
-    "drawing.ans" "check" => UnknownArgument;
-    "drawing.ans" "--cleared" => UnknownArgument;
-    "drawing.ans" "--help" => DisplayHelp;
-    "drawing.ans" "help" => UnknownArgument;
-    "help" "drawing.ans" => InvalidSubcommand;
+static OTHERS: [Row; 29] = words! {
+    "" => InvalidSubcommand;
+    "chek" => InvalidSubcommand;
+    "chek" "f.ans" => InvalidSubcommand;
+    "chek" "--cleared" => InvalidSubcommand;
+    "Check" => InvalidSubcommand;
+    "checks" => InvalidSubcommand;
+    "Help" => InvalidSubcommand;
+    "F20" => InvalidSubcommand;
+    "drawing" => InvalidSubcommand;
+    "drawing-ans" => InvalidSubcommand;
+    "drawing,ans" => InvalidSubcommand;
+    "drawing0ans" => InvalidSubcommand;
+    "a.ans" "b.ans" => UnknownArgument;
+    "a.ans" "check" => UnknownArgument;
+    "a.ans" "help" => UnknownArgument;
+    "a.ans" "--flag" => UnknownArgument;
+    "a.ans" "--cleared" => UnknownArgument;
+    "a.ans" "--help" => DisplayHelp;
+    "help" "a.ans" => InvalidSubcommand;
     "help" "F20" "F21" => InvalidSubcommand;
-    "--" "drawing.ans" => InvalidSubcommand;
+    "--" "a.ans" => InvalidSubcommand;
     "-" => InvalidSubcommand;
-    "--cleared" "drawing.ans" => UnknownArgument;
-    "-drawing.ans" => UnknownArgument;
+    "-a.ans" => UnknownArgument;
+    "-./a" => UnknownArgument;
+    "--cleared" "a.ans" => UnknownArgument;
+    "--flag=a.ans" => UnknownArgument;
     "help" => DisplayHelp;
+    "check" "a.ans" "b.ans" => UnknownArgument;
+    "why" "a.ans" "b.ans" => UnknownArgument;
 };
 
 /// The file of which words ask why, or what `clap` says of them. It fails where memory runs out.
@@ -76,7 +94,7 @@ fn file_of(
 }
 
 #[test]
-fn a_first_word_names_a_command_or_a_file(rt: HostRuntime) -> Result<(), AllocError> {
+fn a_first_word_with_a_dot_or_a_slash_names_a_file(rt: HostRuntime) -> Result<(), AllocError> {
     for (words, file) in &DRAWINGS {
         match file_of(&rt, words)? {
             Ok(name) => assert!(rt; name.as_ref().map(|f| f.as_str()) == *file),
@@ -105,5 +123,6 @@ fn other_words_stay_as_they_are(rt: HostRuntime) -> Result<(), AllocError> {
         expect_nothing(&rt, words, *kind)?;
     }
     expect_nothing(&rt, &[], MissingSubcommand)?;
-    expect_nothing(&rt, &["anscheck"], MissingSubcommand)
+    expect_nothing(&rt, &["anscheck"], MissingSubcommand)?;
+    expect_nothing(&rt, &["anscheck.exe", "chek"], InvalidSubcommand)
 }
