@@ -16,7 +16,7 @@ use crate::screens::Screens;
 use ans_model::fault::{Cause, Fault};
 use ans_model::start::Start;
 use ans_sauce::Parts;
-use memchr::memmem;
+use memchr::arch::all::twoway::Finder;
 use std::alloc::AllocError;
 
 /// The class that a content needs, and its fault from all starts, where it needs anything.
@@ -51,10 +51,8 @@ fn likely_parts(content: &[u8], fault: Fault) -> &'static [Part]
     requires { length content.now ≤ longest_file }
 {
     let before = fault.offset.min(content.len());
-    match (
-        fault.cause,
-        memmem::find(&content[..before], CLEAR).is_some(),
-    ) {
+    let found = Finder::new(CLEAR).find(&content[..before], CLEAR);
+    match (fault.cause, found.is_some()) {
         (Cause::UnknownCell { .. }, false) => &[Part::Screen, Part::Colours],
         (Cause::UnknownCell { .. }, true) => &[Part::Colours, Part::Screen],
         (_, false) => &[Part::Cursor, Part::Wrap, Part::Saved],
