@@ -32,7 +32,7 @@ BUILDS = {
 }
 DOCS = "share/doc/anscheck"
 DOCUMENTS = ["README.md", "CHANGELOG.md", "library/README.md", "library/tell.c", "library/tell.rs", "library/tell.py"]
-PAGES = ["MANUAL", "FAULTS", "FOLDERS", "PLAYERS", "COLOURS", "PROFILE", "GLOSSARY", "PROVED", "SECURITY"]
+PAGES = ["MANUAL", "FAULTS", "FOLDERS", "PLAYERS", "PROFILE", "GLOSSARY", "PROVED", "SECURITY"]
 # Files of the tree, and where they stand in the archive.
 PLACES = {
     "docs/anscheck.1": "share/man/man1/anscheck.1",
