@@ -76,6 +76,7 @@ ROWS = [
     Row("made_drawings", "why, on mistakes that artists make", "tools/runs/made_drawings.py {program}", 0.1, 0.1),
     Row("definition_files", "whether DEFINITIONS.md lists the files and README counts them",
         "tools/definitions/files.py --check", 0.1, 0.1),
+    Row("words", "the length, the links and the words of the pages", "tools/pages.py", 0.1, 0.1, packages="git"),
     Row("completions", "whether the completions are of the texts of help", "tools/completions.py --check", 0.1, 0.1),
     Row("manual", "whether MANUAL.md is of the manual page", "tools/manual.py --check", 0.1, 0.1, packages="mandoc"),
     Row("meanings", "whether FAULTS.md quotes the program's texts", "tools/runs/meanings.py", 0.1, 0.1,
