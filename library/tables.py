@@ -81,8 +81,8 @@ def known():
 
 def kinds():
     """The words of the kinds in which players part, by name, in their order."""
-    text = source("ans_players/src/kind.rt")
-    numbers, words = (by_variant(text, "Kind", f"pub fn {it}") for it in ("number", "word"))
+    text = source("ans_players/src/difference.rt")
+    numbers, words = (by_variant(text, "Difference", f"pub fn {it}") for it in ("number", "word"))
     return {name: words[name] for name in sorted(words, key=numbers.get)}
 
 
