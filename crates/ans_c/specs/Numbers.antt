@@ -1,4 +1,4 @@
--- What is told in numbers.
+-- What is given in numbers.
 use Rattle.std.specs.Prelude.{◌≡◌, ℕ, ◌+◌, ◌*◌, ◌<◌, Bool, not, ◌==◌, bit_and, Option, None, Some, if◌then◌else◌}
 use Rattle.ans_model.specs.Screen.State.{Size}
 use Rattle.ans_model.specs.declared.fault.Cause.{Cause}
@@ -21,7 +21,7 @@ abbrev pub cell_column : Cause → ℕ
 cell_column (UnknownCell row col) = col
 cell_column _ = 0
 
--- the fault is told
+-- the fault is given
 pub record TellsFault (told : ToldFault) (fault : Fault) : Type 0 where
   pub number : told.number ≡ cause_number fault.cause
   pub row : told.row ≡ cell_row fault.cause
@@ -32,7 +32,7 @@ pub record TellsFault (told : ToldFault) (fault : Fault) : Type 0 where
 abbrev pub has_bit : ℕ → ℕ → Bool
 has_bit known bit = not (bit_and known bit == 0)
 
--- a number where this is so, and else 0
+-- a number if this is so, or 0
 abbrev pub number_if : Bool → ℕ → ℕ
 number_if so number = if so then number else 0
 
@@ -55,11 +55,11 @@ pub record NamesClass (class : Start) (bits : ℕ) : Type 0 where
 abbrev pub number_or_none : ℕ → Option ℕ
 number_or_none number = if number == 0 then None else Some number
 
--- what bits and numbers ask for of a file that is mended
+-- what bits and numbers ask for in a file that is fixed
 abbrev pub mends_of : ℕ → ℕ → ℕ → Mends
-mends_of classes width lines =
+mends_of classes add_record lines =
     with_given (λ f. has_bit classes f.bit)
-    (record no_mends.NONE { width = number_or_none width; lines = number_or_none lines }) mend_flags
+    (record no_mends.NONE { add_record = number_or_none add_record; lines = number_or_none lines }) mend_flags
 
 -- the size, and what is to be lent for a play of it and for its picture
 pub record IsSizeOf (z : Size) (told : PictureSize) : Type 0 where

@@ -44,7 +44,7 @@ use Rattle.ans_c.specs.declared.row_numbers.ToldParts.{ToldParts}
 use Rattle.ans_c.specs.declared.row_numbers.ToldPlace.{ToldPlace}
 use Rattle.ans_c.specs.declared.row_numbers.ToldRow.{ToldRow}
 
--- the numbers of the kinds that arise, added up
+-- the numbers of the ways that a content runs into, added up
 abbrev pub kinds_sum : KindsUsed → ℕ
 kinds_sum used =
     number_if (is_used used WrapAtOnce) 1 + number_if (is_used used LineEnds) 2
@@ -65,7 +65,7 @@ notes_sum notes =
     number_if (has_note notes 1) 2 + number_if (has_note notes 2) 4 + number_if (has_note notes 3) 8
     + number_if (has_note notes 4) 16 + number_if (has_note notes 5) 32 + number_if (has_note notes 6) 64
 
--- the number of what bytes are known as; 0 for nothing
+-- the number of what bytes are recognised as; 0 for nothing
 abbrev pub known_number : Option Known → ℕ
 known_number None = 0
 known_number (Some known.Music) = 1
@@ -79,20 +79,20 @@ known_number (Some known.UncountedComments) = 8
 known_number (Some known.OlderRecord) = 9
 known_number (Some known.Arrow) = 10
 
--- the kinds in which players part, and no parts of the start; or none but own colours, and the parts that have to be
--- known for every player to show the same
+-- the ways in which players differ, and no parts of the start; or none but own colours, and the parts that have to be
+-- known for the content to look the same on all players
 abbrev pub TellsPlayers : Players → ℕ → ℕ → Type 0
 TellsPlayers (Any class) kinds parts = (kinds ≡ 0) × NamesClass class parts
 TellsPlayers (InNamedColours class times) kinds parts = (kinds ≡ 4096) × NamesClass class parts
 TellsPlayers (Agreeing used) kinds parts = (kinds ≡ kinds_sum used) × (parts ≡ 0)
 
--- what is told of a content that passes
+-- what is said of a content that passes
 pub record IsPassing (said : Pass) (told : Passing) : Type 0 where
   pub needs : NamesClass said.needs told.needs
-  pub players : TellsPlayers said.players told.players told.on_every_player
-  pub taller : told.taller ≡ number_if said.taller 1
+  pub players : TellsPlayers said.players told.players told.needs_on_all_players
+  pub taller_screens : told.taller_screens ≡ number_if said.taller 1
 
--- so many bytes from this offset on
+-- that many bytes from this offset on
 abbrev pub piece : ℕ → ℕ → Piece
 piece start count = record { start = start; length = count }
 
@@ -100,14 +100,14 @@ piece start count = record { start = start; length = count }
 abbrev pub no_piece : Piece
 no_piece = piece 0 0
 
--- a place, and none
+-- a position, and none
 abbrev pub told_place : Place → ToldPlace
 told_place place = record { row = place.row; column = place.column }
 
 abbrev pub no_place : ToldPlace
 no_place = record { row = 0; column = 0 }
 
--- the places of the two cursors, where these are shown
+-- the positions of the two cursors, if these are shown
 abbrev pub low_place : Shown → ToldPlace
 low_place (Cursors low high) = told_place low
 low_place (Cells low high) = no_place
@@ -116,9 +116,9 @@ abbrev pub high_place : Shown → ToldPlace
 high_place (Cursors low high) = told_place high
 high_place (Cells low high) = no_place
 
--- nothing, where there is nothing to tell
+-- nothing, if there is nothing to say
 abbrev pub no_passing : Passing
-no_passing = record { needs = 0; players = 0; on_every_player = 0; taller = 0 }
+no_passing = record { needs = 0; players = 0; needs_on_all_players = 0; taller_screens = 0 }
 
 abbrev pub no_blame : Blame
 no_blame = record {
@@ -150,7 +150,7 @@ no_fields = record {
   group = no_piece;
 }
 
--- a number of lines that is enough; 0 where there is none
+-- a number of lines that is enough; 0 if there is none
 abbrev pub lines_or_0 : Option ℕ → ℕ
 lines_or_0 (Some lines) = lines
 lines_or_0 None = 0
@@ -159,7 +159,7 @@ abbrev pub enough_or_0 : Option Enough → ℕ
 enough_or_0 (Some enough) = enough.lines
 enough_or_0 None = 0
 
--- what is told of a record or a layout that is refused
+-- what is said of a record or a layout that is refused
 pub record IsRecordBlame (said : RecordRefusal) (told : Blame) : Type 0 where
   pub fault : TellsFault told.fault said.fault
   pub bytes : told.bytes ≡ no_piece
@@ -169,7 +169,7 @@ pub record IsRecordBlame (said : RecordRefusal) (told : Blame) : Type 0 where
   pub lines : told.lines ≡ enough_or_0 said.enough
   pub mends : told.mends ≡ 0
 
--- what is told of a content that is refused from the cleared start: there is one cursor
+-- what is said of a content that is refused from the cleared start: there is one cursor
 pub record IsRefusalBlame (said : Refusal) (told : Blame) : Type 0 where
   pub fault : TellsFault told.fault said.fault
   pub bytes : told.bytes ≡ piece said.fault.offset (length said.bytes.now)
@@ -179,7 +179,7 @@ pub record IsRefusalBlame (said : Refusal) (told : Blame) : Type 0 where
   pub lines : told.lines ≡ lines_or_0 said.lines
   pub mends : told.mends ≡ 0
 
--- what is told of what a content relies on
+-- what is said of what a content relies on
 pub record IsRelianceBlame (said : Reliance) (told : Blame) : Type 0 where
   pub fault : TellsFault told.fault said.fault
   pub bytes : told.bytes ≡ piece said.fault.offset (length said.bytes.now)
@@ -189,18 +189,18 @@ pub record IsRelianceBlame (said : Reliance) (told : Blame) : Type 0 where
   pub lines : told.lines ≡ 0
   pub mends : told.mends ≡ number_if said.mends 1
 
--- the same where a content may rely on nothing
+-- the same if a content may rely on nothing
 abbrev pub IsBlameOfPass : Option Reliance → Blame → Type 0
 IsBlameOfPass (Some reliance) told = IsRelianceBlame reliance told
 IsBlameOfPass None told = told ≡ no_blame
 
--- what is told to be to blame in a file
+-- the fault of a file, and what belongs to it
 abbrev pub TellsBlame : Why → Blame → Type 0
 TellsBlame (NoContent said) told = IsRecordBlame said told
 TellsBlame (Refused parts said) told = IsRefusalBlame said told
 TellsBlame (Passes parts said) told = IsBlameOfPass said.reliance told
 
--- what is told of a pass; nothing of another file
+-- what is said of a pass; nothing of any other file
 abbrev pub TellsPassing : Why → Passing → Type 0
 TellsPassing (Passes parts said) told = IsPassing said told
 TellsPassing _ told = told ≡ no_passing
@@ -210,7 +210,7 @@ pub record IsPieceOf (file : List ℕ) (piece : Piece) (bytes : List ℕ) : Type
   pub length_is : piece.length ≡ length bytes
   pub bytes_are : take piece.length (drop piece.start file) ≡ bytes
 
--- what is told of the parts of a file
+-- what is said of the parts of a file
 pub record IsTellingParts (file : List ℕ) (parts : Parts) (told : ToldParts) : Type 0 where
   pub content : told.content ≡ length (content_of parts)
   pub comments : IsPieceOf file told.comments (comments_of parts)
@@ -220,15 +220,15 @@ abbrev pub TellsParts : List ℕ → Option Parts → ToldParts → Type 0
 TellsParts file (Some parts) told = IsTellingParts file parts told
 TellsParts file None told = told ≡ no_parts
 
--- letters of 8 or of 9 pixels, where the flags say which
+-- letters of 8 or of 9 pixels, if the flags say which
 abbrev pub spacing_number : ℕ → ℕ
 spacing_number pair = if pair == 1 then 8 else if pair == 2 then 9 else 0
 
--- 1 for pixels to be stretched, 2 for square ones, where the flags say which
+-- 1 for pixels to be stretched, 2 for square ones, if the flags say which
 abbrev pub aspect_number : ℕ → ℕ
 aspect_number pair = if pair == 1 then 1 else if pair == 2 then 2 else 0
 
--- what is told of a record: its numbers, and where its texts stand in the file
+-- what is said of a record: its numbers, and where its texts are in the file
 pub record IsTellingFields (file sauce : List ℕ) (told : ToldFields) : Type 0 where
   pub is_there : told.is_there ≡ 1
   pub flags_are : told.flags ≡ flags sauce
@@ -243,12 +243,12 @@ pub record IsTellingFields (file sauce : List ℕ) (told : ToldFields) : Type 0 
   pub author : IsPieceOf file told.author (trimmed (author_field sauce))
   pub group : IsPieceOf file told.group (trimmed (group_field sauce))
 
--- the record in the file's last 128 bytes is told, where there is one
+-- the record in the file's last 128 bytes is given, if there is one
 pub record TellsFields (file : List ℕ) (told : ToldFields) : Type 0 where
   pub found : IsTrue (has_record file) → IsTellingFields file (drop (length file - 128) file) told
   pub none : IsFalse (has_record file) → told ≡ no_fields
 
--- What there is to say of the file, as `why` says it, is told, and its record. The answer is that of its verdict.
+-- What there is to say of the file, as `why` says it, and its record. The answer is that of its verdict.
 pub record TellsRow (file : List ℕ) (result : ℕ) (told : ToldRow) : Type 0 where
   pub why : Why
   pub is_true : IsTrueOf file why

@@ -19,8 +19,8 @@ use ans_sauce::{Judged, Parts, split};
 use ans_screen::{HalfCell, LentGrid, LentRow, Screen};
 use ans_verdict::{LentScreens, needs_on, play_on};
 
-/// Tells the size of a file's picture and what is to be lent for a check of it. `PASS`: the record and the
-/// layout are accepted, and `size` is set. `REFUSED`: they are not, and `fault` tells why, F1 to F8.
+/// Gives the size of a file's picture and what is to be lent for a check of it. `PASS`: the record and the
+/// layout are accepted, and `size` is set. `REFUSED`: they are not, and `fault` says why, F1 to F8.
 /// `TOO_LONG`: the file is too long.
 #[unsafe(no_mangle)]
 pub extern "C" fn ans_size(file: &[u8], size: &mut PictureSize, fault: &mut ToldFault) -> u32
@@ -44,7 +44,7 @@ pub extern "C" fn ans_size(file: &[u8], size: &mut PictureSize, fault: &mut Told
     }
 }
 
-/// Plays the content on a screen, and tells its verdict.
+/// Plays the content on a screen, and gives its verdict.
 fn tell_play<G: Screen>(
     screen: G,
     parts: &Parts<'_>,
@@ -73,10 +73,10 @@ fn tell_play<G: Screen>(
 }
 
 /// Checks a file from the starts of the class that `known` names: 1 the screen, 2 the cursor, 4 the saved
-/// cursor, 8 the colours, 16 wrap, added up; other bits count for nothing. It wants a row for each line and one
-/// more, four bytes for each column of each row, and as many glyphs and attributes as `ans_size` tells cells.
-/// `PASS`: from every such start the content shows the picture whose bytes and attributes stand at the front of
-/// `glyphs` and `attributes`, row by row. `REFUSED`: `fault` tells why. `TOO_LONG`: the file is too long.
+/// cursor, 8 the colours, 16 wrap, added up; other bits are ignored. It needs a row for each line and one
+/// more, four bytes for each column of each row, and as many glyphs and attributes as `ans_size` gives cells.
+/// `PASS`: from every such start the content shows the picture with whose bytes and attributes `glyphs` and
+/// `attributes` begin, row by row. `REFUSED`: `fault` says why. `TOO_LONG`: the file is too long.
 /// `NO_ROOM`: an array is too small.
 #[unsafe(no_mangle)]
 pub extern "C" fn ans_check_on(
@@ -117,9 +117,9 @@ pub extern "C" fn ans_check_on(
     }
 }
 
-/// Tells what a file needs, with as many rows and bytes as a check of it wants. `PASS`: its content passes from
+/// Gives what a file needs, with as many rows and bytes as a check of it needs. `PASS`: its content passes from
 /// the cleared start, and from exactly the classes that know each part that `parts` names, by the bits of
-/// `ans_check_on`. `REFUSED`: it is refused even from the cleared start, and `fault` tells why. `TOO_LONG`: the
+/// `ans_check_on`. `REFUSED`: it is refused even from the cleared start, and `fault` says why. `TOO_LONG`: the
 /// file is too long. `NO_ROOM`: there are too few rows or bytes.
 #[unsafe(no_mangle)]
 pub extern "C" fn ans_needs_on(

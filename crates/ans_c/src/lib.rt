@@ -1,13 +1,13 @@
 //! The checker for C, on memory that its caller lends.
 //!
 //! Each call takes a file of at most 16,777,216 bytes and answers by a number: [`PASS`], [`REFUSED`],
-//! [`TOO_LONG`], [`NO_ROOM`] or, of [`ans_mend_on`] alone, [`WRONG_NUMBER`]. It asks for no memory, keeps
-//! nothing and calls nobody back. An array comes as a pointer and a length; that it is there, and that
-//! arrays which are written do not overlap others, is the caller's to see to. What an answer does not set
-//! holds anything afterwards.
+//! [`TOO_LONG`], [`NO_ROOM`] or, only from [`ans_mend_on`], [`WRONG_NUMBER`]. It asks for no memory, keeps
+//! nothing and calls nobody back. An array comes as a pointer and a length. The caller sees to it that it
+//! exists, and that arrays which are written do not overlap others. Whatever an answer does not set has any
+//! content afterwards.
 //!
-//! What is told of a file is told by the definitions that the program answers to (`specs/Told.antt`), and
-//! the numbers by `specs/Numbers.antt`. `library/ans.h` is the header.
+//! The definitions that the program answers to say what is reported about a file (`specs/Told.antt`), and
+//! `specs/Numbers.antt` the numbers. `library/ans.h` is the header.
 #![tactic(auto)]
 
 mod cells;

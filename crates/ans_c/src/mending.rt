@@ -1,4 +1,4 @@
-//! A file that is mended.
+//! A file that is fixed.
 
 ghost use Rattle.std.specs.Prelude.{◌≡◌, ◌≢◌, ◌↔◌, ◌⊎◌, ◌-◌, ◌<◌, ◌≤◌, ◌++◌, IfSome, IsNone, length, take};
 ghost use Rattle.ans_mend.specs.Drafts.{draft_of};
@@ -21,15 +21,15 @@ use ans_verdict::LentScreens;
 use ans_write::{Outbox, Tried};
 use std::io::Write;
 
-/// What stands before the bytes of a draft.
+/// What comes before the bytes of a draft.
 fn front_bytes(front: bool) -> &'static [u8]
     ensures { result.now ≡ front_bytes front }
 {
     if front { SAFE_BEGINNING } else { b"" }
 }
 
-/// Copies bytes to the front of an array, and others behind them. Returns how many they are together, or
-/// nothing where the array has no room for them.
+/// Copies bytes to the start of an array, and others after them. Returns how many they are together, or
+/// nothing if the array has no room for them.
 fn place(beginning: &[u8], rest: &[u8], array: &mut [u8]) -> Option<usize>
     ensures placed { IfSome result (λ size. take size array.new ≡ beginning.now ++ rest.now) }
     ensures room { IsNone result → length array.old < length (beginning.now ++ rest.now) }
@@ -44,7 +44,7 @@ fn place(beginning: &[u8], rest: &[u8], array: &mut [u8]) -> Option<usize>
     Some(size)
 }
 
-/// A copy of a file, as a draft in this memory; none where the memory has no room for it.
+/// A copy of a file, as a draft in this memory; none if the memory has no room for it.
 fn copied<'a>(memory: &'a mut [u8], file: &[u8]) -> Option<Draft<'a>>
     ensures draft { IfSome result (λ draft. draft
         ≡ draft_of file.now (length memory.old - length file.now)) }
@@ -58,8 +58,8 @@ fn copied<'a>(memory: &'a mut [u8], file: &[u8]) -> Option<Draft<'a>>
     Some(Draft::new(memory, count))
 }
 
-/// Mends a file in a draft, and places it. Returns what was changed or why it is not mended, and how many
-/// bytes the mended file has; nothing where there is too little room.
+/// Fixes a file in a draft, and places it. Returns what was changed or why it cannot be fixed, and how many
+/// bytes the fixed file has; nothing if there is too little room.
 fn mend_in(
     file: &[u8],
     mends: &Mends,
@@ -85,7 +85,7 @@ fn mend_in(
     }
 }
 
-/// Puts what was changed of a file that is mended, or why it is not.
+/// Puts what was changed in a file that is fixed, or why it is not.
 fn put_answer<W: Write>(out: &mut Outbox<'_, W>, asked: &Mends, answer: &Result<Mended, Unmended>)
     ensures { Puts W.contents out.old out.new (mending_text asked.now answer.now) }
 {
@@ -95,27 +95,27 @@ fn put_answer<W: Write>(out: &mut Outbox<'_, W>, asked: &Mends, answer: &Result<
     }
 }
 
-/// Mends a file as `anscheck mend` does, and hands over the text of what that says. `classes` names what
-/// may be changed besides what is mended by itself: 1 sequences taken out, 2 line ends, 4 full rows, 8 the
-/// least number of lines, 16 that colours are named, added up. `width` is the columns of the record for a
-/// file that has none, at most 1024, and `lines` the number of lines where others are wanted, at most 8192; 0
-/// asks for neither.
+/// Fixes a file as `anscheck mend` does, and hands over the text of that. `classes` names what may be changed
+/// besides what is changed without being asked, by the flags of `anscheck mend`, added up: 1 `--take-out`,
+/// 2 `--crlf`, 4 `--join-rows`, 8 `--least-lines`, 16 `--name-colours`. `add_record` is the columns of the
+/// record that is added to a file without one, at most 1024, and `lines` the number of lines that is set if
+/// the record has too few or none, at most 8192; 0 asks for neither.
 ///
-/// `draft` and `mended` want as many bytes as the file has and 155 more, with line ends one more for each
-/// line feed, and with named colours 16,777,216 in the place of the file's own; `rows` and `bytes` as many as
-/// a check of the mended file wants.
+/// `draft` and `mended` need as many bytes as the file has and 155 more, with `--crlf` one more for each line
+/// feed, and with `--name-colours` 16,777,216 instead of the file's own; `rows` and `bytes` as many as a check
+/// of the fixed file needs.
 ///
-/// `PASS`: the mended file stands at the front of `mended`, `size` is how many bytes it has, and the text
-/// says what was changed. It passes from every start. `REFUSED`: the file cannot be mended so, `size` is 0,
-/// and the text says why. The text stands at the front of `text`, and `told` is how many bytes it has.
-/// `TOO_LONG`: the file is too long. `WRONG_NUMBER`: it is not, but `width` or `lines` is above its most.
-/// `NO_ROOM`: an array is too small. `told` is how many bytes the text has where only `text` is; all but the
-/// text is then as it is after `PASS` or `REFUSED`. In any other case `size` and `told` are 0.
+/// `PASS`: `mended` begins with the fixed file, `size` is how many bytes it has, and the text says what was
+/// changed. It passes from every start. `REFUSED`: the file cannot be fixed this way, `size` is 0, and the
+/// text says why. `text` begins with the text, and `told` is how many bytes it has. `TOO_LONG`: the file is
+/// too long. `WRONG_NUMBER`: it is not, but `add_record` or `lines` is above its largest. `NO_ROOM`: an array
+/// is too small. If only `text` is, `told` is how many bytes the text has, and all but the text is as it is
+/// after `PASS` or `REFUSED`. In any other case `size` and `told` are 0.
 #[unsafe(no_mangle)]
 pub extern "C" fn ans_mend_on(
     file: &[u8],
     classes: u32,
-    width: u32,
+    add_record: u32,
     lines: u32,
     rows: &mut [LentRow],
     bytes: &mut [u8],
@@ -126,14 +126,14 @@ pub extern "C" fn ans_mend_on(
     told: &mut usize,
 ) -> u32
     ensures handed { result ≢ TOO_LONG → result ≢ WRONG_NUMBER
-        → (HandsReport (ReportsMending (mends_of classes width lines) file.now (take size.new mended.new))
+        → (HandsReport (ReportsMending (mends_of classes add_record lines) file.now (take size.new mended.new))
         (length text.old) result told.new text.new
         ⊎ ((result ≡ NO_ROOM) × (told.new ≡ 0) × (size.new ≡ 0)
-        × LacksMendingRoom (mends_of classes width lines) file.now (length rows.old) (length bytes.old)
+        × LacksMendingRoom (mends_of classes add_record lines) file.now (length rows.old) (length bytes.old)
         (length draft.old) (length mended.old))) }
     ensures too_long { (result ≡ TOO_LONG) ↔ (longest_file < length file.now) }
     ensures wrong_number { (result ≡ WRONG_NUMBER)
-        ↔ ((length file.now ≤ longest_file) × ((most_columns < width) ⊎ (most_lines < lines))) }
+        ↔ ((length file.now ≤ longest_file) × ((most_columns < add_record) ⊎ (most_lines < lines))) }
     ensures silent { (result ≡ TOO_LONG) ⊎ (result ≡ WRONG_NUMBER) → (told.new ≡ 0) × (size.new ≡ 0) }
     ensures codes { (result ≤ WRONG_NUMBER) × (result ≢ 2) }
 {
@@ -142,10 +142,10 @@ pub extern "C" fn ans_mend_on(
     if file.len() > MAX_FILE {
         return TOO_LONG;
     }
-    if width as usize > MAX_WIDTH || lines as usize > MAX_LINES {
+    if add_record as usize > MAX_WIDTH || lines as usize > MAX_LINES {
         return WRONG_NUMBER;
     }
-    let mends = mends_of(classes, width, lines);
+    let mends = mends_of(classes, add_record, lines);
     let mut screens = LentScreens::new(rows, bytes);
     let Some((answer, count)) = mend_in(file, &mends, &mut screens, draft, mended) else {
         return NO_ROOM;

@@ -1,4 +1,4 @@
-//! What is told in numbers.
+//! What is given in numbers.
 
 ghost use Rattle.std.specs.Prelude.{◌≡◌, ◌≤◌, ◌≢◌, IfSome, IsNone, map};
 ghost use Rattle.ans_model.specs.Bytes.{most_columns, most_lines};
@@ -16,10 +16,10 @@ use ans_model::note::Note;
 use ans_model::start::Start;
 use ans_sauce::Parts;
 
-/// The file passes; of a call that judges nothing, it is answered.
+/// The file passes; from a call that judges nothing, there is an answer.
 pub const PASS: u32 = 0;
 
-/// The file is refused, and the fault is told.
+/// The file is refused, and the fault is set.
 pub const REFUSED: u32 = 1;
 
 /// The file has more than 16,777,216 bytes.
@@ -40,7 +40,7 @@ const ROW_SIZE: usize = 24;
 pub struct ToldFault {
     /// n for the fault Fn.
     pub number: u32,
-    /// For F25 the row and the column of the cell, counted from 1, and else 0.
+    /// For F25 the row and the column of the cell, counted from 1; otherwise 0.
     pub row: u32,
     pub column: u32,
     /// In bytes from the file's start.
@@ -61,7 +61,7 @@ pub struct PictureSize {
 }
 
 /// The class of starts that these bits name: 1 the screen, 2 the cursor, 4 the saved cursor, 8 the
-/// colours, 16 wrap. Other bits count for nothing.
+/// colours, 16 wrap. Other bits are ignored.
 pub(crate) fn class_of(known: u32) -> Start
     ensures { result ≡ class_of known }
 {
@@ -74,7 +74,7 @@ pub(crate) fn class_of(known: u32) -> Start
     }
 }
 
-/// A number where this is so, and else 0.
+/// A number if this is so, or 0.
 pub(crate) fn number_if(so: bool, number: u32) -> u32
     ensures number { result ≡ number_if so number }
     ensures bound { result ≤ number }
@@ -93,7 +93,7 @@ pub(crate) fn bits_of(class: Start) -> u32
         | number_if(class.wrap, 16)
 }
 
-/// A number, or none where it is 0.
+/// A number, or none if it is 0.
 fn number_or_none(number: u16) -> Option<u16>
     ensures { result ≡ number_or_none number }
 {
@@ -111,15 +111,15 @@ fn with_bits(mends: Mends, bits: u32, flags: &[MendFlag]) -> Mends
     mends
 }
 
-/// What these bits and numbers ask for of a file that is mended: the bits of the flags ([`mend_flags`]), the columns of
-/// a record, and a number of lines, where they are not 0. Other bits count for nothing.
-pub(crate) fn mends_of(classes: u32, width: u32, lines: u32) -> Mends
-    requires width { width ≤ most_columns }
+/// What these bits and numbers ask for in a file that is fixed: the bits of the flags ([`mend_flags`]), the columns of
+/// a record to add, and a number of lines, if they are not 0. Other bits are ignored.
+pub(crate) fn mends_of(classes: u32, add_record: u32, lines: u32) -> Mends
+    requires add_record { add_record ≤ most_columns }
     requires lines { lines ≤ most_lines }
-    ensures { result ≡ mends_of classes width lines }
+    ensures { result ≡ mends_of classes add_record lines }
 {
     let numbers = Mends {
-        width: number_or_none(width as u16),
+        add_record: number_or_none(add_record as u16),
         lines: number_or_none(lines as u16),
         ..Mends::NONE
     };
@@ -168,7 +168,7 @@ pub(crate) fn told(fault: &Fault) -> ToldFault
     }
 }
 
-/// The size that a file's record states, and what a check wants.
+/// The size that a file's record states, and what a check needs.
 pub(crate) fn told_size(parts: &Parts<'_>) -> PictureSize
     ensures { IsSizeOf (size_of parts.now) result }
 {

@@ -61,8 +61,8 @@ fn redraw_on<G: Screen>(
     }
 }
 
-/// Redraws a file in an array, with its screen on rows and bytes that are lent. Where the array has no room
-/// for the redrawn file, what comes of it is told all the same; where there is none for the screen, nothing is.
+/// Redraws a file in an array, with its screen on rows and bytes that are lent. If the array has no room for
+/// the redrawn file, there is an answer all the same; if there is none for the screen, there is no answer.
 fn redraw_in(
     file: &[u8],
     rows: &mut [LentRow],
@@ -83,7 +83,7 @@ fn redraw_in(
     Some(redraw_on(screen, file, &parts, array))
 }
 
-/// How many bytes the redrawn file has; 0 where there is none.
+/// How many bytes the redrawn file has; 0 if there is none.
 fn whole_of(answer: &Result<Redrawn, Unredrawn>) -> usize
     ensures { result ≡ whole_of answer.now }
 {
@@ -93,7 +93,7 @@ fn whole_of(answer: &Result<Redrawn, Unredrawn>) -> usize
     }
 }
 
-/// Puts what was changed of a file that is redrawn, or why it is not.
+/// Puts what was changed in a file that is redrawn, or why it is not.
 fn put_answer<W: Write>(out: &mut Outbox<'_, W>, answer: &Result<Redrawn, Unredrawn>)
     ensures { Puts W.contents out.old out.new (redrawing_text answer.now) }
 {
@@ -103,16 +103,16 @@ fn put_answer<W: Write>(out: &mut Outbox<'_, W>, answer: &Result<Redrawn, Unredr
     }
 }
 
-/// Redraws a file as `anscheck redraw` does, and hands over the text of what that says. `rows` and `bytes` want
-/// as many as a check of it wants, and `redrawn` as many bytes as the redrawn file has.
+/// Redraws a file as `anscheck redraw` does, and hands over the text of that. `rows` and `bytes` need as many as
+/// a check of it needs, and `redrawn` as many bytes as the redrawn file has.
 ///
-/// `PASS`: the redrawn file stands at the front of `redrawn`, `size` is how many bytes it has, and the text
-/// says what was changed. It passes from every start. `REFUSED`: the file does not pass from the cleared start,
-/// or the redrawn one would be too long; `size` is 0, and the text says which. The text stands at the front of
-/// `text`, and `told` is how many bytes it has. `TOO_LONG`: the file is too long, and `size` and `told` are 0.
-/// `NO_ROOM`: an array is too small. Where it is `redrawn`, `size` is how many bytes that wants, and `told` is 0.
-/// Where only `text` is, `told` is how many bytes the text has; all but the text is then as it is after `PASS` or
-/// `REFUSED`. Where there are too few rows or bytes, both are 0.
+/// `PASS`: `redrawn` begins with the redrawn file, `size` is how many bytes it has, and the text says what was
+/// changed. It passes from every start. `REFUSED`: the file does not pass from the cleared start, or the
+/// redrawn one would be too long; `size` is 0, and the text says which. `text` begins with the text, and `told`
+/// is how many bytes it has. `TOO_LONG`: the file is too long, and `size` and `told` are 0. `NO_ROOM`: an array
+/// is too small. If it is `redrawn`, `size` is how many bytes that needs, and `told` is 0. If only `text` is,
+/// `told` is how many bytes the text has, and all but the text is as it is after `PASS` or `REFUSED`. If there
+/// are too few rows or bytes, both are 0.
 #[unsafe(no_mangle)]
 pub extern "C" fn ans_redraw_on(
     file: &[u8],

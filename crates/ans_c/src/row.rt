@@ -17,7 +17,7 @@ use ans_screen::LentRow;
 use ans_verdict::{LentScreens, why_on};
 use ans_why::Why;
 
-/// The parts of a file of which this is said.
+/// The parts of a file that this is said of.
 fn parts_told(file: &[u8], why: &Why<'_>) -> ToldParts
     requires { IsTrueOf file.now why.now }
     ensures { TellsParts file.now (parts_in why.now) result }
@@ -42,11 +42,11 @@ fn told_row(file: &[u8], why: &Why<'_>) -> ToldRow
     }
 }
 
-/// Tells in numbers what `anscheck why` and a row of `anscheck table` say of a file, with as many rows and bytes
-/// as a check of it wants. It leaves out the hints, how often and where first each kind of player matters, the two
-/// cells of F25, and what stands where a record is refused. `PASS`: the file passes from the cleared start.
-/// `REFUSED`: it does not. `row` is set after both. `TOO_LONG`: the file is too long. `NO_ROOM`: there are too few
-/// rows or bytes.
+/// Gives in numbers what `anscheck why` and a row of `anscheck table` say of a file, with as many rows and bytes
+/// as a check of it needs. It leaves out the hints, how often and where first players differ, the two cells of
+/// F25, and the line `found:`. `PASS`: the file passes from the cleared start, and from every start if it needs
+/// no part. `REFUSED`: it does not. `row` is set after both. `TOO_LONG`: the file is too long. `NO_ROOM`: there
+/// are too few rows or bytes.
 #[unsafe(no_mangle)]
 pub extern "C" fn ans_row_on(
     file: &[u8],

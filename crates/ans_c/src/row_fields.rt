@@ -70,7 +70,7 @@ fn aspect_number(pair: u8) -> u32
     }
 }
 
-/// A text of the record, which stands behind so many bytes: where it is in the file.
+/// A text of the record, which follows that many bytes: where it is in the file.
 fn piece_behind(front: usize, offset: usize, text: &[u8]) -> Piece
     requires front { front ≤ longest_file }
     requires offset { offset ≤ 128 }
@@ -82,7 +82,7 @@ fn piece_behind(front: usize, offset: usize, text: &[u8]) -> Piece
     }
 }
 
-/// What a record says that stands behind so many bytes of its file.
+/// What a record says that follows that many bytes of its file.
 fn fields_behind(front: usize, sauce: &Record<'_>) -> ToldFields
     requires { front ≤ longest_file }
     ensures { (file : List ℕ) → drop front file ≡ sauce_bytes sauce.now

@@ -11,7 +11,7 @@ use ans_players::difference::Difference;
 use ans_sauce::Judged;
 use ans_why::{Enough, Known, Pass, RecordRefusal, Refusal, Reliance, Shown, Why, known_found};
 
-/// Bytes of a file: so many, from this offset on. The length is 0 where there are none.
+/// Bytes of a file: that many, from this offset on. The length is 0 if there are none.
 #[repr(C)]
 #[derive(Clone, Copy, Default)]
 pub struct Piece {
@@ -20,8 +20,8 @@ pub struct Piece {
     pub length: usize,
 }
 
-/// A row and a column, counted from 1; the row may be the spare one below the stated lines. Both are 0 where there
-/// is no place.
+/// A row and a column, counted from 1; the row may be the spare one below the stated lines. Both are 0 if there
+/// is no position.
 #[repr(C)]
 #[derive(Clone, Copy, Default)]
 pub struct ToldPlace {
@@ -29,78 +29,78 @@ pub struct ToldPlace {
     pub column: usize,
 }
 
-/// What a content that passes from the cleared start relies on; all is 0 for another file.
+/// What a content that passes from the cleared start relies on; for any other file all is 0.
 #[repr(C)]
 #[derive(Clone, Copy, Default)]
 pub struct Passing {
-    /// The parts of the start that have to be known, by the bits of `ans_check_on`.
+    /// The parts of the start that have to be known, by the bits of `ans_check_on`; 0 if it passes from every start.
     pub needs: u32,
-    /// The kinds in which players part that it makes use of, added up: 1 wrap-at-once, 2 line-ends,
+    /// The ways in which players differ that it runs into, added up: 1 wrap-at-once, 2 line-ends,
     /// 4 home-on-clear, 8 clear-in-colour, 16 save-place-only, 32 dos-colours, 64 tab-prints,
     /// 128 line-erased, 256 wrap-off, 512 stops-at-edge, 1024 page-controls, 2048 terminal-controls,
     /// 4096 own-colours.
     pub players: u32,
-    /// If it makes use of none, or of own colours alone, the parts that have to be known for every player to
-    /// show the same, in named colours; else 0.
-    pub on_every_player: u32,
-    /// 1: it shows its picture on every taller screen too. 0 does not say that it differs there.
-    pub taller: u32,
+    /// If it runs into none, or only into own-colours, the parts that have to be known for it to look the same
+    /// on all players, in named colours; else 0.
+    pub needs_on_all_players: u32,
+    /// 1: its picture is the same on every taller screen. 0: that was not shown.
+    pub taller_screens: u32,
 }
 
-/// What is to blame: the fault of a file that is refused from the cleared start, or the one that a content
-/// which passes from there has from every start. All is 0 where there is no such fault.
+/// The fault of a file that is refused from the cleared start, or the one that a content which passes from
+/// there has if nothing is known of the start. All is 0 if there is no such fault.
 #[repr(C)]
 #[derive(Clone, Copy, Default)]
 pub struct Blame {
     pub fault: ToldFault,
-    /// The bytes to blame: none for F1 to F8 and for F25.
+    /// The offending bytes: none for F1 to F8 and for F25.
     pub bytes: Piece,
-    /// Where the cursor stands before the fault: from the cleared start, twice the same; or, of a content
-    /// that passes, from the low and from the high start. No place for F1 to F8 and for F25.
+    /// Where the cursor is before the fault: from the cleared start, twice the same; or, for a content that
+    /// passes, from the low and from the high start. No position for F1 to F8 and for F25.
     pub low: ToldPlace,
     pub high: ToldPlace,
-    /// What the bytes are known as: 1 ANSI music, 2 a font selection, 3 a 24-bit colour, 4 the switch for
+    /// What the bytes are recognised as: 1 ANSI music, 2 a font selection, 3 a 24-bit colour, 4 the switch for
     /// bright backgrounds, 5 the switch that hides or shows the cursor, 6 a screen mode of DOS, 7 a
-    /// reassigned key; and those behind the end mark: 8 comments that the record does not count, 9 an older
+    /// reassigned key; and those after the end mark: 8 comments that the record does not count, 9 an older
     /// record, 10 an arrow in the drawing. 0 for nothing.
     pub known: u32,
-    /// For F5 and F19 to F21 the least number of lines with which the file passes from the cleared start, where
+    /// For F5 and F19 to F21 the smallest number of lines with which the file passes from the cleared start, if
     /// there is one; else 0.
     pub lines: u32,
-    /// 1 where the content passes and relies on something, and the file has room for the safe beginning, which
-    /// mends it; else 0.
+    /// 1 if the content passes and relies on something, and the file has room for the safe beginning, with which
+    /// it relies on nothing; else 0.
     pub mends: u32,
 }
 
-/// The parts of a file whose record and layout are accepted; all is 0 for another.
+/// The parts of a file whose record and layout are accepted; for any other all is 0.
 #[repr(C)]
 #[derive(Clone, Copy, Default)]
 pub struct ToldParts {
     /// How many bytes the content has, from the file's start on.
     pub content: usize,
-    /// The lines of the comments (SAUCE 00.5, comment block) behind `COMNT`, 64 bytes each.
+    /// The lines of the comments (SAUCE 00.5, comment block) after `COMNT`, 64 bytes each.
     pub comments: Piece,
     /// 2 to the power of n for each note Nn, added up.
     pub notes: u32,
 }
 
-/// What the record in a file's last 128 bytes says, accepted or not; all is 0 where there is none.
+/// What the record in a file's last 128 bytes says, accepted or not; if there is none all is 0.
 #[repr(C)]
 #[derive(Clone, Copy, Default)]
 pub struct ToldFields {
-    /// 1 where there is a record.
+    /// 1 if there is a record.
     pub is_there: u32,
     /// The byte of the flags (TFlags).
     pub flags: u32,
-    /// 1 where bit 7 of an attribute is a bright background, and no blink: bit 0 of the flags.
+    /// 1 if bit 7 of an attribute is a bright background, and not blink: bit 0 of the flags.
     pub ice: u32,
-    /// Letters of 8 or of 9 pixels; 0 where the flags do not say.
+    /// Letters of 8 or of 9 pixels; 0 if the flags do not say.
     pub spacing: u32,
-    /// 1 for pixels to be stretched, 2 for square ones; 0 where the flags do not say.
+    /// 1 for pixels to be stretched, 2 for square ones; 0 if the flags do not say.
     pub aspect: u32,
-    /// In columns; 80 where the record states 0.
+    /// In columns; 80 if the record states 0.
     pub width: usize,
-    /// As the record states them; 0 where it states none.
+    /// As the record states them; 0 if it states none.
     pub lines: usize,
     /// The texts, without trailing blanks and zero bytes, in code page 437.
     pub font: Piece,
@@ -110,7 +110,7 @@ pub struct ToldFields {
     pub group: Piece,
 }
 
-/// What there is to tell of a file.
+/// What there is to say of a file.
 #[repr(C)]
 #[derive(Clone, Copy, Default)]
 pub struct ToldRow {
@@ -120,7 +120,7 @@ pub struct ToldRow {
     pub fields: ToldFields,
 }
 
-/// The numbers of the kinds that arise, added up.
+/// The numbers of the ways that it runs into, added up.
 fn kinds_sum(used: &KindsUsed) -> u32
     ensures { result ≡ kinds_sum used.now }
 {
@@ -139,7 +139,7 @@ fn kinds_sum(used: &KindsUsed) -> u32
         + number_if(used.of(Difference::OwnColours).is_some(), 4096)
 }
 
-/// The number of what bytes are known as; 0 for nothing.
+/// The number of what bytes are recognised as; 0 for nothing.
 fn known_number(known: Option<Known>) -> u32
     ensures { result ≡ known_number known }
 {
@@ -158,7 +158,7 @@ fn known_number(known: Option<Known>) -> u32
     }
 }
 
-/// The kinds in which players part, and the parts of the start that have to be known if there is none but
+/// The ways in which players differ, and the parts of the start that have to be known if there are none but
 /// own colours.
 fn players_told(players: &Players) -> (u32, u32)
     ensures { TellsPlayers players.now result.0 result.1 }
@@ -173,16 +173,16 @@ fn players_told(players: &Players) -> (u32, u32)
 fn passing_of(pass: &Pass<'_>) -> Passing
     ensures { IsPassing pass.now result }
 {
-    let (players, on_every_player) = players_told(&pass.players);
+    let (players, needs_on_all_players) = players_told(&pass.players);
     Passing {
         needs: bits_of(pass.needs),
         players,
-        on_every_player,
-        taller: number_if(pass.taller, 1),
+        needs_on_all_players,
+        taller_screens: number_if(pass.taller, 1),
     }
 }
 
-/// The places of the cursors from the low and from the high start, where these are shown.
+/// The positions of the cursors from the low and from the high start, if these are shown.
 fn places_told(shown: &Shown) -> (ToldPlace, ToldPlace)
     ensures low { result.0 ≡ low_place shown.now }
     ensures high { result.1 ≡ high_place shown.now }
@@ -279,7 +279,7 @@ fn blame_of_pass(reliance: &Option<Reliance<'_>>) -> Blame
     }
 }
 
-/// What is to blame in a file.
+/// The fault of a file, and what belongs to it.
 pub(crate) fn blame_of(why: &Why<'_>) -> Blame
     ensures { TellsBlame why.now result }
 {

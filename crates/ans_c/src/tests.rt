@@ -101,8 +101,8 @@ fn rows_are_told(rt: HostRuntime) {
     let needs = (
         passing.needs,
         passing.players,
-        passing.on_every_player,
-        passing.taller,
+        passing.needs_on_all_players,
+        passing.taller_screens,
     );
     assert_eq!(rt; (answer, needs), (PASS, (2 + 8, 4096, 2 + 8, 1)));
     let blame = row.blame;
@@ -148,7 +148,11 @@ fn rows_of_refused_files_are_told(rt: HostRuntime) {
         (REFUSED, 1, 2)
     );
     assert_eq!(rt;
-        (row.passing.taller, row.parts.content, row.fields.is_there),
+        (
+            row.passing.taller_screens,
+            row.parts.content,
+            row.fields.is_there
+        ),
         (0, 0, 0)
     );
     let mut file = drawing();
@@ -238,7 +242,7 @@ fn rows_blame_nothing_that_passes_from_every_start(rt: HostRuntime) {
     let (answer, row) = row_of(&mended_drawing());
     let blame = row.blame;
     assert_eq!(rt;
-        (answer, row.passing.needs, row.passing.taller),
+        (answer, row.passing.needs, row.passing.taller_screens),
         (PASS, 0, 1)
     );
     assert_eq!(rt; (blame.fault.number, blame.low.row, blame.mends), (0, 0, 0));
@@ -259,11 +263,15 @@ fn texts_are_handed_over(rt: HostRuntime) -> Result<(), Fail> {
     let mut length = 0;
     let why = b"\
         size: 2 x 1\n\
-        verdict: pass\n\
+        verdict: pass on a cleared screen\n\
         needs: cursor colours\n\
+        because: at 0, F22 print at an unknown place: H\n\
+        from the top left: row 1, column 1\n\
+        from the bottom right: row 2, column 2\n\
         players: own-colours\n\
-        at 0: own-colours, 2 times\n\
-        taller: yes\n";
+        players differ: own-colours, 2 times, first at 0\n\
+        taller screens: same\n\
+        fix: anscheck mend\n";
     let passed = ans_why_on(&file, &mut rows, &mut bytes, &mut text, &mut length);
     let told = text.get(..length).ok_or("why")?;
     assert!(rt; passed == PASS && told.starts_with(why));
@@ -298,7 +306,7 @@ fn names_are_handed_over(rt: HostRuntime) {
     expect(&rt, answer, text.get(..length), (PASS, b"0.2.0"));
 }
 
-/// The drawing with the safe beginning in front, which its file size counts.
+/// The drawing with the safe beginning, which its file size counts.
 fn mended_drawing() -> [u8; 156] {
     let mut file = [0u8; 156];
     file[..25].copy_from_slice(b"\x1b[?7h\x1b[0;37;40m\x1b[2J\x1b[H\x1b[s");
@@ -317,7 +325,7 @@ fn redrawn_drawing() -> [u8; 160] {
     file
 }
 
-/// What is lent to have a small drawing mended.
+/// What is lent to have a small drawing fixed.
 #[derive(Drop)]
 struct LentForMending {
     rows: [LentRow; 2],
@@ -343,11 +351,11 @@ impl LentForMending {
     }
 
     /// What `ans_mend_on` answers about a file.
-    fn mend(&mut self, file: &[u8], classes: u32, width: u32, lines: u32) -> u32 {
+    fn mend(&mut self, file: &[u8], classes: u32, add_record: u32, lines: u32) -> u32 {
         ans_mend_on(
             file,
             classes,
-            width,
+            add_record,
             lines,
             &mut self.rows,
             &mut self.bytes,
@@ -366,15 +374,15 @@ fn files_are_mended(rt: HostRuntime) {
     let answer = lent.mend(&drawing(), 0, 0, 0);
     let mended = lent.mended.get(..lent.size);
     expect(&rt, answer, mended, (PASS, &mended_drawing()));
-    let told = b"put 25 bytes in front\nfile size 27, was 2\n";
+    let told = b"added the safe beginning, 25 bytes\nfile size 27, was 2\n";
     expect(&rt, answer, lent.text.get(..lent.told), (PASS, told));
     let answer = lent.mend(b"Hi", 0, 2, 1);
-    let told =
-        b"put an end mark and a record of 2 columns at 2\nlines 1, was 0\nput 25 bytes in front\nfile size 27, was 0\n";
+    let told = b"added an end mark and a record for 2 columns, at 2\nlines 1, was 0\n\
+        added the safe beginning, 25 bytes\nfile size 27, was 0\n";
     expect(&rt, answer, lent.text.get(..lent.told), (PASS, told));
     let answer = lent.mend(b"Hi", 15, 0, 0);
     let told = b"at 2: F1 no SAUCE record\n\
-        help: --width N gives a drawing without a record one for N columns\n";
+        try: --add-record N, which adds a record for N columns\n";
     expect(&rt, answer, lent.text.get(..lent.told), (REFUSED, told));
     assert_eq!(rt; lent.size, 0);
     let wide = (lent.mend(&drawing(), 0, 1025, 0), lent.size, lent.told);
@@ -382,10 +390,10 @@ fn files_are_mended(rt: HostRuntime) {
     assert_eq!(rt; (wide, long), ((WRONG_NUMBER, 0, 0), (WRONG_NUMBER, 0, 0)));
 }
 
-/// How much is lent to have the drawing mended.
+/// How much is lent to have the drawing fixed.
 type Room = (usize, usize, usize, usize, usize);
 
-/// What `ans_mend_on` answers about the drawing within some room, and the lengths that it tells.
+/// What `ans_mend_on` answers about the drawing within some room, and the lengths that it sets.
 fn mended_within(room: Room) -> (u32, usize, usize) {
     let mut lent = LentForMending::new();
     let (rows, bytes, draft, mended, text) = room;
@@ -407,13 +415,13 @@ fn mended_within(room: Room) -> (u32, usize, usize) {
 
 #[test]
 fn mending_wants_room(rt: HostRuntime) {
-    assert_eq!(rt; mended_within((2, 16, 261, 156, 42)), (PASS, 156, 42));
-    assert_eq!(rt; mended_within((2, 16, 261, 156, 41)), (NO_ROOM, 156, 42));
+    assert_eq!(rt; mended_within((2, 16, 261, 156, 55)), (PASS, 156, 55));
+    assert_eq!(rt; mended_within((2, 16, 261, 156, 54)), (NO_ROOM, 156, 55));
     let few = [
-        (1, 16, 261, 156, 42),
-        (2, 15, 261, 156, 42),
-        (2, 16, 260, 156, 42),
-        (2, 16, 261, 155, 42),
+        (1, 16, 261, 156, 55),
+        (2, 15, 261, 156, 55),
+        (2, 16, 260, 156, 55),
+        (2, 16, 261, 155, 55),
     ];
     for room in few {
         assert_eq!(rt; mended_within(room), (NO_ROOM, 0, 0));
@@ -467,7 +475,7 @@ fn files_are_redrawn(rt: HostRuntime) {
     expect(&rt, answer, lent.text.get(..lent.told), (PASS, told));
     let answer = lent.redraw(b"Hi");
     let told = b"at 2: F1 no SAUCE record\n\
-        help: anscheck why says more of it; a drawing that was mended can be redrawn\n";
+        see anscheck why; fix the drawing with mend, then redraw it\n";
     expect(&rt, answer, lent.text.get(..lent.told), (REFUSED, told));
     assert_eq!(rt; lent.size, 0);
 }
@@ -475,7 +483,7 @@ fn files_are_redrawn(rt: HostRuntime) {
 /// How much is lent to have the drawing redrawn: rows, bytes, room for the redrawn file, and for the text.
 type RedrawingRoom = (usize, usize, usize, usize);
 
-/// What `ans_redraw_on` answers about the drawing within some room, and the lengths that it tells.
+/// What `ans_redraw_on` answers about the drawing within some room, and the lengths that it sets.
 fn redrawn_within(room: RedrawingRoom) -> (u32, usize, usize) {
     let mut lent = LentForRedrawing::new();
     let (rows, bytes, redrawn, text) = room;

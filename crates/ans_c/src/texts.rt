@@ -41,14 +41,14 @@ impl Write for Nowhere {
     }
 }
 
-/// The answer where a file passes, or does not.
+/// The answer if a file passes, or does not.
 pub(crate) fn code_of(passed: bool) -> u32
     ensures { result ≡ code_of passed }
 {
     if passed { PASS } else { REFUSED }
 }
 
-/// Copies a text to the front of a buffer, and tells its length.
+/// Copies a text to the start of a buffer, and sets its length.
 fn hand(text: &[u8], code: u32, buffer: &mut [u8], told: &mut usize) -> u32
     requires { code ≤ REFUSED }
     ensures handed { HandsOver text.now code (length buffer.old) result told.new buffer.new }
@@ -86,8 +86,8 @@ pub(crate) fn hand_over(
     hand(out.waiting(), code_of(passed), buffer, told)
 }
 
-/// Hands over the text of `anscheck why`, in UTF-8, with as many rows and bytes as a check of it wants. `PASS`:
-/// the file passes from the cleared start. `REFUSED`: it does not. The text stands at the front of `text`,
+/// Hands over the text of `anscheck why`, in UTF-8, with as many rows and bytes as a check of it needs. `PASS`:
+/// the file passes from the cleared start. `REFUSED`: it does not. `text` begins with the text,
 /// and `told` is how many bytes it has. `TOO_LONG`: the file is too long, and `told` is 0. `NO_ROOM`: there are too
 /// few rows or bytes, and `told` is 0; or `text` is shorter than the text, and `told` is how many bytes that has.
 #[unsafe(no_mangle)]
@@ -119,7 +119,7 @@ pub extern "C" fn ans_why_on(
 }
 
 /// Hands over the text of `anscheck sauce`, in UTF-8: what the file's record says, or why its record or its
-/// layout is refused. The answers are those of `ans_why_on`; it wants no rows and bytes.
+/// layout is refused. The answers are those of `ans_why_on`; it needs no rows and bytes.
 #[unsafe(no_mangle)]
 pub extern "C" fn ans_record(file: &[u8], text: &mut [u8], told: &mut usize) -> u32
     ensures handed { result ≢ TOO_LONG
@@ -146,7 +146,7 @@ pub extern "C" fn ans_record(file: &[u8], text: &mut [u8], told: &mut usize) -> 
     }
 }
 
-/// Hands over the text of the fault Fn, `F21 scrolls`, as `ans_why_on` does its own: `PASS`, or `NO_ROOM` where
+/// Hands over the text of the fault Fn, `F21 scrolls`, as `ans_why_on` does its own: `PASS`, or `NO_ROOM` if
 /// `text` is shorter. `REFUSED`: there is no fault of this number.
 #[unsafe(no_mangle)]
 pub extern "C" fn ans_copy_fault_text(number: u32, text: &mut [u8], told: &mut usize) -> u32

@@ -1,7 +1,9 @@
 -- What is said of an ending.
 use Rattle.std.proofs.Common.{◌≡◌, ℕ, ◌≤◌, Bool, true, false, List, [], ◌∷◌, length, Option, Some, None, Ok, Err}
-use Rattle.std.proofs.Common.{arith, refl, subst, sym, true≢false}
-use Rattle.std.specs.Prelude.{◌↔◌, ◌≢◌, Result, IsErr, IsTrue, MatchOption, OnOk, is_some, not, unwrap_or}
+use Rattle.std.proofs.Common.{arith, refl, sym, true≢false}
+use Rattle.std.specs.Prelude.{◌↔◌, Result, IsErr, IsTrue, MatchOption, OnOk, is_some, not, option_map, unwrap_or}
+use Rattle.std.proofs.KnownBytes.{Appends-nil}
+use Rattle.ans_write.specs.Tried.{has_failed, inner_of}
 use Rattle.ans_write.specs.Puts.{HandsOn, Puts, device_failed, device_of, waiting_of}
 use Rattle.ans_write.specs.Writes.{AppendsUnless, WritesText}
 use Rattle.ans_write.specs.declared.outbox.Outbox.{Outbox}
@@ -10,12 +12,24 @@ use Rattle.ans_write.proofs.PutsLemmas.{WritesText-finished}
 use Rattle.ans_write.specs.declared.tried.Tried.{Tried}
 use Rattle.clap.specs.Words.{Text}
 use Rattle.ans_options.specs.declared.command.TableForm.{TableForm}
-use Rattle.ans_table.specs.Findings.{RowFinding}
-use Rattle.ans_check.specs.Answer.{EndsBy, EndsNamed, Says, Tells, said_text}
+use Rattle.ans_check.specs.declared.naming.Naming.{Naming}
+use Rattle.ans_options.specs.CommandLine.{why_options}
+use Rattle.ans_check.specs.Answer.{EndsBy, EndsExplained, EndsNamed, EndsServed, EndsWhy, Says, Tells, message_of, said_text}
+use Rattle.ans_report.specs.Message.{message_line}
+use Rattle.ans_table.specs.declared.counts.Counts.{Counts}
+use Rattle.ans_mend.specs.declared.outcome.Mended as outcome
+use Rattle.ans_mend.specs.declared.outcome.Unmended.{Unmended}
+use Rattle.ans_redraw.specs.declared.outcome.Redrawn as redrawing
+use Rattle.ans_redraw.specs.declared.outcome.Unredrawn.{Unredrawn}
+use Rattle.ans_model.specs.declared.mends.Mends.{Mends}
+use Rattle.ans_check.specs.CommandText.{Reports}
+use Rattle.ans_check.specs.Naming.{first_called}
+use Rattle.ans_check.specs.declared.errors.RunError.TheVariants as error
 use Rattle.ans_check.specs.declared.exit_status.Ending.{Ending}
 use Rattle.ans_check.specs.declared.exit_status.Ending.TheVariants.{Run, Help, Usage, UnreadableWords, UnopenedFile}
 use Rattle.ans_check.specs.declared.exit_status.Ending.TheVariants.{Table, NamedInput, UnreadNames, Mended, NotMended}
-use Rattle.ans_check.specs.declared.exit_status.Ending.TheVariants.{Redrawn, NotRedrawn}
+use Rattle.ans_check.specs.declared.exit_status.Ending.TheVariants.{Redrawn, NotRedrawn, Explained, InputAmong}
+use Rattle.ans_check.specs.declared.exit_status.Ending.TheVariants.{MayPassCleared}
 
 -- what was written by its result is what was written by whether the device has failed
 written_unless : {T E : Type 0} (old new : Option (List ℕ)) (r : Result T E) (failed : Bool) (text : List ℕ)
@@ -35,21 +49,48 @@ put_out {E} {contents} {a} {b} {c} {text} errors r is none put handed device emp
     (WritesText-finished errors r is none put handed device empty)
 
 -- what an ending says is said
-pub said : {E : Type 0} (contents : E → Option (List ℕ)) (errors after : Tried E) (ending : Ending) → ending ≢ Usage
-    → MatchOption (said_text ending) (after ≡ errors) (λ text. Tells contents errors after text)
-    → Says contents errors after ending
-said contents errors after Usage told h = absurd (told refl)
-said contents errors after Help told h = h
-said contents errors after (Run answer) told h = h
-said contents errors after UnreadableWords told h = h
-said contents errors after UnopenedFile told h = h
-said contents errors after (Table counts) told h = h
-said contents errors after NamedInput told h = h
-said contents errors after UnreadNames told h = h
-said contents errors after (Mended mended) told h = h
-said contents errors after (NotMended asked reason) told h = h
-said contents errors after (Redrawn redrawn) told h = h
-said contents errors after (NotRedrawn reason) told h = h
+pub said : {E : Type 0} (contents : E → Option (List ℕ)) (errors after : Tried E) (naming : Naming) (ending : Ending)
+    → has_failed errors ≡ false
+    → MatchOption (said_text naming ending) (after ≡ errors) (λ text. Tells contents errors after text)
+    → Says contents errors after naming ending
+said contents errors after naming Usage works h = ([], rw h (rw works (Appends-nil (contents (inner_of errors)))))
+said contents errors after naming Help works h = h
+said contents errors after naming (Run answer) works h = h
+said contents errors after naming MayPassCleared works h = h
+said contents errors after naming UnreadableWords works h = h
+said contents errors after naming (UnopenedFile reason) works h = h
+said contents errors after naming (Table counts) works h = h
+said contents errors after naming (Explained counts) works h = h
+said contents errors after naming NamedInput works h = h
+said contents errors after naming InputAmong works h = h
+said contents errors after naming UnreadNames works h = h
+said contents errors after naming (Mended mended) works h = h
+said contents errors after naming (NotMended asked reason) works h = h
+said contents errors after naming (Redrawn redrawn) works h = h
+said contents errors after naming (NotRedrawn reason) works h = h
+
+-- whether an ending says nothing is the same whatever the input is called
+pub says_as : (naming other : Naming) (ending : Ending)
+    → is_some (said_text naming ending) ≡ is_some (said_text other ending)
+says_as naming other (Run (Ok passed)) = refl
+says_as naming other (Run (Err error.Read)) = refl
+says_as naming other (Run (Err error.TooLong)) = refl
+says_as naming other (Run (Err error.Memory)) = refl
+says_as naming other (Run (Err error.Write)) = refl
+says_as naming other MayPassCleared = refl
+says_as naming other Help = refl
+says_as naming other Usage = refl
+says_as naming other UnreadableWords = refl
+says_as naming other (UnopenedFile reason) = refl
+says_as naming other (Table counts) = refl
+says_as naming other (Explained counts) = refl
+says_as naming other NamedInput = refl
+says_as naming other InputAmong = refl
+says_as naming other UnreadNames = refl
+says_as naming other (Mended mended) = refl
+says_as naming other (NotMended asked reason) = refl
+says_as naming other (Redrawn redrawn) = refl
+says_as naming other (NotRedrawn reason) = refl
 
 -- where it says nothing, nothing was written
 pub said_nothing : {E : Type 0} (contents : E → Option (List ℕ)) (errors : Tried E) (o : Option (List ℕ))
@@ -66,18 +107,63 @@ said_something contents errors after (Some text) h told = told
 
 -- the table of names that the words give
 pub ends_by_names : {R W : Type 0} (remaining : R → Option (List ℕ)) (contents : W → Option (List ℕ))
-    (is_standard : R → Type 0) (found : Text → RowFinding → Type 0) (form : TableForm) (names : List Text)
+    (is_standard : R → Type 0) (is_file : Text → R → Type 0) (is_missing : Text → Type 0) (form : TableForm) (names : List Text)
     (output after : Tried W) (ending : Ending) → 1 ≤ length names
-    → EndsNamed contents found form names output after ending
-    → EndsBy remaining contents is_standard found form names output after ending
-ends_by_names remaining contents is_standard found form [] output after ending some h = absurd (omega arith)
-ends_by_names remaining contents is_standard found form (name ∷ more) output after ending some h = h
+    → EndsNamed contents remaining is_file is_missing form names output after ending
+    → EndsBy remaining contents is_standard is_file is_missing form names output after ending
+ends_by_names remaining contents is_standard is_file is_missing form [] output after ending some h = absurd (omega arith)
+ends_by_names remaining contents is_standard is_file is_missing form (name ∷ more) output after ending some h = h
 
 -- the table of names on standard input
 pub ends_by_input : {R W : Type 0} (remaining : R → Option (List ℕ)) (contents : W → Option (List ℕ))
-    (is_standard : R → Type 0) (found : Text → RowFinding → Type 0) (form : TableForm) (names : List Text)
+    (is_standard : R → Type 0) (is_file : Text → R → Type 0) (is_missing : Text → Type 0) (form : TableForm) (names : List Text)
     (output after : Tried W) (ending : Ending) → length names ≤ 0
-    → EndsBy remaining contents is_standard found form [] output after ending
-    → EndsBy remaining contents is_standard found form names output after ending
-ends_by_input remaining contents is_standard found form [] output after ending none h = h
-ends_by_input remaining contents is_standard found form (name ∷ more) output after ending none h = absurd (omega arith)
+    → EndsBy remaining contents is_standard is_file is_missing form [] output after ending
+    → EndsBy remaining contents is_standard is_file is_missing form names output after ending
+ends_by_input remaining contents is_standard is_file is_missing form [] output after ending none h = h
+ends_by_input remaining contents is_standard is_file is_missing form (name ∷ more) output after ending none h = absurd (omega arith)
+
+-- the answer on one file, or on standard input
+pub why_of_one : {R W : Type 0} (remaining : R → Option (List ℕ)) (contents : W → Option (List ℕ))
+    (is_file : Text → R → Type 0) (is_standard : R → Type 0) (is_missing : Text → Type 0) (names : List Text)
+    (first : Option Text) (output after : Tried W) (ending : Ending) → length names ≤ 1 → first ≡ first_called names
+    → EndsServed remaining contents is_file is_standard is_missing (Reports why_options) Run first output after ending
+    → EndsWhy remaining contents is_file is_standard is_missing names output after ending
+why_of_one remaining contents is_file is_standard is_missing [] first output after ending few is h = rw is at h
+why_of_one remaining contents is_file is_standard is_missing (name ∷ []) first output after ending few is h =
+    rw is at h
+why_of_one remaining contents is_file is_standard is_missing (name ∷ next ∷ more) first output after ending few is h =
+    absurd (omega arith)
+
+-- the answers on several
+pub why_of_several : {R W : Type 0} (remaining : R → Option (List ℕ)) (contents : W → Option (List ℕ))
+    (is_file : Text → R → Type 0) (is_standard : R → Type 0) (is_missing : Text → Type 0) (names : List Text)
+    (output after : Tried W) (ending : Ending) → 2 ≤ length names
+    → EndsExplained remaining contents is_file is_missing names output after ending
+    → EndsWhy remaining contents is_file is_standard is_missing names output after ending
+why_of_several remaining contents is_file is_standard is_missing [] output after ending many h = absurd (omega arith)
+why_of_several remaining contents is_file is_standard is_missing (name ∷ []) output after ending many h =
+    absurd (omega arith)
+why_of_several remaining contents is_file is_standard is_missing (name ∷ next ∷ more) output after ending many h = h
+
+-- an ending of which no more is told says its message
+pub said_as_message : (naming : Naming) (ending : Ending) → ((counts : Counts) → ending ≡ Table counts → ⊥)
+    → ((counts : Counts) → ending ≡ Explained counts → ⊥) → ((m : outcome.Mended) → ending ≡ Mended m → ⊥)
+    → ((asked : Mends) (reason : Unmended) → ending ≡ NotMended asked reason → ⊥)
+    → ((r : redrawing.Redrawn) → ending ≡ Redrawn r → ⊥) → ((reason : Unredrawn) → ending ≡ NotRedrawn reason → ⊥)
+    → said_text naming ending ≡ option_map message_line (message_of naming ending)
+said_as_message naming (Table counts) t e m n r u = absurd (t counts refl)
+said_as_message naming (Explained counts) t e m n r u = absurd (e counts refl)
+said_as_message naming (Mended mended) t e m n r u = absurd (m mended refl)
+said_as_message naming (NotMended asked reason) t e m n r u = absurd (n asked reason refl)
+said_as_message naming (Redrawn redrawn) t e m n r u = absurd (r redrawn refl)
+said_as_message naming (NotRedrawn reason) t e m n r u = absurd (u reason refl)
+said_as_message naming (Run answer) t e m n r u = refl
+said_as_message naming MayPassCleared t e m n r u = refl
+said_as_message naming Help t e m n r u = refl
+said_as_message naming Usage t e m n r u = refl
+said_as_message naming UnreadableWords t e m n r u = refl
+said_as_message naming (UnopenedFile reason) t e m n r u = refl
+said_as_message naming NamedInput t e m n r u = refl
+said_as_message naming InputAmong t e m n r u = refl
+said_as_message naming UnreadNames t e m n r u = refl

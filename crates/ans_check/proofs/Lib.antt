@@ -3,5 +3,5 @@ pub mod ReportedLemmas
 pub mod ServedLemmas
 pub mod AnswerLemmas
 pub mod ListingLemmas
-pub mod TableLemmas
+pub mod RowsLemmas
 pub mod MendFileLemmas

@@ -1,7 +1,7 @@
 -- A file in memory with room behind it, and how its writing ends.
-use Rattle.std.proofs.Common.{◌≡◌, ◌∙◌, ℕ, ◌+◌, ◌≤◌, Bool, true, false, List, ◌++◌, length, take, Ok, Err}
-use Rattle.std.proofs.Common.{◌-◌, ◌*◌, ap, ap₂, arith, refl, subst, sym, true≢false}
-use Rattle.std.specs.Prelude.{◌↔◌, Result, IsErr, IsTrue, min}
+use Rattle.std.proofs.Common.{◌≡◌, ◌∙◌, ℕ, ◌+◌, ◌≤◌, List, ◌++◌, length, take}
+use Rattle.std.proofs.Common.{◌-◌, ◌*◌, ap, ap₂, arith, subst, sym}
+use Rattle.std.specs.Prelude.{min}
 use Rattle.std.proofs.Math.Nat.{le-min}
 use Rattle.std.proofs.Math.Seq.{take-append_seam}
 use Rattle.std.proofs.lemmas.List.{length-append, take_all}

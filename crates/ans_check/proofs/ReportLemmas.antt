@@ -1,7 +1,7 @@
 -- A report on what was found is right of the file.
 use Rattle.std.proofs.Common.{◌≡◌, ℕ, Bool, false, List, Option, Some, None}
 use Rattle.std.proofs.Common.{inl, inr, refl, sym, ap, ap₂, subst, ◌∙◌, not, true, true≢false}
-use Rattle.std.specs.Prelude.{is_some}
+use Rattle.std.specs.Prelude.{if◌then◌else◌, is_some}
 use Rattle.ans_model.specs.Verdict.Good.{Picture}
 use Rattle.ans_model.specs.File.Layout.{FileParts}
 use Rattle.ans_model.specs.File.Refusals.{record_fault}
@@ -33,6 +33,9 @@ use Rattle.ans_report.specs.RecordReports.{ReportsRecordFault}
 use Rattle.ans_check.specs.CommandText.{ReportsNeeds, ReportsContent, ReportsTokens}
 use Rattle.ans_report.specs.RecordReports.{ReportsRecord}
 use Rattle.ans_check.specs.CommandText.{IsReportOf, ReportsPicture, shown_text}
+use Rattle.ans_check.specs.CommandText.{ReportsChecked, ReportsFaultOf, checked_of, is_of_start, is_passed}
+use Rattle.ans_check.specs.declared.check_file.Checked.{Checked}
+use Rattle.ans_check.specs.declared.check_file.Checked.TheVariants as checked
 use Rattle.ans_why.specs.WhyText.{ReportsWhy}
 use Rattle.ans_why.specs.Explained.{IsTrueOf, Why}
 use Rattle.ans_why.specs.WhyText.{why_text}
@@ -100,6 +103,48 @@ verdict_reported file start cells (Refused None f) (report.Refused told from fau
     p s same (never_good file start f good, inr (record_reported file f h))
 verdict_reported file start cells (Pass parts picture) (report.Refused told from fault) never h good = absurd never
 verdict_reported file start cells (Refused parts f) (report.Pass told from shown asked) never h good = absurd never
+
+-- such a report is of a fault of the start exactly if its fault is
+fault_by_start : (file : List ℕ) (start : Start) (apart : FileParts) (parts : Parts) (f : Fault)
+    → ShowsParts apart parts → IsRefusedFor file start apart f
+    → ReportsFaultOf file start (is_of_start f.cause) (report_text (heading_of parts (Some start)) (RefusedFor f))
+unfolding fault_reported
+fault_by_start file start apart parts f shows h = (fault_reported file start (Some start) apart parts f shows h, refl)
+
+-- a refusal of the content is reported, by whether its fault is of the start
+content_checked : (file : List ℕ) (start : Start) (cells of_start : Bool) (text : List ℕ) → ¬ IsGoodFile file start
+    → ReportsFaultOf file start of_start text
+    → ReportsChecked file start cells (if of_start then checked.RefusedByStart else checked.Refused) text
+content_checked file start cells true text never h = (never, h)
+content_checked file start cells false text never h = (never, inl h)
+
+-- and of a check it tells whether it is refused for a fault of the start
+pub check_reported : {G : Type 0} (file : List ℕ) (start : Start) (cells : Bool) (v : Verdict G) (r : Report G)
+    → IsReportOf v start cells r
+    → IsVerdictOn file start v → (IsGoodFile file start → fault_of v ≡ None)
+    → ReportsChecked file start cells (checked_of v) (report_bytes r)
+check_reported {G} file start cells (Pass parts picture) (report.Pass told from shown asked) same h good =
+    verdict_reported {G = G} file start cells (Pass parts picture) (report.Pass told from shown asked) same h good
+check_reported file start cells (Refused (Some parts) f) (report.Refused told from fault) (p, s, same) h good =
+    of_equals (λ (v : Option Parts) (at : Start) (why : Fault). ReportsChecked file start cells
+    (if is_of_start f.cause then checked.RefusedByStart else checked.Refused) (refused_text v at why))
+    p s same
+    (content_checked file start cells (is_of_start f.cause) (refused_text (Some parts) start f)
+    (never_good file start f good) (fault_by_start file start h.0 parts f h.1 h.2))
+check_reported file start cells (Refused None f) (report.Refused told from fault) (p, s, same) h good =
+    of_equals (λ (v : Option Parts) (at : Start) (why : Fault). ReportsChecked file start cells checked.Refused
+    (refused_text v at why))
+    p s same (never_good file start f good, inr (record_reported file f h))
+check_reported file start cells (Pass parts picture) (report.Refused told from fault) never h good = absurd never
+check_reported file start cells (Refused parts f) (report.Pass told from shown asked) never h good = absurd never
+
+-- what a check answers and writes is right of whether the file passes
+pub passed_by : (file : List ℕ) (start : Start) (cells : Bool) (found : Checked) (text : List ℕ)
+    → ReportsChecked file start cells found text → ReportsCheck file start cells (is_passed found) text
+passed_by file start cells checked.Pass text h = h
+passed_by file start cells checked.Refused text (never, inl h) = (never, inl h.0)
+passed_by file start cells checked.Refused text (never, inr h) = (never, inr h)
+passed_by file start cells checked.RefusedByStart text (never, h) = (never, inl h.0)
 
 -- and so does the report that tells a refusal
 pub refused_reported : {G : Type 0} (file : List ℕ) (start : Start) (v : Verdict G) (parts : Option Parts) (f : Fault)

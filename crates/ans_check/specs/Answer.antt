@@ -1,17 +1,18 @@
 -- How the program answers its words.
-use Rattle.std.specs.Prelude.{◌≡◌, ◌⊎◌, ℕ, Bool, true, false, List, [], ◌∷◌, Option, Some, None, Result, Ok, Err, codes}
-use Rattle.std.specs.Prelude.{◌↔◌, IsSomeAnd, IsTrue, MatchBool, MatchOption, map, option_map, string_bytes}
+use Rattle.std.specs.Prelude.{◌≡◌, ◌⊎◌, ℕ, Bool, true, false, List, [], ◌∷◌, Option, Some, None, Result, Ok, Err}
+use Rattle.std.specs.Prelude.{◌↔◌, ◌++◌, IsSomeAnd, IsTrue, MatchBool, MatchOption, map, option_map, string_bytes}
 use Rattle.std.specs.List.{list_any}
-use Rattle.std.specs.Str.{bytes_eq}
 use Rattle.clap.specs.Words.{Text}
 use Rattle.ans_mend.specs.MendedText.{mended_text, unmended_text}
 use Rattle.ans_redraw.specs.RedrawnText.{redrawn_text, unredrawn_text}
 use Rattle.ans_options.specs.CommandLine.{HasKindAmong, IsAskedBy, RanOutOfMemory, faults_of, words_asked}
-use Rattle.ans_options.specs.Topics.{topic_of}
+use Rattle.ans_options.specs.CommandLine.{why_options}
+use Rattle.ans_options.specs.Topics.{topic_of, word_text}
+use Rattle.ans_options.specs.declared.command.Command.{Command}
+use Rattle.ans_options.specs.declared.command.Command.TheVariants.{Check}
 use Rattle.ans_options.specs.declared.command.Asked.{Asked}
 use Rattle.ans_options.specs.declared.command.Asked.TheVariants as asked
 use Rattle.ans_options.specs.declared.command.TableForm.{TableForm}
-use Rattle.ans_model.specs.declared.mends.Mends.{Mends}
 use Rattle.ans_options.specs.declared.command.Options.{Options}
 use Rattle.ans_options.specs.declared.command_line.WordsError.{WordsError}
 use Rattle.ans_options.specs.declared.topic.Topic.{Topic}
@@ -19,29 +20,29 @@ use Rattle.ans_options.specs.declared.topic.Topic.TheVariants as topic
 use Rattle.ans_report.specs.Meanings.{fault_meaning, note_meaning}
 use Rattle.ans_report.specs.Message.{message_line}
 use Rattle.ans_table.specs.declared.counts.Counts.{Counts}
-use Rattle.ans_table.specs.Findings.{RowFinding}
 use Rattle.ans_table.specs.Counting.{counts_text}
 use Rattle.ans_write.specs.Tried.{call_count, has_failed, inner_of}
 use Rattle.ans_write.specs.Writes.{AppendsUnless, Wrote, WrotePrefix}
 use Rattle.ans_write.specs.declared.tried.Tried.{Tried}
-use Rattle.ans_check.specs.CommandText.{Reports}
-use Rattle.ans_check.specs.Ending.{ending_message, ending_of_mending, ending_of_redrawing, ending_of_words}
+use Rattle.ans_check.specs.CommandText.{Reports, ReportsChecked}
+use Rattle.ans_check.specs.Ending.{ending_message, ending_of_checking, ending_of_mending, ending_of_redrawing}
+use Rattle.ans_check.specs.Ending.{ending_of_words}
 use Rattle.ans_check.specs.Listing.{IsListing, was_read_whole, names_in, listed_bytes}
 use Rattle.ans_redraw.specs.Redrawing.{TellsRedrawn}
 use Rattle.ans_check.specs.Served.{ServesAs}
 use Rattle.ans_mend.specs.Mending.{TellsMended}
-use Rattle.ans_check.specs.Table.{WritesTable, header, IsFoundByName}
+use Rattle.ans_check.specs.Naming.{IsNaming, first_called, front_text, names_standard, unnamed, unopened_text}
+use Rattle.ans_check.specs.Table.{WritesTable}
+use Rattle.ans_check.specs.WhyRows.{WritesWhys, unread_counts_said}
+use Rattle.ans_check.specs.declared.naming.Naming.{Naming}
+use Rattle.ans_check.specs.declared.unopened.Unopened.{Unopened}
 use Rattle.ans_check.specs.declared.listing.Listing.{Listing}
 use Rattle.ans_check.specs.declared.errors.RunError.{RunError}
 use Rattle.ans_check.specs.declared.errors.RunError.TheVariants as error
 use Rattle.ans_check.specs.declared.exit_status.Ending.{Ending}
 use Rattle.ans_check.specs.declared.exit_status.Ending.TheVariants.{Run, Help, Usage, UnreadableWords, UnopenedFile}
 use Rattle.ans_check.specs.declared.exit_status.Ending.TheVariants.{Table, NamedInput, UnreadNames, Mended, NotMended}
-use Rattle.ans_check.specs.declared.exit_status.Ending.TheVariants.{Redrawn, NotRedrawn}
-
--- `-` names standard input
-abbrev pub names_standard : Text → Bool
-names_standard name = bytes_eq name (codes "-")
+use Rattle.ans_check.specs.declared.exit_status.Ending.TheVariants.{Redrawn, NotRedrawn, Explained, InputAmong}
 
 -- the reader is the input that the words name: the file of this name, or standard input where it is `-` or missing
 abbrev pub IsNamed : {R : Type 0} → (Text → R → Type 0) → (R → Type 0) → Option Text → R → Type 0
@@ -68,7 +69,8 @@ pub record EndsUnopened {W : Type 0} (is_missing : Text → Type 0) (file : Opti
     (ending : Ending) : Type 0 where
   pub named : IsSomeAnd file (λ name. (names_standard name ≡ false) × is_missing name)
   pub unwritten : output_after ≡ output
-  pub ends : ending ≡ UnopenedFile
+  pub reason : Unopened
+  pub ends : ending ≡ UnopenedFile reason
 
 -- the input of this name was served so, or it cannot be opened
 abbrev pub EndsServed : {R W A : Type 0} → (R → Option (List ℕ)) → (W → Option (List ℕ)) → (Text → R → Type 0)
@@ -85,41 +87,71 @@ ending_of_table false (Ok counts) = UnreadNames
 ending_of_table whole (Err fault) = Run (Err fault)
 
 -- the table of these names was written, and is the ending; or there was no memory to list them, and nothing was
-abbrev pub EndsWritten : {W : Type 0} → (W → Option (List ℕ)) → (Text → RowFinding → Type 0) → TableForm → Bool
-    → List Text → Tried W → Tried W → Ending → Type 0
-EndsWritten contents found form whole names output output_after ending =
-    ((result : Result Counts RunError) × WritesTable contents found form (header form) names output output_after result
+abbrev pub EndsWritten : {R W : Type 0} → (W → Option (List ℕ)) → (R → Option (List ℕ)) → (Text → R → Type 0)
+    → (Text → Type 0) → TableForm → Bool → List Text → Tried W → Tried W → Ending → Type 0
+EndsWritten contents remaining is_file is_missing form whole names output output_after ending =
+    ((result : Result Counts RunError)
+    × WritesTable contents remaining is_file is_missing form names output output_after result
     × (ending ≡ ending_of_table whole result))
     ⊎ ((ending ≡ Run (Err error.Memory)) × (output_after ≡ output))
 
 -- The table of the named files; `-` is none of them.
-abbrev pub EndsNamed : {W : Type 0} → (W → Option (List ℕ)) → (Text → RowFinding → Type 0) → TableForm → List Text
-    → Tried W → Tried W → Ending → Type 0
-EndsNamed contents found form names output output_after ending =
+abbrev pub EndsNamed : {R W : Type 0} → (W → Option (List ℕ)) → (R → Option (List ℕ)) → (Text → R → Type 0)
+    → (Text → Type 0) → TableForm → List Text → Tried W → Tried W → Ending → Type 0
+EndsNamed contents remaining is_file is_missing form names output output_after ending =
     MatchBool (list_any names_standard names) ((ending ≡ NamedInput) × (output_after ≡ output))
-    (EndsWritten contents found form true names output output_after ending)
+    (EndsWritten contents remaining is_file is_missing form true names output output_after ending)
 
 -- standard input gave names, and the program ends as the table of them
 pub record EndsAfterListing {R W : Type 0} (remaining : R → Option (List ℕ)) (contents : W → Option (List ℕ))
-    (is_standard : R → Type 0) (found : Text → RowFinding → Type 0) (form : TableForm) (output output_after : Tried W)
-    (ending : Ending) : Type 0 where
+    (is_standard : R → Type 0) (is_file : Text → R → Type 0) (is_missing : Text → Type 0) (form : TableForm)
+    (output output_after : Tried W) (ending : Ending) : Type 0 where
   pub reader : Tried R
   pub reader_after : Tried R
   pub input : is_standard (inner_of reader)
   pub listing : Listing
   pub listed : IsListing remaining reader reader_after listing
-  pub ends : EndsWritten contents found form (was_read_whole listing)
+  pub ends : EndsWritten contents remaining is_file is_missing form (was_read_whole listing)
       (names_in (was_read_whole listing) (listed_bytes listing)) output output_after ending
 
--- The table by the names that the words give: where they give none, by those on standard input, unless there was no
+-- The table by the names that the words give: if they give none, by those on standard input, unless there was no
 -- memory for these.
 abbrev pub EndsBy : {R W : Type 0} → (R → Option (List ℕ)) → (W → Option (List ℕ)) → (R → Type 0)
-    → (Text → RowFinding → Type 0) → TableForm → List Text → Tried W → Tried W → Ending → Type 0
-EndsBy remaining contents is_standard found form [] output output_after ending =
-    EndsAfterListing remaining contents is_standard found form output output_after ending
+    → (Text → R → Type 0) → (Text → Type 0) → TableForm → List Text → Tried W → Tried W → Ending → Type 0
+EndsBy remaining contents is_standard is_file is_missing form [] output output_after ending =
+    EndsAfterListing remaining contents is_standard is_file is_missing form output output_after ending
     ⊎ ((ending ≡ Run (Err error.Memory)) × (output_after ≡ output))
-EndsBy remaining contents is_standard found form (name ∷ more) output output_after ending =
-    EndsNamed contents found form (name ∷ more) output output_after ending
+EndsBy remaining contents is_standard is_file is_missing form (name ∷ more) output output_after ending =
+    EndsNamed contents remaining is_file is_missing form (name ∷ more) output output_after ending
+
+-- how `why` of several files ends
+abbrev pub ending_of_whys : Result Counts RunError → Ending
+ending_of_whys (Ok counts) = Explained counts
+ending_of_whys (Err fault) = Run (Err fault)
+
+-- What is wrong with each of several files was written, and is the ending; or there was no memory to list them. If the
+-- first name was perhaps meant as a command, and its file cannot be opened, that is the ending. `-` is none of them.
+abbrev pub EndsExplained : {R W : Type 0} → (R → Option (List ℕ)) → (W → Option (List ℕ)) → (Text → R → Type 0)
+    → (Text → Type 0) → List Text → Tried W → Tried W → Ending → Type 0
+EndsExplained remaining contents is_file is_missing names output output_after ending =
+    MatchBool (list_any names_standard names) ((ending ≡ InputAmong) × (output_after ≡ output))
+    (EndsUnopened is_missing (first_called names) output output_after ending
+    ⊎ ((result : Result Counts RunError)
+    × WritesWhys contents remaining is_file is_missing names output output_after result
+    × (ending ≡ ending_of_whys result))
+    ⊎ ((ending ≡ Run (Err error.Memory)) × (output_after ≡ output)))
+
+-- What is wrong with the files of these names: with standard input if there is none.
+abbrev pub EndsWhy : {R W : Type 0} → (R → Option (List ℕ)) → (W → Option (List ℕ)) → (Text → R → Type 0)
+    → (R → Type 0) → (Text → Type 0) → List Text → Tried W → Tried W → Ending → Type 0
+EndsWhy remaining contents is_file is_standard is_missing [] output output_after ending =
+    EndsServed remaining contents is_file is_standard is_missing (Reports why_options) Run None output output_after
+    ending
+EndsWhy remaining contents is_file is_standard is_missing (name ∷ []) output output_after ending =
+    EndsServed remaining contents is_file is_standard is_missing (Reports why_options) Run (Some name) output
+    output_after ending
+EndsWhy remaining contents is_file is_standard is_missing (name ∷ next ∷ more) output output_after ending =
+    EndsExplained remaining contents is_file is_missing (name ∷ next ∷ more) output output_after ending
 
 -- The text of help is on the output; or the output failed, and has a prefix of it.
 abbrev pub PrintsHelp : {W : Type 0} → (W → Option (List ℕ)) → Tried W → Tried W → List ℕ → Ending → Type 0
@@ -127,18 +159,41 @@ PrintsHelp contents output output_after text ending =
     ((ending ≡ Help) × Wrote contents output output_after text)
     ⊎ ((ending ≡ Run (Err error.Write)) × WrotePrefix contents output output_after text)
 
--- what a fault or a note means, and how it is mended
+-- what a fault, a note or a word means
 abbrev pub meaning_text : Topic → List ℕ
 meaning_text (topic.Fault cause) = fault_meaning cause
 meaning_text (topic.Note note) = note_meaning note
+meaning_text (topic.Word word) = word_text word
 
--- what is asked for was done: one command on one input, a file mended or redrawn, a table of many files, or what a
--- fault or a note means
+-- the command is `check`
+abbrev pub is_check : Command → Bool
+is_check Check = true
+is_check _ = false
+
+-- A file was checked. If it is refused for a fault of the start, the ending says where more is known of that.
+abbrev pub EndsChecked : {R W : Type 0} → (R → Option (List ℕ)) → (W → Option (List ℕ)) → (Text → R → Type 0)
+    → (R → Type 0) → (Text → Type 0) → Options → Option Text → Tried W → Tried W → Ending → Type 0
+EndsChecked remaining contents is_file is_standard is_missing options file output output_after ending =
+    EndsServed remaining contents is_file is_standard is_missing
+    (λ bytes. ReportsChecked bytes options.start options.cells) ending_of_checking file output output_after ending
+
+-- one command was done on one input
+abbrev pub EndsOne : {R W : Type 0} → (R → Option (List ℕ)) → (W → Option (List ℕ)) → (Text → R → Type 0)
+    → (R → Type 0) → (Text → Type 0) → Options → Option Text → Tried W → Tried W → Ending → Type 0
+EndsOne remaining contents is_file is_standard is_missing options file output output_after ending =
+    MatchBool (is_check options.command)
+    (EndsChecked remaining contents is_file is_standard is_missing options file output output_after ending)
+    (EndsServed remaining contents is_file is_standard is_missing (Reports options) Run file output output_after ending)
+
+-- what is asked for was done: one command on one input, what is wrong with files, a file mended or redrawn, a table of
+-- many files, or what a fault, a note or a word means
 abbrev pub EndsAsTold : {R W : Type 0} → (R → Option (List ℕ)) → (W → Option (List ℕ)) → (Text → R → Type 0)
     → (R → Type 0) → (Text → Type 0) → Asked → Tried W → Tried W → Ending → Type 0
 EndsAsTold remaining contents is_file is_standard is_missing (asked.One options file) output output_after ending =
-    EndsServed remaining contents is_file is_standard is_missing (Reports options) Run (option_map string_bytes file)
-    output output_after ending
+    EndsOne remaining contents is_file is_standard is_missing options (option_map string_bytes file) output output_after
+    ending
+EndsAsTold remaining contents is_file is_standard is_missing (asked.Why names) output output_after ending =
+    EndsWhy remaining contents is_file is_standard is_missing (map string_bytes names.items) output output_after ending
 EndsAsTold remaining contents is_file is_standard is_missing (asked.Mend mends file) output output_after ending =
     EndsServed remaining contents is_file is_standard is_missing (TellsMended mends) (ending_of_mending mends)
     (option_map string_bytes file) output output_after ending
@@ -146,19 +201,10 @@ EndsAsTold remaining contents is_file is_standard is_missing (asked.Redraw file)
     EndsServed remaining contents is_file is_standard is_missing TellsRedrawn ending_of_redrawing
     (option_map string_bytes file) output output_after ending
 EndsAsTold remaining contents is_file is_standard is_missing (asked.Table form names) output output_after ending =
-    EndsBy remaining contents is_standard (IsFoundByName remaining is_file is_missing) form
-    (map string_bytes names.items) output output_after ending
+    EndsBy remaining contents is_standard is_file is_missing form (map string_bytes names.items) output output_after
+    ending
 EndsAsTold remaining contents is_file is_standard is_missing (asked.Meaning topic) output output_after ending =
     PrintsHelp contents output output_after (meaning_text topic) ending
-
--- The words ask for something, and the program ends with it. Words that clap reads, with their command, have no fault.
-pub record EndsAsAsked {R W : Type 0} (remaining : R → Option (List ℕ)) (contents : W → Option (List ℕ))
-    (is_file : Text → R → Type 0) (is_standard : R → Type 0) (is_missing : Text → Type 0) (words : List Text)
-    (output output_after : Tried W) (ending : Ending) : Type 0 where
-  pub asked : Asked
-  pub asked_by : IsAskedBy words asked
-  pub faultless : topic_of words ≡ None → faults_of (words_asked words) ≡ []
-  pub ends : EndsAsTold remaining contents is_file is_standard is_missing asked output output_after ending
 
 -- The error is one that these words, with their command, can have. If they have no fault, it is want of memory.
 pub record IsRefusalOf (words : List Text) (refusal : WordsError) : Type 0 where
@@ -178,22 +224,6 @@ EndsAfter contents Usage output output_after ending =
     ((ending ≡ Usage) ⊎ (ending ≡ UnreadableWords)) × (output_after ≡ output)
 EndsAfter contents told output output_after ending = (ending ≡ told) × (output_after ≡ output)
 
--- The words ask for nothing, not for what a fault or a note means either, and the program ends as their error says.
-pub record EndsRefused {W : Type 0} (contents : W → Option (List ℕ)) (words : List Text) (output output_after : Tried W)
-    (ending : Ending) : Type 0 where
-  pub topicless : topic_of words ≡ None
-  pub refusal : WordsError
-  pub refused : IsRefusalOf words refusal
-  pub ends : EndsAfter contents (ending_of_words refusal) output output_after ending
-
--- The two ways in which the words are answered.
-abbrev pub EndsSo : {R W : Type 0} → (R → Option (List ℕ)) → (W → Option (List ℕ))
-    → (Text → R → Type 0) → (R → Type 0) → (Text → Type 0)
-    → List Text → Tried W → Tried W → Ending → Type 0
-EndsSo remaining contents is_file is_standard is_missing words output output_after ending =
-    EndsAsAsked remaining contents is_file is_standard is_missing words output output_after ending
-    ⊎ EndsRefused contents words output output_after ending
-
 -- the ending tells of a failed write exactly where the output failed
 abbrev pub TellsFailure : {W : Type 0} → Tried W → Ending → Type 0
 TellsFailure output ending = (ending ≡ Run (Err error.Write)) ↔ IsTrue (has_failed output)
@@ -203,18 +233,69 @@ abbrev pub Tells : {E : Type 0} → (E → Option (List ℕ)) → Tried E → Tr
 Tells contents errors errors_after text =
     AppendsUnless (has_failed errors_after) (contents (inner_of errors)) (contents (inner_of errors_after)) text
 
--- What an ending says on standard error, if anything: the line of its message; that of a table's counts; what was
--- changed of a file that was mended or redrawn, or why it was not.
-abbrev pub said_text : Ending → Option (List ℕ)
-said_text (Table counts) = Some (message_line (counts_text counts))
-said_text (Mended mended) = Some (mended_text mended)
-said_text (NotMended asked reason) = Some (unmended_text asked reason)
-said_text (Redrawn redrawn) = Some (redrawn_text redrawn)
-said_text (NotRedrawn reason) = Some (unredrawn_text reason)
-said_text ending = option_map message_line (ending_message ending)
+-- the message of an ending, which has this text if no name is told
+abbrev pub named_message : Naming → Ending → List ℕ → List ℕ
+named_message naming (UnopenedFile reason) text = unopened_text naming reason
+named_message naming (Run (Err error.Read)) text = front_text naming ++ text
+named_message naming (Run (Err error.TooLong)) text = front_text naming ++ text
+named_message naming ending text = text
+
+-- What an ending says after `anscheck: `, if anything: its message, with what the input is called.
+abbrev pub message_of : Naming → Ending → Option (List ℕ)
+message_of naming ending = option_map (named_message naming ending) (ending_message ending)
+
+-- What an ending says on standard error, if anything: the line of its message; that of a table's counts; how many of
+-- several files were not read, if any; what was changed of a file that was mended or redrawn, or why it was not.
+abbrev pub said_text : Naming → Ending → Option (List ℕ)
+said_text naming (Table counts) = Some (message_line (counts_text counts))
+said_text naming (Explained counts) = unread_counts_said counts
+said_text naming (Mended mended) = Some (mended_text mended)
+said_text naming (NotMended asked reason) = Some (unmended_text asked reason)
+said_text naming (Redrawn redrawn) = Some (redrawn_text redrawn)
+said_text naming (NotRedrawn reason) = Some (unredrawn_text reason)
+said_text naming ending = option_map message_line (message_of naming ending)
 
 -- the errors took what the ending says, or nothing if it says nothing; clap's text if the words are rejected
-abbrev pub Says : {E : Type 0} → (E → Option (List ℕ)) → Tried E → Tried E → Ending → Type 0
-Says contents errors errors_after Usage = (text : List ℕ) × Tells contents errors errors_after text
-Says contents errors errors_after ending =
-    MatchOption (said_text ending) (errors_after ≡ errors) (λ text. Tells contents errors errors_after text)
+abbrev pub Says : {E : Type 0} → (E → Option (List ℕ)) → Tried E → Tried E → Naming → Ending → Type 0
+Says contents errors errors_after naming Usage = (text : List ℕ) × Tells contents errors errors_after text
+Says contents errors errors_after naming ending =
+    MatchOption (said_text naming ending) (errors_after ≡ errors) (λ text. Tells contents errors errors_after text)
+
+-- the errors took what the ending of what is asked for says
+pub record SaysOf {E : Type 0} (contents : E → Option (List ℕ)) (errors errors_after : Tried E) (words : List Text)
+    (a : Asked) (ending : Ending) : Type 0 where
+  pub naming : Naming
+  pub named : IsNaming words a naming
+  pub says : Says contents errors errors_after naming ending
+
+-- ---- the two ways in which words are answered
+
+-- The words ask for something, and the program ends with it. Words that clap reads, with their command, have no fault.
+pub record EndsAsAsked {R W E : Type 0} (remaining : R → Option (List ℕ)) (contents : W → Option (List ℕ))
+    (told : E → Option (List ℕ)) (is_file : Text → R → Type 0) (is_standard : R → Type 0) (is_missing : Text → Type 0)
+    (words : List Text) (output output_after : Tried W) (errors errors_after : Tried E) (ending : Ending)
+    : Type 0 where
+  pub asked : Asked
+  pub asked_by : IsAskedBy words asked
+  pub faultless : topic_of words ≡ None → faults_of (words_asked words) ≡ []
+  pub ends : EndsAsTold remaining contents is_file is_standard is_missing asked output output_after ending
+  pub says : SaysOf told errors errors_after words asked ending
+
+-- The words ask for nothing, not for what a fault, a note or a word means either, and the program ends as their error
+-- says.
+pub record EndsRefused {W E : Type 0} (contents : W → Option (List ℕ)) (told : E → Option (List ℕ))
+    (words : List Text) (output output_after : Tried W) (errors errors_after : Tried E) (ending : Ending)
+    : Type 0 where
+  pub topicless : topic_of words ≡ None
+  pub refusal : WordsError
+  pub refused : IsRefusalOf words refusal
+  pub ends : EndsAfter contents (ending_of_words refusal) output output_after ending
+  pub says : Says told errors errors_after unnamed ending
+
+abbrev pub EndsSo : {R W E : Type 0} → (R → Option (List ℕ)) → (W → Option (List ℕ)) → (E → Option (List ℕ))
+    → (Text → R → Type 0) → (R → Type 0) → (Text → Type 0)
+    → List Text → Tried W → Tried W → Tried E → Tried E → Ending → Type 0
+EndsSo remaining contents told is_file is_standard is_missing words output output_after errors errors_after ending =
+    EndsAsAsked remaining contents told is_file is_standard is_missing words output output_after errors errors_after
+    ending
+    ⊎ EndsRefused contents told words output output_after errors errors_after ending

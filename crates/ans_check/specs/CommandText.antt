@@ -1,5 +1,6 @@
 -- What a run writes of a file.
-use Rattle.std.specs.Prelude.{◌≡◌, ◌⊎◌, ℕ, Bool, true, false, List, length, Option, Some, None}
+use Rattle.std.specs.Prelude.{◌≡◌, ◌⊎◌, ℕ, nat_le, Bool, true, false, List, length, Option, Some, None}
+use Rattle.std.specs.Prelude.{if◌then◌else◌}
 use Rattle.ans_model.specs.File.Layout.{FileParts, content}
 use Rattle.ans_model.specs.File.NoteConditions.{notes}
 use Rattle.ans_model.specs.File.Record.{title_field, trimmed, is_non_blink, stated_size}
@@ -8,7 +9,9 @@ use Rattle.ans_model.specs.Verdict.Good.{Picture}
 use Rattle.ans_model.specs.Text.TokensText.{TokensText}
 use Rattle.ans_model.specs.Screen.StartClass.{all_known}
 use Rattle.ans_model.specs.Text.NeedsText.{needs_text}
+use Rattle.ans_model.specs.Text.FaultText.{cause_number}
 use Rattle.ans_model.specs.Text.ReportText.{Heading, Passed, RefusedFor, report_text}
+use Rattle.ans_model.specs.declared.fault.Cause.{Cause}
 use Rattle.ans_model.specs.declared.fault.Fault.{Fault}
 use Rattle.ans_model.specs.declared.start.Start.{Start}
 use Rattle.std.specs.Option.{option_copied}
@@ -28,6 +31,8 @@ use Rattle.ans_verdict.specs.declared.verdict.Verdict.{Verdict}
 use Rattle.ans_verdict.specs.declared.verdict.Verdict.TheVariants.{Pass, Refused}
 use Rattle.ans_verdict.specs.FileNeeds.{NeedsClass}
 use Rattle.ans_verdict.specs.FileVerdict.{Passes, IsRefusedFor, IsGoodFile}
+use Rattle.ans_check.specs.declared.check_file.Checked.{Checked}
+use Rattle.ans_check.specs.declared.check_file.Checked.TheVariants as checked
 
 -- what is said of a file before its verdict or its needs, and the class of starts where one is named
 abbrev pub heading : FileParts → Option Start → Heading
@@ -61,6 +66,37 @@ ReportsRefusal file start named text = ¬ IsGoodFile file start
 abbrev pub ReportsCheck : List ℕ → Start → Bool → Bool → List ℕ → Type 0
 ReportsCheck file start cells true text = ReportsPass file start cells text
 ReportsCheck file start cells false text = ReportsRefusal file start (Some start) text
+
+-- the cause is in what is unknown of the start: F22 to F25
+abbrev pub is_of_start : Cause → Bool
+is_of_start cause = nat_le 22 (cause_number cause)
+
+-- the content's fault is reported, and it is of the start, or is not
+abbrev pub ReportsFaultOf : List ℕ → Start → Bool → List ℕ → Type 0
+ReportsFaultOf file start of_start text =
+    (reported : ReportsFault file start (Some start) text) × (is_of_start reported.fault.cause ≡ of_start)
+
+-- the answer and the text are what a check finds of the file: it passes; it is refused for a fault that is not of the
+-- start, or for its record; or it is refused for a fault of the start
+abbrev pub ReportsChecked : List ℕ → Start → Bool → Checked → List ℕ → Type 0
+ReportsChecked file start cells checked.Pass text = ReportsPass file start cells text
+ReportsChecked file start cells checked.Refused text = ¬ IsGoodFile file start
+    × (ReportsFaultOf file start false text ⊎ ReportsRecordFault file text)
+ReportsChecked file start cells checked.RefusedByStart text = ¬ IsGoodFile file start
+    × ReportsFaultOf file start true text
+
+-- whether a check with this answer is passed
+abbrev pub is_passed : Checked → Bool
+is_passed checked.Pass = true
+is_passed checked.Refused = false
+is_passed checked.RefusedByStart = false
+
+-- what a check answers at a verdict
+abbrev pub checked_of : {G : Type 0} → Verdict G → Checked
+checked_of (Pass parts picture) = checked.Pass
+checked_of (Refused None fault) = checked.Refused
+checked_of (Refused (Some parts) fault) =
+    if is_of_start fault.cause then checked.RefusedByStart else checked.Refused
 
 -- the picture in each form, with the record's title and by its non-blink flag
 abbrev pub shown_text : Form → List ℕ → Picture → List ℕ

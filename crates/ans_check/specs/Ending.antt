@@ -1,5 +1,5 @@
 -- How the program ends: its exit status, and what it says on standard error.
-use Rattle.std.specs.Prelude.{ℕ, List, Option, Some, None, Result, Ok, Err, codes}
+use Rattle.std.specs.Prelude.{ℕ, true, false, List, Option, Some, None, Result, Ok, Err, codes}
 use Rattle.clap.specs.Words.{kind_of}
 use Rattle.clap.specs.declared.error.ErrorKind.{ErrorKind}
 use Rattle.clap.specs.declared.error.ErrorKind.TheVariants.{DisplayHelp, DisplayVersion, OutOfMemory}
@@ -11,22 +11,27 @@ use Rattle.ans_model.specs.declared.mends.Mends.{Mends}
 use Rattle.ans_options.specs.declared.command_line.WordsError.{WordsError}
 use Rattle.ans_options.specs.declared.command_line.WordsError.TheVariants as words_error
 use Rattle.ans_table.specs.Counting.{counts_status}
-use Rattle.ans_table.specs.Findings.{unread_text}
-use Rattle.ans_table.specs.declared.finding.Unread.TheVariants as why
+use Rattle.ans_check.specs.Naming.{plain_text}
+use Rattle.ans_check.specs.declared.check_file.Checked.{Checked}
+use Rattle.ans_check.specs.declared.check_file.Checked.TheVariants as checked
 use Rattle.ans_check.specs.declared.errors.RunError.{RunError}
 use Rattle.ans_check.specs.declared.exit_status.Ending.{Ending}
 use Rattle.ans_check.specs.declared.exit_status.Ending.TheVariants.{Run, Help, Usage, UnreadableWords, UnopenedFile}
 use Rattle.ans_check.specs.declared.exit_status.Ending.TheVariants.{Table, NamedInput, UnreadNames, Mended, NotMended}
-use Rattle.ans_check.specs.declared.exit_status.Ending.TheVariants.{Redrawn, NotRedrawn}
+use Rattle.ans_check.specs.declared.exit_status.Ending.TheVariants.{Redrawn, NotRedrawn, Explained, InputAmong}
+use Rattle.ans_check.specs.declared.exit_status.Ending.TheVariants.{MayPassCleared}
 use Rattle.ans_check.specs.Run.{run_error_text, status_of}
 
 -- the exit status of each ending
 abbrev pub ending_status : Ending → ℕ
 ending_status (Run answer) = status_of answer
+ending_status MayPassCleared = 1
 ending_status Help = 0
 ending_status Usage = 2
 ending_status UnreadableWords = 2
-ending_status UnopenedFile = 2
+ending_status (UnopenedFile reason) = 2
+ending_status (Explained counts) = counts_status counts
+ending_status InputAmong = 2
 ending_status (Table counts) = counts_status counts
 ending_status NamedInput = 2
 ending_status UnreadNames = 2
@@ -39,12 +44,16 @@ ending_status (NotRedrawn reason) = 1
 abbrev pub ending_message : Ending → Option (List ℕ)
 ending_message (Run (Ok passed)) = None
 ending_message (Run (Err error)) = Some (run_error_text error)
+ending_message MayPassCleared = Some (codes "it may pass on a cleared screen: see anscheck why")
 ending_message Help = None
 ending_message Usage = None
 ending_message UnreadableWords = Some (codes "cannot read the command line")
-ending_message UnopenedFile = Some (unread_text why.Unopened)
+ending_message (UnopenedFile reason) = Some (plain_text reason)
 ending_message (Table counts) = None
-ending_message NamedInput = Some (codes "- names no file of a table; without FILE, names are read")
+ending_message (Explained counts) = None
+ending_message NamedInput =
+    Some (codes "table takes no '-': without FILE it reads file names from standard input")
+ending_message InputAmong = Some (codes "'-' is standard input, and cannot be one of several files")
 ending_message UnreadNames = Some (codes "cannot read the names")
 ending_message (Mended mended) = None
 ending_message (NotMended asked reason) = None
@@ -62,6 +71,13 @@ ending_of_kind _ = Usage
 abbrev pub ending_of_words : WordsError → Ending
 ending_of_words (words_error.Clap error) = ending_of_kind (kind_of error)
 ending_of_words words_error.Memory = UnreadableWords
+
+-- how the program ends at what came of a check
+abbrev pub ending_of_checking : Result Checked RunError → Ending
+ending_of_checking (Ok checked.Pass) = Run (Ok true)
+ending_of_checking (Ok checked.Refused) = Run (Ok false)
+ending_of_checking (Ok checked.RefusedByStart) = MayPassCleared
+ending_of_checking (Err error) = Run (Err error)
 
 -- how the program ends at what came of mending, for which this was asked
 abbrev pub ending_of_mending : Mends → Result (Result outcome.Mended Unmended) RunError → Ending

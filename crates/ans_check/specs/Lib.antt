@@ -1,12 +1,15 @@
 pub use Rattle.ans_options.specs.CommandLine
 pub use Rattle.ans_options.specs.Topics
+pub mod FileRows
 pub mod Rows
 pub mod Run
+pub mod Naming
 pub mod Ending
 pub mod CommandText
 pub mod Reported
 pub mod Served
 pub mod Table
+pub mod WhyRows
 pub mod Listing
 pub mod Answer
 pub mod SystemInput

@@ -6,6 +6,7 @@ use Rattle.ans_check.specs.Answer.{EndsSo, Says}
 use Rattle.ans_check.specs.Ending.{ending_status}
 use Rattle.ans_check.specs.declared.exit_status.Ending.{Ending}
 use Rattle.ans_check.specs.declared.exit_status.Ending.TheVariants.{UnreadableWords}
+use Rattle.ans_check.specs.Naming.{unnamed}
 use Rattle.ans_check.specs.declared.system.Input.{Input}
 use Rattle.ans_check.specs.declared.system.Input.TheVariants.{Named, Standard}
 
@@ -19,8 +20,7 @@ is_named (Standard stdin) = false
 abbrev pub AnswersOnSystem : {W E : Type 0} → (W → Option (List ℕ)) → (E → Option (List ℕ)) → List Text
     → Tried W → Tried W → Tried E → Tried E → ℕ → Type 0
 AnswersOnSystem contents told words output output_after errors errors_after status = (ending : Ending)
-    × (EndsSo {R = Input} (λ _. None) contents (λ _ input. is_named input ≡ true) (λ input. is_named input ≡ false)
-    (λ _. ⊤) words output output_after ending
-    ⊎ ((ending ≡ UnreadableWords) × (output_after ≡ output)))
-    × Says told errors errors_after ending
+    × (EndsSo {R = Input} (λ _. None) contents told (λ _ input. is_named input ≡ true)
+    (λ input. is_named input ≡ false) (λ _. ⊤) words output output_after errors errors_after ending
+    ⊎ ((ending ≡ UnreadableWords) × (output_after ≡ output) × Says told errors errors_after unnamed ending))
     × (status ≡ ending_status ending)

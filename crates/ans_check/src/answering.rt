@@ -1,93 +1,194 @@
 //! From the program's words to its ending.
 
-ghost use Rattle.std.specs.Prelude.{◌≡◌, ◌≢◌, [], None, false, IfSome, IsSomeAnd, is_some, not};
-ghost use Rattle.std.specs.Prelude.{option_map, string_bytes, true, unwrap_or, map, IfOk};
+ghost use Rattle.std.specs.Prelude.{◌≡◌, ◌≢◌, ◌++◌, [], None, false, IfSome, IsSomeAnd, is_some, not};
+ghost use Rattle.std.specs.Prelude.{option_map, string_bytes, true, unwrap_or, map, IfErr, IfOk};
 ghost use Rattle.std.specs.List.{list_any};
+ghost use Rattle.std.specs.Option.{option_map_or};
 ghost use Rattle.ans_model.specs.Text.Words.{texts_of};
 ghost use Rattle.ans_report.specs.Message.{message_line};
 ghost use Rattle.ans_write.specs.Puts.{Puts};
 ghost use Rattle.ans_write.specs.Tried.{has_failed};
 ghost use Rattle.ans_check.specs.Answer.{EndsAfter, EndsAsTold, EndsBy, EndsNamed, EndsServed, EndsSo, EndsWritten};
 ghost use Rattle.ans_check.specs.Answer.{IsNamed, PrintsHelp, Says, Tells, said_text};
-ghost use Rattle.ans_check.specs.Answer.{TellsFailure};
-ghost use Rattle.ans_check.specs.Answer.{ending_of_table, meaning_text, names_standard};
-ghost use Rattle.ans_check.specs.Ending.{ending_message, ending_of_words};
+ghost use Rattle.ans_check.specs.Answer.{EndsExplained, EndsOne, EndsUnopened, EndsWhy, TellsFailure, is_check};
+ghost use Rattle.ans_check.specs.Answer.{ending_of_table, ending_of_whys, meaning_text, message_of, named_message};
+ghost use Rattle.ans_check.specs.Ending.{ending_of_words};
 ghost use Rattle.ans_check.specs.Listing.{was_read_whole, names_in, listed_bytes};
-ghost use Rattle.ans_check.specs.Table.{IsFoundByName};
+ghost use Rattle.ans_check.specs.Answer.{SaysOf};
+ghost use Rattle.ans_check.specs.Naming.{first_called, front_text, meant_text, names_standard, unnamed};
+ghost use Rattle.ans_check.specs.Naming.{reason_told, unopened_text};
 
+use crate::check_file::Checking;
 use crate::errors::RunError;
 use crate::exit_status::Ending;
 use crate::inputs::Inputs;
 use crate::listing::Listing;
+use crate::naming::{Naming, first_of, is_left_out, is_word, name_of, naming_of, unnamed};
 use crate::redraw_file::Redrawing;
 use crate::rows::table;
 use crate::task::{Task, serve_task};
+use crate::unopened::Unopened;
+use crate::why_rows::{explain, put_unread_counts};
 use ans_mend::{put_mended, put_unmended};
-use ans_options::{Asked, TableForm, Topic, WordsError, asked};
+use ans_options::{Asked, Command, Options, TableForm, Topic, WordsError, asked};
 use ans_redraw::{put_redrawn, put_unredrawn};
-use ans_report::{Tried, fault_meaning, note_meaning, put_message};
-use ans_table::{Counts, put_counts};
+use ans_report::{Tried, fault_meaning, note_meaning};
+use ans_table::{Counts, put_counts, put_name};
 use ans_write::Outbox;
 use std::alloc::{AllocError, Global};
 use std::io::Write;
 
 /// Whether an ending says nothing on standard error.
 fn says_nothing(ending: &Ending) -> bool
-    ensures { result ≡ not (is_some (said_text ending.now)) }
+    ensures { result ≡ not (is_some (said_text unnamed ending.now)) }
 {
-    matches!(ending, Ending::Run(Ok(_)) | Ending::Help | Ending::Usage)
+    match ending {
+        Ending::Run(Ok(_)) | Ending::Help | Ending::Usage => true,
+        Ending::Explained(counts) => counts.unread == 0,
+        _ => false,
+    }
 }
 
-/// Puts `anscheck: ` and the ending's message, if it has one.
-fn put_ending_message<E: Write>(out: &mut Outbox<'_, E>, ending: &Ending)
-    ensures { Puts E.contents out.old out.new (unwrap_or (option_map message_line (ending_message ending.now)) []) }
+/// Puts a name as it is, if there is one.
+fn put_word<W: Write>(out: &mut Outbox<'_, W>, name: Option<&str>)
+    ensures { Puts W.contents out.old out.new (option_map_or (λ n. n.now) name.entry []) }
+{
+    if let Some(name) = name {
+        out.put(name.as_bytes());
+    }
+}
+
+/// Puts the name of the input, if it is told, before what is said of it.
+fn put_front<W: Write>(out: &mut Outbox<'_, W>, naming: &Naming<'_>)
+    ensures { Puts W.contents out.old out.new (front_text naming.now) }
+{
+    if let Some(name) = naming.name {
+        put_name(out, name.as_bytes());
+        out.put(b": ");
+    }
+}
+
+/// Puts what may have been meant by a word that is neither a file nor a command.
+fn put_meant<W: Write>(out: &mut Outbox<'_, W>, naming: &Naming<'_>)
+    ensures { Puts W.contents out.old out.new (meant_text naming.now) }
+{
+    if let Some(command) = naming.near {
+        out.put(b"; did you mean ");
+        out.put(command.as_bytes());
+        out.put(b"?");
+        return;
+    }
+    if naming.is_topic {
+        out.put(b"; did you mean anscheck help ");
+        put_word(out, naming.name);
+        out.put(b"?");
+    }
+}
+
+/// Puts why an input of this name was not opened.
+fn put_reason<W: Write>(out: &mut Outbox<'_, W>, naming: &Naming<'_>, reason: Unopened)
+    ensures { Puts W.contents out.old out.new (reason_told naming.now reason) }
+{
+    if naming.is_word && reason.is_missing() {
+        out.put(b"no such file, and no such command");
+        put_meant(out, naming);
+        return;
+    }
+    out.put(reason.reason().as_bytes());
+}
+
+/// Puts why an input was not opened, after its name if that is told.
+fn put_unopened<W: Write>(out: &mut Outbox<'_, W>, naming: &Naming<'_>, reason: Unopened)
+    ensures { Puts W.contents out.old out.new (unopened_text naming.now reason) }
+{
+    if naming.name.is_some() {
+        put_front(out, naming);
+        put_reason(out, naming, reason);
+        return;
+    }
+    out.put(reason.text().as_bytes());
+}
+
+/// Puts a message that speaks of the input, after its name if that is told.
+fn put_input_message<W: Write>(out: &mut Outbox<'_, W>, naming: &Naming<'_>, text: &str)
+    ensures { Puts W.contents out.old out.new (front_text naming.now ++ text.now) }
+{
+    put_front(out, naming);
+    out.put(text.as_bytes());
+}
+
+/// Puts the message of an ending, which has this text if no name is told.
+fn put_named_message<W: Write>(
+    out: &mut Outbox<'_, W>,
+    naming: &Naming<'_>,
+    ending: &Ending,
+    text: &str,
+)
+    ensures { Puts W.contents out.old out.new (named_message naming.now ending.now text.now) }
+{
+    match ending {
+        Ending::UnopenedFile(reason) => put_unopened(out, naming, *reason),
+        Ending::Run(Err(RunError::Read)) => put_input_message(out, naming, text),
+        Ending::Run(Err(RunError::TooLong)) => put_input_message(out, naming, text),
+        _ => out.put(text.as_bytes()),
+    }
+}
+
+/// Puts the message of an ending, if it has one, as a line after `anscheck: `.
+fn put_ending_message<W: Write>(out: &mut Outbox<'_, W>, naming: &Naming<'_>, ending: &Ending)
+    ensures { Puts W.contents out.old out.new
+        (unwrap_or (option_map message_line (message_of naming.now ending.now)) []) }
 {
     if let Some(text) = ending.message() {
-        put_message(out, text);
+        out.put(b"anscheck: ");
+        put_named_message(out, naming, ending, text);
+        out.put(b"\n");
     }
 }
 
 /// Puts what an ending says on standard error, if anything.
-fn put_said<E: Write>(out: &mut Outbox<'_, E>, ending: &Ending)
-    ensures { Puts E.contents out.old out.new (unwrap_or (said_text ending.now) []) }
+fn put_said<E: Write>(out: &mut Outbox<'_, E>, naming: &Naming<'_>, ending: &Ending)
+    ensures { Puts E.contents out.old out.new (unwrap_or (said_text naming.now ending.now) []) }
 {
     match ending {
         Ending::Table(counts) => put_counts(out, counts),
+        Ending::Explained(counts) => put_unread_counts(out, counts),
         Ending::Mended(mended) => put_mended(out, mended),
         Ending::NotMended(asked, reason) => put_unmended(out, asked, reason),
         Ending::Redrawn(redrawn) => put_redrawn(out, redrawn),
         Ending::NotRedrawn(reason) => put_unredrawn(out, reason),
-        _ => put_ending_message(out, ending),
+        _ => put_ending_message(out, naming, ending),
     }
 }
 
-/// Says why there is no answer, if there is none: `anscheck: ` and the ending's message; of a table how many
-/// files came out how; and of a file that was to be mended or redrawn what was changed of it, or why it is not.
-/// What is wrong with rejected words is `clap`'s to say.
-pub(crate) fn say<E: Write>(errors: &mut Tried<E>, ending: Ending)
-    requires works { has_failed errors.old ≡ false }
-    requires told { ending ≢ Ending.Usage }
-    ensures { Says E.contents errors.old errors.new ending }
+/// Says why there is no answer, if there is none: `anscheck: ` and the ending's message, with the name of the input
+/// if it is told; of a table how many files came out how; and of a file that was to be mended or redrawn what was
+/// changed of it, or why it is not. What is wrong with rejected words is `clap`'s to say.
+pub(crate) fn say<E: Write>(errors: &mut Tried<E>, naming: &Naming<'_>, ending: Ending)
+    requires { has_failed errors.old ≡ false }
+    ensures { Says E.contents errors.old errors.new naming.now ending }
 {
     if says_nothing(&ending) {
         return;
     }
     let mut out = Outbox::new(errors);
-    put_said(&mut out, &ending);
+    put_said(&mut out, naming, &ending);
     let _ = out.finish();
 }
 
-/// The input that the words name: standard input where they name none, or `-`. None where the file
-/// cannot be opened.
-fn input_named<I: Inputs>(inputs: I, name: &Option<String>) -> Option<I::Reader>
-    ensures some { IfSome result (IsNamed (I.is_file inputs) (I.is_standard inputs)
-        (option_map string_bytes name.now)) }
-    ensures none { result ≡ None → IsSomeAnd (option_map string_bytes name.now)
-        (λ file. (names_standard file ≡ false) × I.is_missing inputs file) }
+/// The input that the words name: standard input if they name none, or `-`. `Err` says why the file cannot be
+/// opened.
+fn input_named<I: Inputs>(inputs: I, name: Option<&str>) -> Result<I::Reader, Unopened>
+    ensures some { IfOk result (IsNamed (I.is_file inputs) (I.is_standard inputs) (option_map (λ n. n.now) name.entry)) }
+    ensures none { IfErr result (λ _. IsSomeAnd (option_map (λ n. n.now) name.entry)
+        (λ file. (names_standard file ≡ false) × I.is_missing inputs file)) }
 {
     match name {
-        Some(name) if name.as_str() != "-" => inputs.file(name.as_str()).ok(),
-        _ => Some(inputs.standard()),
+        Some(name) if name != "-" => match inputs.file(name) {
+            Ok(input) => Ok(input),
+            Err(error) => Err(Unopened::of(&error)),
+        },
+        _ => Ok(inputs.standard()),
     }
 }
 
@@ -122,7 +223,7 @@ fn refuse_words<W: Write, E: Write>(
     requires prints { has_failed output.old ≡ false }
     requires tells { has_failed errors.old ≡ false }
     ensures ends { EndsAfter W.contents (ending_of_words refusal.now) output.old output.new result }
-    ensures told { result ≡ Ending.Usage → Says E.contents errors.old errors.new result }
+    ensures told { result ≡ Ending.Usage → Says E.contents errors.old errors.new unnamed result }
     ensures untold { result ≢ Ending.Usage → errors.new ≡ errors.old }
     ensures write { TellsFailure output.new result }
 {
@@ -172,6 +273,72 @@ fn end_of_table(counts: Result<Counts, RunError>) -> Ending
     }
 }
 
+/// How `why` of several files ends.
+fn end_of_whys(counts: Result<Counts, RunError>) -> Ending
+    ensures { result ≡ ending_of_whys counts }
+{
+    match counts {
+        Ok(counts) => Ending::Explained(counts),
+        Err(error) => Ending::Run(Err(error)),
+    }
+}
+
+/// Why the first file cannot be opened, if its name was perhaps meant as a command.
+fn mistaken<I: Inputs>(inputs: I, is_left_out: bool, names: &[String]) -> Option<Unopened>
+    ensures { IfSome result (λ _. IsSomeAnd (first_called (map string_bytes names.now))
+        (λ file. (names_standard file ≡ false) × I.is_missing inputs file)) }
+{
+    let first = first_of(names);
+    if !is_left_out || !is_word(first) {
+        return None;
+    }
+    input_named(inputs, first).err()
+}
+
+/// Writes what is wrong with each of several files.
+fn serve_whys<I: Inputs, W: Write>(
+    alloc: Global,
+    inputs: I,
+    is_left_out: bool,
+    names: &[String],
+    output: &mut Tried<W>,
+) -> Ending
+    requires { has_failed output.old ≡ false }
+    ensures ends { EndsExplained I.Reader.remaining W.contents (I.is_file inputs) (I.is_missing inputs)
+        (map string_bytes names.now) output.old output.new result }
+    ensures write { TellsFailure output.new result }
+{
+    if names_input(names) {
+        return Ending::InputAmong;
+    }
+    if let Some(reason) = mistaken(inputs, is_left_out, names) {
+        return Ending::UnopenedFile(reason);
+    }
+    match byte_views(alloc, names) {
+        Ok(views) => end_of_whys(explain(alloc, inputs, views.as_slice(), output)),
+        Err(AllocError) => Ending::Run(Err(RunError::Memory)),
+    }
+}
+
+/// Writes what is wrong with the files that the words name, or with standard input if they name none.
+fn serve_why<I: Inputs, W: Write>(
+    alloc: Global,
+    inputs: I,
+    is_left_out: bool,
+    names: &[String],
+    output: &mut Tried<W>,
+) -> Ending
+    requires { has_failed output.old ≡ false }
+    ensures ends { EndsWhy I.Reader.remaining W.contents (I.is_file inputs) (I.is_standard inputs)
+        (I.is_missing inputs) (map string_bytes names.now) output.old output.new result }
+    ensures write { TellsFailure output.new result }
+{
+    if names.len() > 1 {
+        return serve_whys(alloc, inputs, is_left_out, names, output);
+    }
+    serve_one(alloc, inputs, &Options::WHY, first_of(names), output)
+}
+
 /// Writes the table of the files that the words name.
 fn serve_names<I: Inputs, W: Write>(
     alloc: Global,
@@ -181,7 +348,7 @@ fn serve_names<I: Inputs, W: Write>(
     output: &mut Tried<W>,
 ) -> Ending
     requires { has_failed output.old ≡ false }
-    ensures ends { EndsNamed W.contents (IsFoundByName I.Reader.remaining (I.is_file inputs) (I.is_missing inputs)) form
+    ensures ends { EndsNamed W.contents I.Reader.remaining (I.is_file inputs) (I.is_missing inputs) form
         (map string_bytes names.now) output.old output.new result }
     ensures write { TellsFailure output.new result }
 {
@@ -204,7 +371,7 @@ fn serve_listing<I: Inputs, W: Write>(
 ) -> Ending
     requires { has_failed output.old ≡ false }
     ensures ends { EndsWritten W.contents
-        (IsFoundByName I.Reader.remaining (I.is_file inputs) (I.is_missing inputs)) form (was_read_whole listing.now)
+        I.Reader.remaining (I.is_file inputs) (I.is_missing inputs) form (was_read_whole listing.now)
         (names_in (was_read_whole listing.now) (listed_bytes listing.now)) output.old output.new result }
     ensures write { TellsFailure output.new result }
 {
@@ -227,7 +394,7 @@ fn serve_input<I: Inputs, W: Write>(
 ) -> Ending
     requires { has_failed output.old ≡ false }
     ensures ends { EndsBy I.Reader.remaining W.contents (I.is_standard inputs)
-        (IsFoundByName I.Reader.remaining (I.is_file inputs) (I.is_missing inputs)) form []
+        (I.is_file inputs) (I.is_missing inputs) form []
         output.old output.new result }
     ensures write { TellsFailure output.new result }
 {
@@ -248,7 +415,7 @@ fn serve_table<I: Inputs, W: Write>(
 ) -> Ending
     requires { has_failed output.old ≡ false }
     ensures ends { EndsBy I.Reader.remaining W.contents (I.is_standard inputs)
-        (IsFoundByName I.Reader.remaining (I.is_file inputs) (I.is_missing inputs)) form
+        (I.is_file inputs) (I.is_missing inputs) form
         (map string_bytes names.now) output.old output.new result }
     ensures write { TellsFailure output.new result }
 {
@@ -263,29 +430,61 @@ fn serve_one<T: Task, I: Inputs, W: Write>(
     alloc: Global,
     inputs: I,
     task: &T,
-    name: &Option<String>,
+    name: Option<&str>,
     output: &mut Tried<W>,
 ) -> Ending
     requires { has_failed output.old ≡ false }
     ensures ends { EndsServed I.Reader.remaining W.contents (I.is_file inputs) (I.is_standard inputs)
-        (I.is_missing inputs) (T.tells task.now) (T.ending_of task.now) (option_map string_bytes name.now)
+        (I.is_missing inputs) (T.tells task.now) (T.ending_of task.now) (option_map (λ n. n.now) name.entry)
         output.old output.new result }
     ensures write { TellsFailure output.new result }
 {
-    let Some(input) = input_named(inputs, name) else {
-        return Ending::UnopenedFile;
+    let input = match input_named(inputs, name) {
+        Ok(input) => input,
+        Err(reason) => return Ending::UnopenedFile(reason),
     };
     let mut reader = Tried::new(input);
     task.ending(&serve_task(alloc, &mut reader, output, task))
 }
 
-/// What a fault or a note means, and how it is mended.
+/// Whether a command is `check`.
+fn is_check(command: &Command) -> bool
+    ensures { result ≡ is_check command.now }
+{
+    matches!(command, Command::Check)
+}
+
+/// Does one command on the input that the words name.
+fn serve_command<I: Inputs, W: Write>(
+    alloc: Global,
+    inputs: I,
+    options: &Options,
+    name: Option<&str>,
+    output: &mut Tried<W>,
+) -> Ending
+    requires { has_failed output.old ≡ false }
+    ensures ends { EndsOne I.Reader.remaining W.contents (I.is_file inputs) (I.is_standard inputs)
+        (I.is_missing inputs) options.now (option_map (λ n. n.now) name.entry) output.old output.new result }
+    ensures write { TellsFailure output.new result }
+{
+    if !is_check(&options.command) {
+        return serve_one(alloc, inputs, options, name, output);
+    }
+    let checking = Checking {
+        start: options.start,
+        cells: options.cells,
+    };
+    serve_one(alloc, inputs, &checking, name, output)
+}
+
+/// What a fault, a note or a word means.
 fn meaning_text(topic: Topic) -> &'static str
     ensures { result.now ≡ meaning_text topic }
 {
     match topic {
         Topic::Fault(cause) => fault_meaning(&cause),
         Topic::Note(note) => note_meaning(note),
+        Topic::Word(word) => word.text(),
     }
 }
 
@@ -293,6 +492,7 @@ fn meaning_text(topic: Topic) -> &'static str
 fn serve_asked<I: Inputs, W: Write>(
     alloc: Global,
     inputs: I,
+    is_left_out: bool,
     asked: &Asked,
     output: &mut Tried<W>,
 ) -> Ending
@@ -302,55 +502,79 @@ fn serve_asked<I: Inputs, W: Write>(
     ensures write { TellsFailure output.new result }
 {
     match asked {
-        Asked::One(options, name) => serve_one(alloc, inputs, options, name, output),
-        Asked::Mend(mends, name) => serve_one(alloc, inputs, mends, name, output),
-        Asked::Redraw(name) => serve_one(alloc, inputs, &Redrawing, name, output),
+        Asked::One(options, name) => serve_command(alloc, inputs, options, name_of(name), output),
+        Asked::Why(names) => serve_why(alloc, inputs, is_left_out, names.as_slice(), output),
+        Asked::Mend(mends, name) => serve_one(alloc, inputs, mends, name_of(name), output),
+        Asked::Redraw(name) => serve_one(alloc, inputs, &Redrawing, name_of(name), output),
         Asked::Table(form, names) => serve_table(alloc, inputs, names.as_slice(), *form, output),
         Asked::Meaning(topic) => print_help(output, meaning_text(*topic)),
     }
 }
 
-/// Answers the words, and leaves the ending's message to the caller.
-fn end_of_words<I: Inputs, W: Write, E: Write>(
+/// Does what the words ask for, and says what its ending says.
+fn answer_asked<I: Inputs, W: Write, E: Write>(
     alloc: Global,
     words: &[&str],
     inputs: I,
+    asked: &Asked,
     output: &mut Tried<W>,
     errors: &mut Tried<E>,
 ) -> Ending
     requires prints { has_failed output.old ≡ false }
     requires tells { has_failed errors.old ≡ false }
-    ensures ends { EndsSo I.Reader.remaining W.contents (I.is_file inputs) (I.is_standard inputs)
-        (I.is_missing inputs) (texts_of words.now) output.old output.new result }
-    ensures told { result ≡ Ending.Usage → Says E.contents errors.old errors.new result }
-    ensures untold { result ≢ Ending.Usage → errors.new ≡ errors.old }
+    ensures ends { EndsAsTold I.Reader.remaining W.contents (I.is_file inputs) (I.is_standard inputs)
+        (I.is_missing inputs) asked.now output.old output.new result }
+    ensures says { SaysOf E.contents errors.old errors.new (texts_of words.now) asked.now result }
     ensures write { TellsFailure output.new result }
 {
-    match asked(alloc, words) {
-        Ok(asked) => serve_asked(alloc, inputs, &asked, output),
-        Err(refusal) => refuse_words(alloc, &refusal, output, errors),
+    let ending = serve_asked(alloc, inputs, is_left_out(words), asked, output);
+    let naming = naming_of(alloc, words, asked, &ending);
+    say(errors, &naming, ending);
+    ending
+}
+
+/// Says why the words ask for nothing.
+fn answer_refused<W: Write, E: Write>(
+    alloc: Global,
+    refusal: &WordsError,
+    output: &mut Tried<W>,
+    errors: &mut Tried<E>,
+) -> Ending
+    requires prints { has_failed output.old ≡ false }
+    requires tells { has_failed errors.old ≡ false }
+    ensures ends { EndsAfter W.contents (ending_of_words refusal.now) output.old output.new result }
+    ensures says { Says E.contents errors.old errors.new unnamed result }
+    ensures write { TellsFailure output.new result }
+{
+    let ending = refuse_words(alloc, refusal, output, errors);
+    if ending != Ending::Usage {
+        say(errors, &unnamed(), ending);
     }
+    ending
 }
 
 /// Answers the program's words, its own name first: reads the input that they name, which is
-/// standard input where they name none or `-`, and writes what they ask for to `output`. For a table it
-/// reads all files that they name, or those whose names stand on standard input, each ended by 00h. On `errors` it
-/// says why there is no answer: `anscheck: ` and the ending's message, or `clap`'s text where the
-/// words are rejected. Where help is asked for, its text goes to `output`. Which text `clap` gives is
-/// promised nowhere and only tested; so is it that `output` is flushed after its text. Where the words ask
-/// what a fault or a note means, as `help F20`, its text goes there by itself: that takes no memory and
+/// standard input if they name none or `-`, and writes what they ask for to `output`. With several files of `why`
+/// each answer comes after a line with the file's name. For a table it reads all files that they name, or those whose
+/// names are on standard input, each ended by 00h. On `errors` it says why there is no answer: `anscheck: ` and the
+/// ending's message, with the file's name and the system's reason except for `check`, `sauce` and `tokens`; or `clap`'s
+/// text if the words are rejected. After a check that refuses the file for a fault of what is unknown of the start, F22
+/// to F25, it says there that `why` knows more. If help is asked for, its text goes to `output`. Which text `clap` gives
+/// is promised nowhere and only tested; so is it that `output` is flushed after its text. If the words ask
+/// what a fault, a note or a word means, as `help F20`, its text goes there by itself: that takes no memory and
 /// reads no input.
 ///
-/// Where the words ask for a file to be mended, `output` has the mended file, and then `errors` what was
+/// If the words ask for a file to be mended, `output` has the mended file, and then `errors` what was
 /// changed of it, a line for each kind of change; or nothing was written, and `errors` has the reason. So it is
-/// where they ask for a file to be redrawn.
+/// if they ask for a file to be redrawn.
 ///
-/// The ending is that of the run; `Mended` or `NotMended` where a file was to be mended; `Redrawn` or `NotRedrawn`
-/// where one was to be redrawn; `UnopenedFile` where the named file cannot be opened; and where the words give no
-/// options, what their error says, or `UnreadableWords` where there is no memory for its text. Of a table it is
-/// `Table`, with how its files came out; `NamedInput` where `-` stands among the names; `UnreadNames` where
-/// standard input fails before the names end; and `Run(Err(Memory))` where there is no memory for the names or a
-/// row. `Run(Err(Write))` comes exactly where `output` fails. What fails on `errors` changes no ending.
+/// The ending is that of the run; `MayPassCleared` if a check refuses the file for such a fault; `Explained` for `why`
+/// of several files; `Mended` or `NotMended` if a file was to be mended; `Redrawn` or `NotRedrawn` if one was to be
+/// redrawn; `UnopenedFile` if the named file cannot be opened; and if the words give no options, what their error says,
+/// or `UnreadableWords` if there is no memory for its text. Of a table it is `Table`, with how its files came out;
+/// `NamedInput` if `-` is among the names, and `InputAmong` if it is among several files of `why`; `UnreadNames` if
+/// standard input fails before the names end; and `Run(Err(Memory))` if there is no memory for the names or a row.
+/// `Run(Err(Write))` comes exactly if `output` fails. What fails on `errors` changes no ending.
 pub fn answer<I: Inputs, W: Write, E: Write>(
     alloc: Global,
     words: &[&str],
@@ -360,14 +584,12 @@ pub fn answer<I: Inputs, W: Write, E: Write>(
 ) -> Ending
     requires prints { has_failed output.old ≡ false }
     requires tells { has_failed errors.old ≡ false }
-    ensures ends { EndsSo I.Reader.remaining W.contents (I.is_file inputs) (I.is_standard inputs)
-        (I.is_missing inputs) (texts_of words.now) output.old output.new result }
-    ensures says { Says E.contents errors.old errors.new result }
+    ensures ends { EndsSo I.Reader.remaining W.contents E.contents (I.is_file inputs) (I.is_standard inputs)
+        (I.is_missing inputs) (texts_of words.now) output.old output.new errors.old errors.new result }
     ensures write { TellsFailure output.new result }
 {
-    let ending = end_of_words(alloc, words, inputs, output, errors);
-    if ending != Ending::Usage {
-        say(errors, ending);
+    match asked(alloc, words) {
+        Ok(asked) => answer_asked(alloc, words, inputs, &asked, output, errors),
+        Err(refusal) => answer_refused(alloc, &refusal, output, errors),
     }
-    ending
 }

@@ -2,14 +2,16 @@
 
 ghost use Rattle.std.specs.Prelude.{◌≡◌, option_map};
 ghost use Rattle.ans_check.specs.Ending.{ending_message, ending_of_mending, ending_of_redrawing, ending_of_words};
-ghost use Rattle.ans_check.specs.Ending.{ending_status};
+ghost use Rattle.ans_check.specs.Ending.{ending_of_checking, ending_status};
 ghost use Rattle.ans_check.specs.Run.{status_of};
 
+use crate::check_file::Checked;
 use crate::errors::RunError;
+use crate::unopened::Unopened;
 use ans_mend::{Mended, Unmended};
 use ans_options::{Mends, WordsError};
 use ans_redraw::{Redrawn, Unredrawn};
-use ans_table::{Counts, Unread};
+use ans_table::Counts;
 use clap::error::ErrorKind;
 
 /// The exit status of what a run returned: 0 where the file passes, 1 where it is refused, and 2
@@ -29,6 +31,9 @@ pub fn status(answer: &Result<bool, RunError>) -> u8
 pub enum Ending {
     /// A run has returned this.
     Run(Result<bool, RunError>),
+    /// A check refused the file for a fault of what is unknown of the start, F22 to F25. From the cleared start the
+    /// file may pass, and `why` says more.
+    MayPassCleared,
     /// Help or the version was asked for: `clap`'s text goes to standard output, or what a fault or a
     /// note means.
     Help,
@@ -36,8 +41,12 @@ pub enum Ending {
     Usage,
     /// The command line cannot be read: a word is not text, or memory ran out.
     UnreadableWords,
-    /// The file that the words name cannot be opened.
-    UnopenedFile,
+    /// The file that the words name cannot be opened, for this reason.
+    UnopenedFile(Unopened),
+    /// What is wrong with several files was written: so many files came out so.
+    Explained(Counts),
+    /// The words name `-` among several files of `why`.
+    InputAmong,
     /// A table was written: so many files came out so.
     Table(Counts),
     /// The words name `-` among the files of a table.
@@ -71,6 +80,18 @@ impl Ending {
         }
     }
 
+    /// How the program ends at what came of checking a file.
+    pub(crate) fn of_checking(answer: &Result<Checked, RunError>) -> Ending
+        ensures { result ≡ ending_of_checking answer.now }
+    {
+        match answer {
+            Ok(Checked::Pass) => Ending::Run(Ok(true)),
+            Ok(Checked::Refused) => Ending::Run(Ok(false)),
+            Ok(Checked::RefusedByStart) => Ending::MayPassCleared,
+            Err(error) => Ending::Run(Err(*error)),
+        }
+    }
+
     /// How the program ends at what came of mending a file, for which this was asked.
     pub fn of_mending(asked: &Mends, answer: &Result<Result<Mended, Unmended>, RunError>) -> Ending
         ensures { result ≡ ending_of_mending asked.now answer.now }
@@ -94,22 +115,25 @@ impl Ending {
     }
 
     /// The exit status: that of the run or of the table's counts, 0 for help and for a mended or redrawn file, 1
-    /// for one that is neither, and 2 where no run began and where the names for a table were not all read.
+    /// for one that is neither and for one that may pass from the cleared start, and 2 where no run began and where the
+    /// names for a table were not all read.
     pub fn status(&self) -> u8
         ensures { result ≡ ending_status self.now }
     {
         match self {
             Ending::Run(answer) => status(answer),
             Ending::Help | Ending::Mended(_) | Ending::Redrawn(_) => 0,
+            Ending::MayPassCleared => 1,
             Ending::NotMended(..) | Ending::NotRedrawn(_) => 1,
-            Ending::Table(counts) => counts.status(),
-            Ending::Usage | Ending::UnreadableWords | Ending::UnopenedFile => 2,
-            Ending::NamedInput | Ending::UnreadNames => 2,
+            Ending::Table(counts) | Ending::Explained(counts) => counts.status(),
+            Ending::Usage | Ending::UnreadableWords | Ending::UnopenedFile(_) => 2,
+            Ending::NamedInput | Ending::InputAmong | Ending::UnreadNames => 2,
         }
     }
 
-    /// Why there is no answer, for standard error after `anscheck: `. There is none where the file
-    /// has an answer, none where `clap`'s text says it, none for a table, whose counts are told, and none
+    /// Why there is no answer, for standard error after `anscheck: `, without the name and the system's reason; or that
+    /// `why` says more of a file that a check refuses for a fault of the start. There is none if the file has another
+    /// answer, none if `clap`'s text says it, none for a table and for several files, whose counts are told, and none
     /// for mending and redrawing, of which more is told.
     pub fn message(&self) -> Option<&'static str>
         ensures { option_map (λ text. text.now) result ≡ ending_message self.now }
@@ -117,11 +141,15 @@ impl Ending {
         match self {
             Ending::Run(Err(error)) => Some(error.text()),
             Ending::Run(Ok(_)) | Ending::Help | Ending::Usage | Ending::Table(_) => None,
-            Ending::Mended(_) | Ending::NotMended(..) => None,
+            Ending::Explained(_) | Ending::Mended(_) | Ending::NotMended(..) => None,
             Ending::Redrawn(_) | Ending::NotRedrawn(_) => None,
+            Ending::MayPassCleared => Some("it may pass on a cleared screen: see anscheck why"),
             Ending::UnreadableWords => Some("cannot read the command line"),
-            Ending::UnopenedFile => Some(Unread::Unopened.text()),
-            Ending::NamedInput => Some("- names no file of a table; without FILE, names are read"),
+            Ending::UnopenedFile(reason) => Some(reason.text()),
+            Ending::NamedInput => {
+                Some("table takes no '-': without FILE it reads file names from standard input")
+            }
+            Ending::InputAmong => Some("'-' is standard input, and cannot be one of several files"),
             Ending::UnreadNames => Some("cannot read the names"),
         }
     }

@@ -15,11 +15,14 @@
 #![tactic(auto)]
 
 mod answering;
+mod check_file;
 mod errors;
 mod exit_status;
+mod file_rows;
 mod inputs;
 mod listing;
 mod mend_file;
+mod naming;
 mod pipeline;
 mod reading;
 mod redraw_file;
@@ -27,6 +30,8 @@ mod rows;
 mod streams;
 mod system;
 mod task;
+mod unopened;
+mod why_rows;
 
 pub use ans_kinds::{KindsUsed, Players};
 pub use ans_mend::{MendError, Mended, Unmended, mend_on};
@@ -47,7 +52,9 @@ pub use answering::answer;
 pub use errors::RunError;
 pub use exit_status::{Ending, status};
 pub use inputs::Inputs;
+pub use naming::Naming;
 pub use pipeline::run;
 pub use rows::table;
 pub use streams::{mend, redraw, serve};
 pub use system::program;
+pub use unopened::Unopened;

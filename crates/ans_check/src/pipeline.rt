@@ -7,12 +7,14 @@ ghost use Rattle.ans_write.specs.Puts.{Puts};
 ghost use Rattle.ans_check.specs.CommandText.{Reports, ReportsCheck, ReportsNeeds, ReportsShow};
 ghost use Rattle.ans_report.specs.RecordReports.{ReportsSauce};
 ghost use Rattle.ans_check.specs.CommandText.{ReportsTokens, IsReportOf, shown_text};
+ghost use Rattle.ans_check.specs.CommandText.{ReportsChecked};
 ghost use Rattle.ans_why.specs.WhyText.{ReportsWhy};
 ghost use Rattle.ans_verdict.specs.FileVerdict.{fault_of};
 ghost use Rattle.ans_check.specs.Reported.{IsPut, PutsTold};
 ghost use Rattle.ans_check.specs.Served.{Serves};
 ghost use Rattle.ans_check.specs.declared.exit_status.Ending.TheVariants.{Run};
 
+use crate::check_file::Checked;
 use crate::errors::RunError;
 use crate::exit_status::Ending;
 use crate::task::{Task, run_task};
@@ -55,6 +57,22 @@ fn is_pass<G: Screen>(verdict: &Verdict<'_, G>) -> bool
     matches!(verdict, Verdict::Pass(_, _))
 }
 
+/// Puts the report of a check. Returns what came of it.
+pub(crate) fn tell_check<W: Write>(
+    alloc: Global,
+    out: &mut Outbox<'_, W>,
+    file: &[u8],
+    start: Start,
+    cells: bool,
+) -> Result<Checked, AllocError>
+    requires { length file.now ≤ longest_file }
+    ensures { PutsTold W.contents (ReportsChecked file.now start cells) out.old out.new result }
+{
+    let verdict = check::<PlaneGrid>(alloc, file, start)?;
+    put_report(out, &report_of(&verdict, start, cells));
+    Ok(Checked::of_verdict(&verdict))
+}
+
 /// Puts the report of a check. Returns whether the file passes.
 fn tell_verdict<W: Write>(
     alloc: Global,
@@ -66,9 +84,8 @@ fn tell_verdict<W: Write>(
     requires { length file.now ≤ longest_file }
     ensures { PutsTold W.contents (ReportsCheck file.now start cells) out.old out.new result }
 {
-    let verdict = check::<PlaneGrid>(alloc, file, start)?;
-    put_report(out, &report_of(&verdict, start, cells));
-    Ok(is_pass(&verdict))
+    let checked = tell_check(alloc, out, file, start, cells)?;
+    Ok(checked.is_pass())
 }
 
 /// Puts a picture in colour, with the title of its record and by its non-blink flag.

@@ -1,18 +1,20 @@
 //! The table of many files.
 
-ghost use Rattle.std.specs.Prelude.{◌≡◌, ◌↔◌, ◌≤◌, false, length, IsTrue, IsErrOf, IfErr, IfOk, []};
+ghost use Rattle.std.specs.Prelude.{◌≡◌, ◌↔◌, ◌≤◌, false, length, IsTrue, IsErrOf, IfErr, IfOk};
 ghost use Rattle.ans_model.specs.Bytes.{longest_file};
 ghost use Rattle.ans_model.specs.Text.Words.{texts_of};
-ghost use Rattle.ans_write.specs.Puts.{Puts, device_of};
+ghost use Rattle.ans_options.specs.declared.command.TableForm.TheVariants.{Json};
+ghost use Rattle.ans_write.specs.Puts.{Puts};
 ghost use Rattle.ans_write.specs.Tried.{has_failed};
-ghost use Rattle.ans_table.specs.Findings.{IsFindingOf, outcome_of};
+ghost use Rattle.ans_table.specs.Findings.{IsFindingOf};
 ghost use Rattle.ans_verdict.specs.FileNeeds.{IsNeedsOf};
-ghost use Rattle.ans_check.specs.Rows.{EndsRows, IsReady, PutsRow, WritesOut, WritesRow};
-ghost use Rattle.ans_check.specs.Table.{IsFoundByName, MayBeFoundIn, MayEndTable, WritesTable, header, row_in};
+ghost use Rattle.ans_check.specs.FileRows.{bytes_given};
+ghost use Rattle.ans_check.specs.Rows.{IsReady, PutsText, WritesOut};
+ghost use Rattle.ans_check.specs.Table.{IsFoundIn, MayEndTable, TellsFinding, WritesTable, header, row_in};
 
 use crate::errors::RunError;
+use crate::file_rows::{FileRows, tell_rows};
 use crate::inputs::Inputs;
-use crate::reading::read_all;
 use ans_options::TableForm;
 use ans_report::{Needs, Tried, WriteFault};
 use ans_sauce::Judged;
@@ -44,11 +46,12 @@ fn finding_by<'a>(file: &'a [u8], found: Needs<'a>) -> Finding<'a>
     }
 }
 
-/// What a row tells of a file that was read.
-fn finding_in<'a>(screens: &mut KeptScreens, file: &'a [u8]) -> RowFinding<'a>
-    requires { length file.now ≤ longest_file }
-    ensures { MayBeFoundIn file.now result }
+/// What a row tells of a file, of which this was read.
+fn finding_in<'a>(screens: &mut KeptScreens, given: Result<&'a [u8], Unread>) -> RowFinding<'a>
+    requires { IfOk (bytes_given given) (λ file. length file ≤ longest_file) }
+    ensures { IsFoundIn (bytes_given given.entry) result }
 {
+    let file = given?;
     match needs_on(screens, file) {
         Ok(found) => Ok(finding_by(file, found)),
         Err(AllocError) => Err(Unread::Memory),
@@ -63,7 +66,7 @@ fn put_row_in<W: Write>(
     name: &[u8],
     finding: &RowFinding<'_>,
 ) -> Result<(), AllocError>
-    ensures { PutsRow W.contents form (row_in form name.now finding.now) out.old out.new result }
+    ensures { PutsText W.contents (form ≡ Json) (row_in form name.now finding.now) out.old out.new result }
 {
     match form {
         TableForm::Headed | TableForm::Bare => put_row(out, name, finding),
@@ -75,79 +78,26 @@ fn put_row_in<W: Write>(
     Ok(())
 }
 
-/// Puts a row, and has it written and handed on.
-fn tell<W: Write>(
-    alloc: Global,
-    form: TableForm,
-    out: &mut Outbox<'_, W>,
-    name: &[u8],
-    finding: &RowFinding<'_>,
-) -> Result<Outcome, RunError>
-    requires { IsReady out.old }
-    ensures row { WritesOut W.contents (MayEndTable form) (row_in form name.now finding.now) out.old out.new result }
-    ensures outcome { IfOk result (λ o. o ≡ outcome_of finding.now) }
-{
-    let Ok(()) = put_row_in(alloc, form, out, name, finding) else {
-        return Err(RunError::Memory);
-    };
-    match out.hand_on() {
-        Ok(()) => Ok(Outcome::of(finding)),
-        Err(WriteFault) => Err(RunError::Write),
+impl FileRows for TableForm {
+    ghost tells = { TellsFinding };
+
+    ghost may_lack = { λ form. form ≡ Json };
+
+    fn put<W: Write>(
+        &self,
+        alloc: Global,
+        screens: &mut KeptScreens,
+        out: &mut Outbox<'_, W>,
+        name: &[u8],
+        given: Result<&[u8], Unread>,
+    ) -> Result<Outcome, AllocError> {
+        let finding = finding_in(screens, given);
+        put_row_in(alloc, *self, out, name, &finding)?;
+        Ok(Outcome::of(&finding))
     }
 }
 
-/// Opens and reads the file of this name, and writes its row.
-fn tell_file<I: Inputs, W: Write>(
-    alloc: Global,
-    screens: &mut KeptScreens,
-    inputs: I,
-    name: &[u8],
-    form: TableForm,
-    out: &mut Outbox<'_, W>,
-) -> Result<Outcome, RunError>
-    requires { IsReady out.old }
-    ensures { WritesRow W.contents (IsFoundByName I.Reader.remaining (I.is_file inputs) (I.is_missing inputs))
-        form name.now out.old out.new result }
-{
-    let Ok(text) = str::from_utf8(name) else {
-        return tell(alloc, form, out, name, &Err(Unread::NameNotText));
-    };
-    let Ok(input) = inputs.file(text) else {
-        return tell(alloc, form, out, name, &Err(Unread::Unopened));
-    };
-    let mut reader = Tried::new(input);
-    match read_all(alloc, &mut reader) {
-        Ok(file) => {
-            let finding = finding_in(screens, file.as_slice());
-            tell(alloc, form, out, name, &finding)
-        }
-        Err(why) => tell(alloc, form, out, name, &Err(why)),
-    }
-}
-
-/// Writes the rows of files.
-fn tell_files<I: Inputs, W: Write>(
-    alloc: Global,
-    inputs: I,
-    names: &[&[u8]],
-    form: TableForm,
-    out: &mut Outbox<'_, W>,
-) -> Result<Counts, RunError>
-    requires { IsReady out.old }
-    ensures ends { EndsRows (MayEndTable form) out.old out.new result }
-    ensures rows { WritesTable W.contents (IsFoundByName I.Reader.remaining (I.is_file inputs) (I.is_missing inputs))
-        form [] (texts_of names.now) (device_of out.old) (device_of out.new) result }
-{
-    let mut counts = Counts::NONE;
-    let mut screens = KeptScreens::new(alloc);
-    for name in names {
-        let outcome = tell_file(alloc, &mut screens, inputs, name, form, out)?;
-        counts.add(outcome);
-    }
-    Ok(counts)
-}
-
-/// Puts the line of the columns' names, where the form asks for it.
+/// Puts the line of the columns' names, if the form asks for it.
 fn put_header_in<W: Write>(form: TableForm, out: &mut Outbox<'_, W>)
     ensures { Puts W.contents out.old out.new (header form) }
 {
@@ -170,13 +120,13 @@ fn tell_header<W: Write>(form: TableForm, out: &mut Outbox<'_, W>) -> Result<(),
     }
 }
 
-/// Writes the table of the files of these names: the line of the columns' names where the form asks for
+/// Writes the table of the files of these names: the line of the columns' names if the form asks for
 /// it, and then a row for each name, in their order and in the form. A row is written, and the writer is
 /// asked to hand it on, before the next file is opened. A file that cannot be opened or read, or that is
 /// too long, has a row too, and so has one for which memory runs out. Returns how many files came out how.
 ///
-/// At `Err` a prefix of the table was written. `Err(Write)` comes exactly where the device failed in the
-/// call, and `Err(Memory)` where memory for the text of a JSON row ran out; no other error comes.
+/// At `Err` a prefix of the table was written. `Err(Write)` comes exactly if the device failed in the
+/// call, and `Err(Memory)` if memory for the text of a JSON row ran out; no other error comes.
 pub fn table<I: Inputs, W: Write>(
     alloc: Global,
     inputs: I,
@@ -187,10 +137,10 @@ pub fn table<I: Inputs, W: Write>(
     requires { has_failed output.old ≡ false }
     ensures device { IsErrOf result RunError.Write ↔ IsTrue (has_failed output.new) }
     ensures errors { IfErr result (MayEndTable form) }
-    ensures table { WritesTable W.contents (IsFoundByName I.Reader.remaining (I.is_file inputs) (I.is_missing inputs))
-        form (header form) (texts_of names.now) output.old output.new result }
+    ensures table { WritesTable W.contents I.Reader.remaining (I.is_file inputs) (I.is_missing inputs)
+        form (texts_of names.now) output.old output.new result }
 {
     let mut out = Outbox::new(output);
     tell_header(form, &mut out)?;
-    tell_files(alloc, inputs, names, form, &mut out)
+    tell_rows(alloc, &form, inputs, names, &mut out)
 }

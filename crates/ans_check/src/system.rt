@@ -10,11 +10,13 @@ ghost use Rattle.ans_check.specs.declared.exit_status.Ending.{Ending};
 use crate::answering::{answer, say};
 use crate::exit_status::Ending;
 use crate::inputs::Inputs;
+use crate::naming::unnamed;
 use ans_report::Tried;
 use std::alloc::{AllocError, Global};
+use std::cell::Cell;
 use std::env;
 use std::fs::File;
-use std::io::{self, Read, Stdin, Write};
+use std::io::{self, ErrorKind, IsTerminal, Read, Stderr, Stdin, Stdout, Write};
 
 /// An input of the system.
 #[derive(Drop)]
@@ -52,11 +54,84 @@ impl Inputs for System<'_> {
     ghost is_missing = { λ _ _. ⊤ };
 
     fn file(self, name: &str) -> io::Result<Input> {
-        Ok(Input::Named(File::open(self.rt, name)?))
+        let file = File::open(self.rt, name)?;
+        if file.metadata()?.is_dir() {
+            return Err(io::Error::from(ErrorKind::IsADirectory));
+        }
+        Ok(Input::Named(file))
     }
 
     fn standard(self) -> Input {
-        Input::Standard(self.rt.stdin())
+        let input = self.rt.stdin();
+        if input.is_terminal() {
+            let _ = self.rt.stderr().write_all(WAITING);
+        }
+        Input::Standard(input)
+    }
+}
+
+/// What is said before a terminal is read.
+const WAITING: &[u8] = b"anscheck: reading standard input (give a FILE, or end with Ctrl-D)\n";
+
+/// Standard output, which remembers whether its reader has gone.
+#[derive(Drop)]
+struct Output<'a> {
+    to: Stdout,
+    closed: &'a Cell<bool>,
+}
+
+/// Whether a write failed since the reader has gone.
+fn is_closed<T>(outcome: &io::Result<T>) -> bool {
+    match outcome {
+        Ok(_) => false,
+        Err(error) => error.kind() == ErrorKind::BrokenPipe,
+    }
+}
+
+impl Write for Output<'_> {
+    fn write(&mut self, bytes: &[u8]) -> io::Result<usize> {
+        let taken = self.to.write(bytes);
+        if is_closed(&taken) {
+            self.closed.set(true);
+        }
+        taken
+    }
+
+    fn flush(&mut self) -> io::Result<()> {
+        let flushed = self.to.flush();
+        if is_closed(&flushed) {
+            self.closed.set(true);
+        }
+        flushed
+    }
+}
+
+/// Standard error, which takes nothing once the reader of the output has gone, unless it speaks anyway.
+#[derive(Drop)]
+struct Errors<'a> {
+    to: Stderr,
+    closed: &'a Cell<bool>,
+    speaks: bool,
+}
+
+impl Write for Errors<'_> {
+    fn write(&mut self, bytes: &[u8]) -> io::Result<usize> {
+        if self.closed.get() && !self.speaks {
+            return Ok(bytes.len());
+        }
+        self.to.write(bytes)
+    }
+
+    fn flush(&mut self) -> io::Result<()> {
+        self.to.flush()
+    }
+}
+
+/// Whether the words ask for a command that reports a closed output as any other.
+fn speaks_anyway(texts: &[String]) -> bool {
+    match texts {
+        [_, word, ..] => matches!(word.as_str(), "check" | "sauce" | "tokens"),
+        _ => false,
     }
 }
 
@@ -95,7 +170,7 @@ fn answer_texts<W: Write, E: Write>(
         errors.old errors.new result }
 {
     let Ok(words) = views(rt.alloc(), texts) else {
-        say(errors, Ending::UnreadableWords);
+        say(errors, &unnamed(), Ending::UnreadableWords);
         return Ending::UnreadableWords.status();
     };
     let inputs = System { rt };
@@ -103,18 +178,30 @@ fn answer_texts<W: Write, E: Write>(
 }
 
 /// The program: answers its words, as [`answer`] does, on the system's files and standard streams.
-/// It returns the exit status: 0 for a pass and for help, 1 for a refusal, and 2 where there is no
-/// answer; standard error then says why.
+/// It returns the exit status: 0 for a pass and for help, 1 for a refusal, and 2 if there is no
+/// answer; standard error then says why. If the reader of the output has gone, it says nothing, except for `check`,
+/// `sauce` and `tokens`. Before a terminal is read as standard input, a line says so.
 pub fn program(rt: &HostRuntime) -> u8
     ensures { (ending : Ending) × (result ≡ ending_status ending) }
 {
-    let mut output = Tried::new(rt.stdout());
-    let mut errors = Tried::new(rt.stderr());
-    match words_of(rt) {
-        Some(texts) => answer_texts(rt, texts.as_slice(), &mut output, &mut errors),
-        None => {
-            say(&mut errors, Ending::UnreadableWords);
-            Ending::UnreadableWords.status()
-        }
+    let words = words_of(rt);
+    let texts = match &words {
+        Some(texts) => texts.as_slice(),
+        None => &[],
+    };
+    let closed = Cell::new(false);
+    let mut output = Tried::new(Output {
+        to: rt.stdout(),
+        closed: &closed,
+    });
+    let mut errors = Tried::new(Errors {
+        to: rt.stderr(),
+        closed: &closed,
+        speaks: speaks_anyway(texts),
+    });
+    if words.is_none() {
+        say(&mut errors, &unnamed(), Ending::UnreadableWords);
+        return Ending::UnreadableWords.status();
     }
+    answer_texts(rt, texts, &mut output, &mut errors)
 }

@@ -106,7 +106,7 @@ content_is_bytes file h =
     All-take IsByte _ (body_in file) (All-take IsByte _ (front_in file) (All-take IsByte (length file - 128) file h))
 
 returned_is_bytes : (asked : Mends) (file : List ℕ) → All IsByte file → All IsByte (returned asked file)
-returned_is_bytes asked file h = go asked.line_ends
+returned_is_bytes asked file h = go asked.crlf
   where
     by_test : (wants : Bool)
         → All IsByte (if wants then with_content (with_returns (content_in file)) file else file)
@@ -178,7 +178,7 @@ module _ (mends : Mends) (file draft : List ℕ) (mended : Mended) (bytes : All 
   based_is_bytes : All IsByte h.based
   based_is_bytes =
       subst (λ (v : List ℕ). All IsByte v) (sym h.based_is)
-      (recorded_is_bytes mends.width h.cut (cut_is_bytes file h.cut h.is_cut bytes))
+      (recorded_is_bytes mends.add_record h.cut (cut_is_bytes file h.cut h.is_cut bytes))
 
   looked_at_is_bytes : All IsByte looked_at
   looked_at_is_bytes =

@@ -17,6 +17,7 @@ use Rattle.ans_model.specs.Text.FaultText.{fault_text, position_text, fault_line
 use Rattle.ans_model.specs.Text.ReportText.{Heading, start_line, heading_text}
 use Rattle.ans_model.specs.Text.Words.{part_if, part_names, words_text}
 use Rattle.ans_report.specs.Quoted.{quoted_byte}
+use Rattle.ans_report.specs.FaultTold.{fault_told}
 use Rattle.ans_check_laws.specs.CleanTexts.{IsCleanText}
 use Rattle.ans_check_laws.proofs.CleanPieces.{clean_option, AreBytes, bytes_left, bytes_right, clean_append}
 use Rattle.ans_check_laws.proofs.CleanPieces.{clean_joined, clean_nil, clean_pieces, of_each, plain_text}
@@ -33,6 +34,9 @@ position_clean cause = clean_nil
 
 pub fault_line_clean : (fault : Fault) → IsCleanText (fault_line fault)
 fault_line_clean fault = search (clean_pieces, fault_text_clean, position_clean) depth 20
+
+pub fault_told_clean : (fault : Fault) → IsCleanText (fault_told fault)
+fault_told_clean fault = search (clean_pieces, fault_text_clean, position_clean) depth 20
 
 pub note_line_clean : (note : Note) → IsCleanText (note_line note)
 note_line_clean WidthAssumed = plain_text (note_line WidthAssumed) refl

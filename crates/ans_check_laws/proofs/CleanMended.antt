@@ -26,9 +26,10 @@ use Rattle.ans_check_laws.proofs.CleanPieces.{AreBytes, clean_append, clean_bool
 abbrev pub QuotesBytes : Option TakenOut → Type 0
 QuotesBytes taken = IfSome taken (λ t. All IsByte t.text.bytes)
 
-times_line_clean : (what : List ℕ) (times : Option Times) → IsCleanText what → IsCleanText (times_line what times)
-times_line_clean what None h = clean_nil
-times_line_clean what (Some times) h = search clean_lines depth 20
+times_line_clean : (done one several : List ℕ) (times : Option Times) → IsCleanText done → IsCleanText one
+    → IsCleanText several → IsCleanText (times_line done one several times)
+times_line_clean done one several None h g k = clean_nil
+times_line_clean done one several (Some times) h g k = search clean_lines depth 20
 
 taken_line_clean : (taken : Option TakenOut) → QuotesBytes taken → IsCleanText (taken_line taken)
 taken_line_clean None bytes = clean_nil

@@ -1,6 +1,7 @@
 -- What `why` says of a file is clean.
 use Rattle.std.proofs.Common.{◌≡◌, inl, inr, ℕ, Bool, refl, subst, List, [], ◌∷◌, ◌++◌, length, Option, Some, None}
-use Rattle.std.specs.Prelude.{IfSome}
+use Rattle.std.specs.Prelude.{◌==◌, IfSome, codes, decimal, true}
+use Rattle.std.specs.List.{list_all}
 use Rattle.std.proofs.lemmas.Option.{slice_get_within, get_or_from_slice_get}
 use Rattle.std.proofs.lemmas.List.Elements.{All-nil, All-get_or}
 use Rattle.ans_model.specs.Bytes.{IsByte}
@@ -26,14 +27,16 @@ use Rattle.ans_sauce.specs.Parts.{content_of, record_of, size_of}
 use Rattle.ans_sauce.specs.Split.{IsSplit}
 use Rattle.ans_model.specs.Verdict.LastFault.{IsDeserved}
 use Rattle.ans_pens.specs.Evidence.{ShowsNamed}
-use Rattle.ans_why.specs.HintsText.{hint_times_line, hints_text, wider_line}
+use Rattle.ans_why.specs.HintRows.{Hint, Words, words_for}
+use Rattle.ans_why.specs.HintRows as row
+use Rattle.ans_why.specs.HintsText.{counted_line, counted_words, first_at, hint_line, hints_text, wider_line}
+use Rattle.ans_hints.specs.Hints.{much_dark}
 use Rattle.ans_hints.specs.declared.hints.Hints.{Hints}
 use Rattle.ans_pens.specs.declared.times.Times.{Times}
 use Rattle.ans_why.specs.Blamed.{AreToBlame}
 use Rattle.ans_why.specs.Explained.{IsShown, IsReliance, IsSaidOfLines, IsTrueOf, Why}
-use Rattle.ans_why.specs.WhyText.{after_end_mark_text, bytes_line, shown_lines, mend_line, reliance_lines, lines_line}
-use Rattle.ans_why.specs.WhyText.{enough_lines, known_line, found_line, why_text}
-use Rattle.ans_model.specs.Text.Words.{answer_text}
+use Rattle.ans_why.specs.WhyText.{after_end_mark_text, blamed_line, blamed_text, fix_line, shown_lines, reliance_lines}
+use Rattle.ans_why.specs.WhyText.{enough_lines, known_line, found_line, lines_line, taller_line, torn_text, why_text}
 use Rattle.ans_why.specs.declared.known_bytes.Known.{Known}
 use Rattle.ans_why.specs.declared.known_bytes.Known.TheVariants.{Music}
 use Rattle.ans_why.specs.declared.why.Enough.{Enough}
@@ -42,10 +45,10 @@ use Rattle.ans_why.specs.declared.why.Shown.{Shown}
 use Rattle.ans_why.specs.declared.why.Shown.TheVariants.{Cursors, Cells}
 use Rattle.ans_sauce.specs.declared.judged.Judged.TheVariants.{NoContent, Refused, Passes}
 use Rattle.ans_check_laws.specs.CleanTexts.{IsCleanText}
-use Rattle.ans_check_laws.proofs.CleanLines.{clean_lines, parts_are_bytes}
+use Rattle.ans_check_laws.proofs.CleanLines.{clean_lines, fault_told_clean, parts_are_bytes}
 use Rattle.ans_check_laws.proofs.CleanPlayers.{players_clean}
 use Rattle.ans_check_laws.proofs.CleanPieces.{clean_bool, clean_option, AreBytes, bytes_left, bytes_right, clean_nil}
-use Rattle.ans_check_laws.proofs.CleanPieces.{clean_pieces, plain_text}
+use Rattle.ans_check_laws.proofs.CleanPieces.{clean_append, clean_decimal, clean_if, clean_pieces, is_plain, plain_text}
 
 -- ---- bytes of a file
 
@@ -67,9 +70,15 @@ blamed_is_bytes z class content fault text bytes (inr (inl (h, is))) =
     rw is (bytes_right h.front h.text (rw h.whole at bytes))
 blamed_is_bytes z class content fault text bytes (inr (inr (h, is))) = rw is (record { each = All-nil IsByte })
 
-bytes_line_clean : (bytes : List ℕ) → AreBytes bytes → IsCleanText (bytes_line bytes)
-bytes_line_clean [] h = clean_nil
-bytes_line_clean (byte ∷ more) h = search clean_lines depth 20
+blamed_text_clean : (bytes : List ℕ) → AreBytes bytes → IsCleanText (blamed_text bytes)
+blamed_text_clean [] h = clean_nil
+blamed_text_clean (byte ∷ more) h = search clean_lines depth 20
+
+blamed_line_clean : (name : List ℕ) (fault : Fault) (bytes : List ℕ) → IsCleanText name → AreBytes bytes
+    → IsCleanText (blamed_line name fault bytes)
+blamed_line_clean name fault bytes h g =
+    let blamed = blamed_text_clean bytes g in
+    search (clean_lines, fault_told_clean) depth 20
 
 -- ---- what the two plays show
 
@@ -117,19 +126,73 @@ relied_clean P z file_length content None bytes h = clean_nil
 relied_clean P z file_length content (Some r) bytes (p, h) =
     let size = deserved_size z none_known content r.fault h.deserved in
     let shown = shown_clean z none_known content r.fault r.shown size h.shown in
-    let blamed = bytes_line_clean r.bytes.now (blamed_is_bytes z none_known content r.fault r.bytes.now bytes h.bytes)
-    in
-    search (clean_bool mend_line, clean_lines) depth 20
+    let blamed = blamed_line_clean (codes "because") r.fault r.bytes.now (plain_text (codes "because") refl)
+    (blamed_is_bytes z none_known content r.fault r.bytes.now bytes h.bytes) in
+    search clean_lines depth 20
 
 -- ---- hints
 
-times_clean : (what : List ℕ) (times : Option Times) (advice : List ℕ) → IsCleanText what → IsCleanText advice
-    → IsCleanText (hint_times_line what times advice)
-times_clean what None advice h g = clean_nil
-times_clean what (Some times) advice h g = search clean_lines depth 20
+-- the texts of a hint are clean
+record IsCleanHint (hint : Hint) : Type 0 where
+  before : IsCleanText hint.before
+  one : IsCleanText hint.what.one
+  more : IsCleanText hint.what.more
+  advice_one : IsCleanText hint.advice.one
+  advice_more : IsCleanText hint.advice.more
+
+words_clean : (words : Words) (count : ℕ) → IsCleanText words.one → IsCleanText words.more
+    → IsCleanText (words_for words count)
+words_clean words count one more = clean_if (count == 1) words.one words.more one more
+
+first_at_clean : (count : ℕ) → IsCleanText (words_for first_at count)
+first_at_clean count =
+    words_clean first_at count (plain_text (codes ", at ") refl) (plain_text (codes ", first at ") refl)
+
+counted_words_clean : (what : Words) (times : Times) → IsCleanText what.one → IsCleanText what.more
+    → IsCleanText (counted_words what times)
+counted_words_clean what times one more =
+    clean_append (decimal times.count) _ (clean_decimal times.count)
+    (clean_append (codes " ") _ (plain_text (codes " ") refl)
+    (clean_append (words_for what times.count) _ (words_clean what times.count one more)
+    (clean_append (words_for first_at times.count) (decimal times.first) (first_at_clean times.count)
+    (clean_decimal times.first))))
+
+hint_line_clean : (text : List ℕ) → IsCleanText text → IsCleanText (hint_line text)
+hint_line_clean text h = search clean_lines depth 20
+
+counted_clean : (hint : Hint) (times : Option Times) → IsCleanHint hint → IsCleanText (counted_line hint times)
+counted_clean hint None h = clean_nil
+counted_clean hint (Some times) h =
+    hint_line_clean (hint.before ++ (counted_words hint.what times ++ words_for hint.advice times.count))
+    (clean_append hint.before _ h.before
+    (clean_append (counted_words hint.what times) (words_for hint.advice times.count)
+    (counted_words_clean hint.what times h.one h.more)
+    (words_clean hint.advice times.count h.advice_one h.advice_more)))
+
+hint_clean : (hint : Hint) → list_all is_plain hint.before ≡ true → list_all is_plain hint.what.one ≡ true
+    → list_all is_plain hint.what.more ≡ true → list_all is_plain hint.advice.one ≡ true
+    → list_all is_plain hint.advice.more ≡ true → IsCleanHint hint
+hint_clean hint a b c d e = record {
+  before = plain_text hint.before a;
+  one = plain_text hint.what.one b;
+  more = plain_text hint.what.more c;
+  advice_one = plain_text hint.advice.one d;
+  advice_more = plain_text hint.advice.more e;
+}
 
 hints_clean : (hints : Hints) (font : List ℕ) → AreBytes font → IsCleanText (hints_text hints font)
-hints_clean hints font bytes = search (times_clean, clean_option wider_line, clean_lines) depth 30 fits 5000
+hints_clean hints font bytes =
+    let feeds = counted_clean row.bare_line_feeds hints.loose_line_feeds (hint_clean _ refl refl refl refl refl) in
+    let ended = counted_clean row.ended_rows hints.row_ends.ended (hint_clean _ refl refl refl refl refl) in
+    let over = counted_clean row.overprints hints.row_ends.overprints (hint_clean _ refl refl refl refl refl) in
+    let wide = counted_clean row.wide_characters hints.wide_characters (hint_clean _ refl refl refl refl refl) in
+    let two = counted_clean row.two_byte_letters hints.two_byte_letters (hint_clean _ refl refl refl refl refl) in
+    let latin = counted_clean row.latin_letters hints.latin_letters (hint_clean _ refl refl refl refl refl) in
+    let boards = counted_clean row.board_codes hints.board_codes (hint_clean _ refl refl refl refl refl) in
+    let modern = counted_clean row.modern_colours hints.later_colours (hint_clean _ refl refl refl refl refl) in
+    let blinking = counted_clean row.blinking hints.blinking_glyphs (hint_clean _ refl refl refl refl refl) in
+    let grey = counted_clean row.dark_grey (much_dark hints) (hint_clean _ refl refl refl refl refl) in
+    search (clean_option wider_line, clean_lines) depth 30 fits 5000
 
 -- ---- what is found
 
@@ -144,7 +207,7 @@ found_clean file found cause bytes h = search (clean_bool after_end_mark_text, c
 
 lines_clean : (lines : Option ℕ) (torn : Bool) → IsCleanText (lines_line lines torn)
 lines_clean None torn = clean_nil
-lines_clean (Some n) torn = search clean_lines depth 20
+lines_clean (Some n) torn = search (clean_bool torn_text, clean_lines) depth 20
 
 known_clean : (known : Option Known) → IsCleanText (known_line known)
 known_clean None = clean_nil
@@ -162,17 +225,19 @@ enough_clean file cause (Some e) bytes h =
 
 pub why_clean : (file : List ℕ) (why : Why) → AreBytes file → IsTrueOf file why → IsCleanText (why_text why)
 why_clean file (NoContent said) bytes h =
+    let blamed = blamed_line_clean (codes "fault") said.fault [] (plain_text (codes "fault") refl)
+    (record { each = All-nil IsByte }) in
     let found = found_clean file said.found said.fault.cause bytes h.found in
     let enough = enough_clean file said.fault.cause said.enough bytes h.enough in
     search clean_answers depth 20
 why_clean file (Refused parts r) bytes (split, h) =
     let sauce = sauce_is_bytes file parts split bytes in
     let content = content_is_bytes file parts split bytes in
-    let blamed = bytes_line_clean r.bytes.now
+    let blamed = blamed_line_clean (codes "fault") r.fault r.bytes.now (plain_text (codes "fault") refl)
     (blamed_is_bytes (size_of parts) all_known (content_of parts) r.fault r.bytes.now content h.bytes) in
     search clean_answers depth 20
 why_clean file (Passes parts pass) bytes (split, h) =
     let sauce = sauce_is_bytes file parts split bytes in
     let relied = relied_clean _ (size_of parts) (length file) (content_of parts) pass.reliance
     (content_is_bytes file parts split bytes) h.relies in
-    search (clean_bool answer_text, clean_answers) depth 20
+    search (clean_bool fix_line, clean_bool taller_line, clean_answers) depth 20

@@ -201,7 +201,7 @@ module _ (mends : Mends) (z : Size) (file a b : List ℕ) (x y : Edits) (h : IsE
 
   same_joined : h.joined ≡ g.joined
   same_joined =
-      one_if mends.full_rows h.out h.joined g.joined
+      one_if mends.join_rows h.out h.joined g.joined
       (λ joined times. HasFullRows (sized z.width most_lines) h.out joined times) (λ times. times ≡ None) x.row_ends
       y.row_ends
       (one_in_file (has_record h.out) h.out h.joined g.joined x.row_ends y.row_ends

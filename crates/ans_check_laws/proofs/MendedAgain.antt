@@ -78,10 +78,10 @@ module _ (file : List ℕ) (apart : FileParts) (accepts : Accepts file apart) wh
           ap (drop (length (take n body))) is ∙ drop-append_seam (take n body) (drop n body) in
           is ∙ ap (λ (v : List ℕ). take n body ++ v) (sym rest)
 
-module _ (mends : Mends) (no_rows : mends.full_rows ≡ false) (file : List ℕ) (apart : FileParts)
+module _ (mends : Mends) (no_rows : mends.join_rows ≡ false) (file : List ℕ) (apart : FileParts)
     (accepts : Accepts file apart) (picture : Picture)
     (good : GoodWith (stated_size apart.record_bytes) none_known (content apart.body) picture)
-    (no_returns : mends.line_ends ≡ true → wants_returns (content apart.body) ≡ false)
+    (no_returns : mends.crlf ≡ true → wants_returns (content apart.body) ≡ false)
     (names_stay : mends.name_colours ≡ true → (left : List ℕ) (times : Option Times)
     → AreColoursNamed (content_in file) left times → left ≡ content_in file)
     (again : Mended) (draft : List ℕ) (k : IsMended mends file again draft) where
@@ -110,7 +110,7 @@ module _ (mends : Mends) (no_rows : mends.full_rows ≡ false) (file : List ℕ)
 
   based_stays : k.based ≡ file
   based_stays =
-      k.based_is ∙ ap (recorded mends) (nothing_cut file apart accepts k.cut k.is_cut) ∙ not_recorded mends.width
+      k.based_is ∙ ap (recorded mends) (nothing_cut file apart accepts k.cut k.is_cut) ∙ not_recorded mends.add_record
 
   none_lacking : (m : Mends) → lacks_lines m file ≡ false
   none_lacking m =
@@ -137,9 +137,9 @@ module _ (mends : Mends) (no_rows : mends.full_rows ≡ false) (file : List ℕ)
       subst (λ (v : List ℕ). IsEditedAsStated k.asked v k.steps.edited again.edits) opened_stays k.steps.is_edited
 
   returned_stays : returned k.asked file ≡ file
-  returned_stays = go k.asked.line_ends (sym (ap (λ (m : Mends). m.line_ends) k.asked_is))
+  returned_stays = go k.asked.crlf (sym (ap (λ (m : Mends). m.crlf) k.asked_is))
     where
-      go : (ends : Bool) → mends.line_ends ≡ ends → (if ends then with_line_ends file else file) ≡ file
+      go : (ends : Bool) → mends.crlf ≡ ends → (if ends then with_line_ends file else file) ≡ file
       go true is =
           let none : wants_returns (content_in file) ≡ false = ap wants_returns its_content ∙ no_returns is in
           ap (λ (b : Bool). if b then with_content (with_returns (content_in file)) file else file)
@@ -176,8 +176,8 @@ module _ (mends : Mends) (no_rows : mends.full_rows ≡ false) (file : List ℕ)
 
   joined_stays : edited_again.joined ≡ file
   joined_stays =
-      let rows_off : k.asked.full_rows ≡ false = ap (λ (m : Mends). m.full_rows) k.asked_is ∙ no_rows in
-      (off k.asked.full_rows _ rows_off edited_again.rows).0 ∙ out_stays
+      let rows_off : k.asked.join_rows ≡ false = ap (λ (m : Mends). m.join_rows) k.asked_is ∙ no_rows in
+      (off k.asked.join_rows _ rows_off edited_again.rows).0 ∙ out_stays
 
   none_fewer : (left : List ℕ) (times : Option Times) → AreLastEndsOut z (content_in file) left times
       → left ≡ content_in file

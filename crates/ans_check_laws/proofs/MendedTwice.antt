@@ -298,7 +298,7 @@ module _ (mends : Mends) (file : List ℕ) (mended : Mended) (draft : List ℕ) 
   -- ---- its returns
 
   -- where returns are put and none is taken out, none is wanted
-  module _ (no_rows : mends.full_rows ≡ false) (keeps : KeepsReturns mends) (puts : mends.line_ends ≡ true) where
+  module _ (no_rows : mends.join_rows ≡ false) (keeps : KeepsReturns mends) (puts : mends.crlf ≡ true) where
     keeps_all : h.asked.take_out ≡ false
     keeps_all =
         ap (λ (m : Mends). m.take_out) h.asked_is
@@ -306,11 +306,11 @@ module _ (mends : Mends) (file : List ℕ) (mended : Mended) (draft : List ℕ) 
 
     ended_is : ended ≡ with_line_ends was
     ended_is =
-        let rows_off : h.asked.full_rows ≡ false =
-        ap (λ (m : Mends). m.full_rows) h.asked_is ∙ no_rows in
-        let ends_on : h.asked.line_ends ≡ true = ap (λ (m : Mends). m.line_ends) h.asked_is ∙ puts in
+        let rows_off : h.asked.join_rows ≡ false =
+        ap (λ (m : Mends). m.join_rows) h.asked_is ∙ no_rows in
+        let ends_on : h.asked.crlf ≡ true = ap (λ (m : Mends). m.crlf) h.asked_is ∙ puts in
         (off h.asked.take_out _ keeps_all h.steps.is_edited.ends).0
-        ∙ (off h.asked.full_rows _ rows_off h.steps.is_edited.rows).0
+        ∙ (off h.asked.join_rows _ rows_off h.steps.is_edited.rows).0
         ∙ (off h.asked.take_out _ keeps_all h.steps.is_edited.sequences).0
         ∙ ap (λ (b : Bool). if b then with_line_ends was else was) ends_on
 
@@ -351,7 +351,7 @@ module _ (mends : Mends) (file : List ℕ) (mended : Mended) (draft : List ℕ) 
         go false = settled_wants_none
 
   -- ---- mended again
-  module _ (laws : NamingLaws) (no_rows : mends.full_rows ≡ false) (keeps : KeepsReturns mends) (again : Mended)
+  module _ (laws : NamingLaws) (no_rows : mends.join_rows ≡ false) (keeps : KeepsReturns mends) (again : Mended)
       (draft_again : List ℕ) (k : IsMended mends written again draft_again) where
     stays : k.settled ≡ with_end_mark written
     stays =
@@ -407,7 +407,7 @@ module _ (mends : Mends) (file : List ℕ) (mended : Mended) (draft : List ℕ) 
         ∙ take-append-drop (length written - 128) written
 
 pub mending_twice : NamingLaws → (mends : Mends) (file draft draft_again : List ℕ) (mended again : Mended)
-    → mends.full_rows ≡ false → KeepsReturns mends → IsMended mends file mended draft
+    → mends.join_rows ≡ false → KeepsReturns mends → IsMended mends file mended draft
     → IsMended mends (front_bytes mended.front ++ draft) again draft_again
     → front_bytes again.front ++ draft_again ≡ front_bytes mended.front ++ draft
 mending_twice laws mends file draft draft_again mended again no_rows keeps h k =

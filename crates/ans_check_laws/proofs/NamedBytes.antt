@@ -2,13 +2,11 @@
 use Rattle.std.proofs.Common.{◌≡◌, inl, inr, ℕ, ◌-◌, ◌==◌, Bool, true, false, refl, sym, ap, ap₂, ◌∙◌, subst}
 use Rattle.std.proofs.Common.{true≢false, List, [], ◌∷◌, ◌++◌, length, drop, Option}
 use Rattle.std.specs.Prelude.{not, ◌&&◌, ◌||◌, nat_le, if◌then◌else◌}
-use Rattle.std.specs.List.{AllZip, concat, list_any}
+use Rattle.std.specs.List.{list_any}
 use Rattle.std.proofs.lemmas.Bool.{eqb-true}
 use Rattle.std.proofs.lemmas.List.Folds.{list_any-append}
 use Rattle.ans_model.specs.Bytes.{escape, bracket, semicolon}
 use Rattle.ans_model.specs.File.Layout.{is_end_mark}
-use Rattle.ans_model.specs.Sequence.TokenKind.{TokenKind}
-use Rattle.ans_model.specs.Sequence.Reads.{SpellsToken}
 use Rattle.ans_players.specs.Names.{Names, are_both}
 use Rattle.ans_players.specs.Situations.{Spelled, spelled}
 use Rattle.ans_players.proofs.OneSpelling.{one_spelling}

@@ -72,7 +72,7 @@ pub fn what_passes_is_mended()
 /// with which the last return might go.
 pub fn mending_once_is_enough()
     ensures { (mends : Mends) (file draft draft_again : List ℕ) (mended again : Mended)
-        → mends.full_rows ≡ false → KeepsReturns mends
+        → mends.join_rows ≡ false → KeepsReturns mends
         → IsMended mends file mended draft
         → IsMended mends (front_bytes mended.front ++ draft) again draft_again
         → front_bytes again.front ++ draft_again ≡ front_bytes mended.front ++ draft }

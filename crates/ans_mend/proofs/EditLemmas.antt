@@ -23,7 +23,7 @@ use Rattle.ans_mend.proofs.NamedBound.{longer_by_names as named_bound}
 use Rattle.ans_mend.proofs.MendRoomLemmas.{content_in_feeds, line_ends_length, returns_few}
 
 -- where returns are put, there is room for them
-pub returns_fit : (mends : Mends) (file : List ℕ) (room : ℕ) → mends.line_ends ≡ true
+pub returns_fit : (mends : Mends) (file : List ℕ) (room : ℕ) → mends.crlf ≡ true
     → most_returns mends (front_in file) ≤ room → line_feeds (content_in file) ≤ room
 returns_fit mends file room asked fits =
     let most : line_feeds (front_in file) ≤ room = rw asked at fits in
@@ -31,13 +31,13 @@ returns_fit mends file room asked fits =
     omega (arith, most, few)
 
 -- and the file is longer by no more than its line feeds
-pub longer_by_returns : (mends : Mends) (file new : List ℕ) → mends.line_ends ≡ true → new ≡ with_line_ends file
+pub longer_by_returns : (mends : Mends) (file new : List ℕ) → mends.crlf ≡ true → new ≡ with_line_ends file
     → length new ≤ length file + most_returns mends (front_in file)
 longer_by_returns mends file new asked is =
     rw asked (subst (λ (v : List ℕ). length v ≤ length file + line_feeds (front_in file)) (sym is)
     (line_ends_length file))
 
-pub rows_joined : (mends : Mends) (z : Size) (file joined : List ℕ) (times : Option Times) → mends.full_rows ≡ true
+pub rows_joined : (mends : Mends) (z : Size) (file joined : List ℕ) (times : Option Times) → mends.join_rows ≡ true
     → HasFullRows (sized z.width most_lines) file joined times → AreRowsJoined mends z file joined times
 rows_joined mends z file joined times asked rows =
     subst (λ (b : Bool). MatchBool b (HasFullRows (sized z.width most_lines) file joined times)

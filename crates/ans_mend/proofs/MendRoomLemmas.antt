@@ -62,7 +62,7 @@ feeds_few (b ∷ bytes) =
 
 -- one for each byte, at most
 pub returns_few : (mends : Mends) (bytes : List ℕ) → most_returns mends bytes ≤ length bytes
-returns_few mends bytes = go mends.line_ends
+returns_few mends bytes = go mends.crlf
   where
     go : (asked : Bool) → (if asked then line_feeds bytes else 0) ≤ length bytes
     go true = feeds_few bytes
@@ -139,14 +139,14 @@ module _ (width : ℕ) (cut : List ℕ) where
           omega (arith, all, long, short)
 
 pub recorded_length : (mends : Mends) (cut : List ℕ) → length (recorded mends cut) ≤ length cut + 129
-recorded_length mends cut = go mends.width
+recorded_length mends cut = go mends.add_record
   where
     go : (width : Option ℕ) → length (option_map_or (λ w. with_new_record w cut) width cut) ≤ length cut + 129
     go None = omega arith
     go (Some width) = new_length width cut
 
 recorded_feeds : (mends : Mends) (cut : List ℕ) → line_feeds (front_in (recorded mends cut)) ≤ line_feeds cut
-recorded_feeds mends cut = go mends.width
+recorded_feeds mends cut = go mends.add_record
   where
     go : (width : Option ℕ) → line_feeds (front_in (option_map_or (λ w. with_new_record w cut) width cut))
         ≤ line_feeds cut
@@ -163,7 +163,7 @@ cut_feeds file cut (inr (none, is)) = subst (λ (v : List ℕ). line_feeds v ≤
 -- no more returns are put than the file has line feeds
 pub few_returns : (mends : Mends) (file cut : List ℕ) → IsTailCut file cut
     → most_returns (asked_for mends cut) (front_in (recorded mends cut)) ≤ most_returns mends file
-few_returns mends file cut is = go mends.line_ends
+few_returns mends file cut is = go mends.crlf
   where
     go : (asked : Bool) → (if asked then line_feeds (front_in (recorded mends cut)) else 0)
         ≤ (if asked then line_feeds file else 0)

@@ -50,7 +50,7 @@ use Rattle.ans_pens.specs.declared.times.Times.{Times}
 -- ---- the record that is put
 
 pub put_where_given : (mends : Mends) (cut : List ℕ) → is_some (record_put mends cut) ≡ gives_record mends cut
-put_where_given mends cut = go mends.width (takes_record cut)
+put_where_given mends cut = go mends.add_record (takes_record cut)
   where
     given : ℕ → GivenRecord
     given width = record { width = width; place = length (content cut); cut = length (after_content cut) }

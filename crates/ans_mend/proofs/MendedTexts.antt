@@ -2,28 +2,20 @@
 use Rattle.std.proofs.Common.{◌≡◌, ℕ, ◌-◌, ◌<◌, ◌++◌, codes, decimal, refl}
 use Rattle.std.specs.List.{flat_map}
 use Rattle.std.specs.Prelude.{min, take}
-use Rattle.std.proofs.lemmas.Bool.{eq-eqb, lt-leb, lt-ltb, ne_eqb}
-use Rattle.ans_report.specs.Counted.{counted_text, times_text}
+use Rattle.std.proofs.lemmas.Bool.{lt-leb, lt-ltb, ne_eqb}
+use Rattle.ans_report.specs.Counted.{counted_text}
 use Rattle.ans_report.specs.Quoted.{quoted_byte}
-use Rattle.ans_pens.specs.declared.times.Times.{Times}
-use Rattle.ans_mend.specs.MendedText.{at_text, others_text, quoted_excerpt, replaced_text}
+use Rattle.ans_mend.specs.MendedText.{others_text, quoted_excerpt, replaced_text}
 use Rattle.ans_mend.specs.declared.taking_out.Excerpt.{Excerpt}
-
-pub at_once : (times : Times) → times.count ≡ 1 → codes " at " ++ decimal times.first ≡ at_text times
-at_once times e = rw (eq-eqb times.count 1 e) refl
-
-pub at_often : (times : Times) → (times.count ≡ 1 → ⊥)
-    → codes ", " ++ times_text times.count times.first ≡ at_text times
-at_often times e = rw (ne_eqb times.count 1 e) refl
 
 pub excerpt_long : (text : Excerpt) → 32 < text.length
     → flat_map quoted_byte (take (min text.length 32) text.bytes) ++ codes " .." ≡ quoted_excerpt text
 excerpt_long text lt = rw (lt-ltb 32 text.length lt) refl
 
 pub others_more : (count : ℕ) → 1 < count
-    → codes ", and " ++ (decimal (count - 1) ++ codes " more of its kind") ≡ others_text count
+    → codes ", and " ++ (decimal (count - 1) ++ codes " more like it") ≡ others_text count
 others_more count more = rw (lt-leb count 1 more) refl
 
 pub replaced_some : (count : ℕ) → (count ≡ 0 → ⊥)
-    → codes ", in the place of " ++ counted_text count (codes "byte") ≡ replaced_text count
+    → codes ", in place of " ++ counted_text count (codes "byte") ≡ replaced_text count
 replaced_some count e = rw (ne_eqb count 0 e) refl

@@ -5,7 +5,7 @@ use Rattle.std.specs.List.{flat_map}
 use Rattle.ans_model.specs.Text.FaultText.{fault_line}
 use Rattle.ans_model.specs.declared.fault.Cause.{Cause}
 use Rattle.ans_report.specs.Changes.{end_mark_line, reset_line}
-use Rattle.ans_report.specs.Counted.{counted_text, times_text}
+use Rattle.ans_report.specs.Counted.{counted_text}
 use Rattle.ans_report.specs.Meanings.{fault_help}
 use Rattle.ans_report.specs.Quoted.{quoted_byte}
 use Rattle.ans_report.specs.declared.meanings.Help.{Help}
@@ -21,15 +21,19 @@ use Rattle.ans_model.specs.declared.mends.Mends.{Mends}
 
 -- ---- what was changed, a line each
 
--- where it was, and how often if more than once
-abbrev pub at_text : Times → List ℕ
-at_text times =
-    if times.count == 1 then codes " at " ++ decimal times.first
-    else codes ", " ++ times_text times.count times.first
+-- the text for one, or for several
+abbrev pub by_count : ℕ → List ℕ → List ℕ → List ℕ
+by_count count one several = if count == 1 then one else several
 
-abbrev pub times_line : List ℕ → Option Times → List ℕ
-times_line what None = []
-times_line what (Some times) = what ++ (at_text times ++ codes "\n")
+-- where it was, or where the first was
+abbrev pub at_text : Times → List ℕ
+at_text times = by_count times.count (codes ", at ") (codes ", first at ") ++ decimal times.first
+
+-- what was done, to how many, and where: the number is followed by the text for one or for several
+abbrev pub times_line : List ℕ → List ℕ → List ℕ → Option Times → List ℕ
+times_line done one several None = []
+times_line done one several (Some times) =
+    done ++ (decimal times.count ++ (by_count times.count one several ++ (at_text times ++ codes "\n")))
 
 -- the text is quoted, or its first 32 bytes
 abbrev pub quoted_excerpt : Excerpt → List ℕ
@@ -37,34 +41,34 @@ quoted_excerpt text =
     flat_map quoted_byte (take (min text.length 32) text.bytes)
     ++ (if nat_lt 32 text.length then codes " .." else [])
 
--- how many of the kind went besides the first
+-- how many of the kind were removed besides the first
 abbrev pub others_text : ℕ → List ℕ
 others_text count =
-    if nat_le count 1 then [] else codes ", and " ++ (decimal (count - 1) ++ codes " more of its kind")
+    if nat_le count 1 then [] else codes ", and " ++ (decimal (count - 1) ++ codes " more like it")
 
 abbrev pub taken_line : Option TakenOut → List ℕ
 taken_line None = []
 taken_line (Some taken) =
-    codes "took out " ++ (quoted_excerpt taken.text ++ (codes " at " ++ (decimal taken.times.first
+    codes "removed " ++ (quoted_excerpt taken.text ++ (codes " at " ++ (decimal taken.times.first
     ++ (others_text taken.times.count ++ codes "\n"))))
 
 abbrev pub tail_line : Option Times → List ℕ
 tail_line None = []
 tail_line (Some cut) =
-    codes "cut " ++ (counted_text cut.count (codes "byte") ++ (codes " at " ++ (decimal cut.first
-    ++ codes ", behind the record\n")))
+    codes "cut off " ++ (counted_text cut.count (codes "byte") ++ (codes " after the record, at " ++ (decimal cut.first
+    ++ codes "\n")))
 
--- how many bytes stood in the place of a record
+-- how many bytes a record replaced
 abbrev pub replaced_text : ℕ → List ℕ
 replaced_text count =
-    if count == 0 then [] else codes ", in the place of " ++ counted_text count (codes "byte")
+    if count == 0 then [] else codes ", in place of " ++ counted_text count (codes "byte")
 
 abbrev pub record_line : Option GivenRecord → List ℕ
 record_line None = []
 record_line (Some given) =
-    codes "put an end mark and a record of "
+    codes "added an end mark and a record for "
     ++ (counted_text given.width (codes "column")
-    ++ (codes " at " ++ (decimal given.place ++ (replaced_text given.cut ++ codes "\n"))))
+    ++ (codes ", at " ++ (decimal given.place ++ (replaced_text given.cut ++ codes "\n"))))
 
 -- the flag is set, cleared, or stays
 abbrev pub flag_line : Bool → Bool → List ℕ
@@ -73,7 +77,7 @@ flag_line true false = codes "cleared the non-blink flag\n"
 flag_line _ _ = []
 
 abbrev pub front_line : Bool → List ℕ
-front_line true = codes "put 25 bytes in front\n"
+front_line true = codes "added the safe beginning, 25 bytes\n"
 front_line false = []
 
 -- all lines, in the order in which the file is mended
@@ -81,39 +85,43 @@ abbrev pub mended_text : Mended → List ℕ
 mended_text m =
     tail_line m.tail
     ++ (record_line m.given_record
-    ++ (times_line (codes "put a return before a line feed") m.edits.returns
+    ++ (times_line (codes "added ") (codes " carriage return before a line feed")
+    (codes " carriage returns before line feeds") m.edits.returns
     ++ (flat_map taken_line m.edits.told.kinds
     ++ (flag_line m.non_blink.was m.non_blink.is
-    ++ (times_line (codes "took out a line end behind a full row") m.edits.row_ends
-    ++ (times_line (codes "took out a line end at the end") m.edits.last_ends
-    ++ (times_line (codes "named the colours of a sequence") m.edits.named_colours
+    ++ (times_line (codes "removed ") (codes " line end after a full row") (codes " line ends after full rows")
+    m.edits.row_ends
+    ++ (times_line (codes "removed ") (codes " line end at the end") (codes " line ends at the end") m.edits.last_ends
+    ++ (times_line (codes "named the colours of ") (codes " sequence") (codes " sequences") m.edits.named_colours
     ++ (reset_line (codes "lines ") m.lines
     ++ (end_mark_line m.end_mark
     ++ (front_line m.front ++ reset_line (codes "file size ") m.file_size))))))))))
 
 -- ---- why there is none
 
--- where no flag is left that may help
+-- if no flag is left that may help
 abbrev pub look_text : List ℕ
-look_text = codes "help: anscheck why shows the place, and anscheck help tells of the fault\n"
+look_text = codes "see anscheck why for the place, and anscheck help for the fault\n"
 
--- a drawing without a record wants one
+-- a drawing without a record needs one
 abbrev pub record_help : List ℕ
-record_help = codes "help: --width N gives a drawing without a record one for N columns\n"
+record_help = codes "try: --add-record N, which adds a record for N columns\n"
 
 -- why it gets none
 abbrev pub no_record_help : List ℕ
-no_record_help = codes "help: no record is put where SAUCE00 stands, or more follows 1Ah: see anscheck help F1\n"
+no_record_help =
+    codes "no record is added if SAUCE00 appears in the file or more follows 1Ah: see anscheck help F1\n"
 
 abbrev pub sequence_help : Mends → List ℕ
 sequence_help asked =
-    if asked.take_out then look_text else codes "help: --take-out takes out what is known of such sequences\n"
+    if asked.take_out then look_text
+    else codes "try: --take-out, which removes such sequences if it knows them\n"
 
 -- a flag, unless it is given
 abbrev pub offered : Bool → List ℕ → List ℕ
 offered given flag = if given then [] else codes " " ++ flag
 
--- more lines: others than the number that is given, or the least
+-- more lines: another number than the one that is given, or the least
 abbrev pub lines_offered : Mends → List ℕ
 lines_offered asked =
     if is_some asked.lines then codes " --lines N with a larger N"
@@ -124,29 +132,33 @@ abbrev pub has_least : Mends → Bool
 has_least asked = asked.least_lines && not (is_some asked.lines)
 
 abbrev pub all_given : Mends → Bool
-all_given asked = asked.line_ends && (asked.full_rows && (asked.take_out && has_least asked))
+all_given asked = asked.crlf && (asked.join_rows && (asked.take_out && has_least asked))
 
--- what goes before the flags that may help
-abbrev pub added_text : List ℕ
-added_text = codes "help: may be added (see anscheck why):"
+-- what comes before the flags that may help
+abbrev pub try_text : List ℕ
+try_text = codes "try:"
+
+-- what comes after them
+abbrev pub which_text : List ℕ
+which_text = codes " (anscheck why says which)\n"
 
 -- the flags that change the rows, except those that are given
 abbrev pub rows_help : Mends → List ℕ
 rows_help asked =
     if all_given asked then look_text
-    else added_text ++ (offered asked.line_ends (codes "--line-ends")
-    ++ (offered asked.full_rows (codes "--full-rows") ++ (offered asked.take_out (codes "--take-out")
-    ++ (lines_offered asked ++ codes "\n"))))
+    else try_text ++ (offered asked.crlf (codes "--crlf")
+    ++ (offered asked.join_rows (codes "--join-rows") ++ (offered asked.take_out (codes "--take-out")
+    ++ (lines_offered asked ++ which_text))))
 
--- a place outside the screen may stand on one of more lines
+-- a place outside the screen may be on a screen of more lines
 abbrev pub place_help : Mends → List ℕ
-place_help asked = if has_least asked then look_text else added_text ++ (lines_offered asked ++ codes "\n")
+place_help asked = if has_least asked then look_text else try_text ++ (lines_offered asked ++ which_text)
 
 -- what may help, of what is not asked for yet
 abbrev pub helped : Mends → Help → List ℕ
 helped asked help.Look = look_text
 helped asked help.Record = record_help
-helped asked help.LeastLines = codes "help: --least-lines states the least number of lines that is enough\n"
+helped asked help.LeastLines = codes "try: --least-lines, which sets the smallest number of lines that works\n"
 helped asked help.TakeOut = sequence_help asked
 helped asked help.Place = place_help asked
 helped asked help.Rows = rows_help asked
@@ -155,20 +167,20 @@ helped asked help.Rows = rows_help asked
 abbrev pub help_text : Mends → Cause → List ℕ
 help_text asked cause = helped asked (fault_help cause)
 
--- what may help where the rows are torn: whole rows, or a number that is given all the same
+-- what may help if the rows look broken: whole rows, or a number that is given all the same
 abbrev pub torn_help : Mends → List ℕ
 torn_help asked =
-    added_text ++ (offered asked.line_ends (codes "--line-ends")
-    ++ (offered asked.full_rows (codes "--full-rows") ++ codes " --lines N\n"))
+    try_text ++ (offered asked.crlf (codes "--crlf")
+    ++ (offered asked.join_rows (codes "--join-rows") ++ (codes " --lines N" ++ which_text)))
 
--- what may help where no number of lines is enough: the least is asked for then, as such or with a record
+-- what may help if no number of lines would do: the least is asked for then, as such or with a record
 abbrev pub no_lines_help : Mends → List ℕ
 no_lines_help asked = rows_help (record asked { least_lines = true })
 
 abbrev pub unmended_text : Mends → Unmended → List ℕ
 unmended_text asked (unmended.Refused fault) = fault_line fault ++ help_text asked fault.cause
 unmended_text asked (unmended.TakesNoRecord fault) = fault_line fault ++ no_record_help
-unmended_text asked unmended.Torn = codes "the rows are torn\n" ++ torn_help asked
-unmended_text asked unmended.NoLines = codes "no number of lines up to 8192 is enough\n" ++ no_lines_help asked
+unmended_text asked unmended.Torn = codes "the rows look broken\n" ++ torn_help asked
+unmended_text asked unmended.NoLines = codes "no number of lines up to 8192 would do\n" ++ no_lines_help asked
 unmended_text asked unmended.TooLong =
-    codes "the file would be longer than 16777216 bytes\nhelp: only a shorter drawing can be mended so\n"
+    codes "the file would be longer than 16777216 bytes\nonly a shorter drawing can be fixed this way\n"

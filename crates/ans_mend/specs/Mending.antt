@@ -58,15 +58,15 @@ IsSound file = IsRead file × (length file ≤ longest_file)
 
 -- a record is asked for, and the file takes it
 abbrev pub gives_record : Mends → List ℕ → Bool
-gives_record mends cut = is_some mends.width && takes_record cut
+gives_record mends cut = is_some mends.add_record && takes_record cut
 
 -- the file with a record of the width that is asked for, where it takes one
 abbrev pub recorded : Mends → List ℕ → List ℕ
-recorded mends cut = option_map_or (λ width. with_new_record width cut) mends.width cut
+recorded mends cut = option_map_or (λ width. with_new_record width cut) mends.add_record cut
 
 -- the record that is put, where one is
 abbrev pub record_put : Mends → List ℕ → Option GivenRecord
-record_put mends cut = option_and_then (λ width. record_given width cut) mends.width
+record_put mends cut = option_and_then (λ width. record_given width cut) mends.add_record
 
 -- where a record is given, the least number of lines is asked for too
 abbrev pub asked_for : Mends → List ℕ → Mends
@@ -91,11 +91,11 @@ opened mends file =
 
 -- with a return before each line feed, where that is asked for and wanted
 abbrev pub returned : Mends → List ℕ → List ℕ
-returned mends file = if mends.line_ends then with_line_ends file else file
+returned mends file = if mends.crlf then with_line_ends file else file
 
 -- the returns that were put into it are told
 abbrev pub TellsReturns : Mends → List ℕ → Option Times → Type 0
-TellsReturns mends file times = MatchBool mends.line_ends (ArePut file times) (times ≡ None)
+TellsReturns mends file times = MatchBool mends.crlf (ArePut file times) (times ≡ None)
 
 -- the sequences that go are taken out and told, where that is asked for
 abbrev pub AreSequencesOut : Mends → List ℕ → List ℕ → Told → Type 0
@@ -105,7 +105,7 @@ AreSequencesOut mends file out told =
 -- the line ends behind full rows are taken out and told, where that is asked for; the number of lines does not matter
 abbrev pub AreRowsJoined : Mends → Size → List ℕ → List ℕ → Option Times → Type 0
 AreRowsJoined mends z file joined times =
-    MatchBool mends.full_rows (HasFullRows (sized z.width most_lines) file joined times)
+    MatchBool mends.join_rows (HasFullRows (sized z.width most_lines) file joined times)
     ((joined ≡ file) × (times ≡ None))
 
 -- As few line ends at the very end are taken out, and told, as must go for the content to pass from the cleared start,

@@ -14,7 +14,7 @@ use Rattle.ans_mend.specs.Mending.{HasSettled, asked_for, recorded}
 
 -- how many returns are put at most, where they are asked for: one before each line feed
 abbrev pub most_returns : Mends → List ℕ → ℕ
-most_returns mends bytes = if mends.line_ends then line_feeds bytes else 0
+most_returns mends bytes = if mends.crlf then line_feeds bytes else 0
 
 -- how many bytes names of colours are at most, where they are asked for, in a file of so many bytes, of which so many
 -- are before its record: eight for each of these, and no more than make the file the longest

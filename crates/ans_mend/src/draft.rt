@@ -5,7 +5,7 @@ ghost use Rattle.ans_mend.specs.Drafts.{draft_of, with_byte};
 
 use std::marker::Model;
 
-/// A file in memory that is lent, with room for more bytes behind it. It is changed in place.
+/// A file in memory that is lent, with room for more bytes after it. It is changed in place.
 #[derive(Drop)]
 pub struct Draft<'a> {
     pub(crate) memory: &'a mut [u8],
@@ -24,7 +24,7 @@ impl<'a> Model for Draft<'a> {
 }
 
 impl<'a> Draft<'a> {
-    /// The file in the first `count` bytes of a memory. The bytes behind it are room.
+    /// The file in the first `count` bytes of a memory. The bytes after it are room.
     pub fn new(memory: &'a mut [u8], count: usize) -> Draft<'a>
         requires { count ≤ length memory.old }
         ensures { result ≡ draft_of (take count memory.old) (length memory.old - count) }
@@ -49,7 +49,7 @@ impl<'a> Draft<'a> {
         self.memory.len() - self.used
     }
 
-    /// Cuts off what stands behind the first `count` bytes. It is room then.
+    /// Cuts off what follows the first `count` bytes. It is room then.
     pub(crate) fn cut(&mut self, count: usize)
         requires { count ≤ length self.old.file }
         ensures { self.new ≡ draft_of (take count self.old.file)
@@ -58,7 +58,7 @@ impl<'a> Draft<'a> {
         self.used = count;
     }
 
-    /// Puts bytes behind the file.
+    /// Adds bytes at the end of the file.
     pub(crate) fn append(&mut self, bytes: &[u8])
         requires { length bytes.now ≤ self.old.room }
         ensures { self.new
@@ -69,7 +69,7 @@ impl<'a> Draft<'a> {
         self.used = end;
     }
 
-    /// Puts a byte at the offset, before what stands there.
+    /// Inserts a byte at the offset.
     pub(crate) fn insert(&mut self, offset: usize, byte: u8)
         requires within { offset ≤ length self.old.file }
         requires room { 1 ≤ self.old.room }
@@ -80,7 +80,7 @@ impl<'a> Draft<'a> {
     }
 }
 
-/// Puts a byte at the offset in the first `count` bytes, and moves those from there on by one.
+/// Inserts a byte at the offset in the first `count` bytes, and moves those from there on by one.
 #[tactic(auto, using(crate::proofs::Pushing::pushed_in))]
 fn push_in(memory: &mut [u8], count: usize, offset: usize, byte: u8)
     requires within { offset ≤ count }

@@ -1,4 +1,4 @@
-//! What is changed of the content of a file that is mended.
+//! The changes to the content of a file that is mended.
 ghost use Rattle.std.specs.Prelude.{◌≡◌, ◌+◌, ◌≤◌, length, IfOk, IfErr, IsTrue, OnOk};
 ghost use Rattle.ans_model.specs.Bytes.{longest_file};
 ghost use Rattle.ans_mend.specs.declared.outcome.Unmended.TheVariants.{TooLong};
@@ -18,7 +18,7 @@ use ans_model::mends::Mends;
 use ans_model::size::Size;
 use ans_pens::Times;
 
-/// Puts returns before line feeds, where that is asked for.
+/// Adds returns before line feeds, if that is asked for.
 fn put_returns(draft: &mut Draft<'_>, mends: &Mends) -> Option<Times>
     requires { most_returns mends.now (front_in draft.old.file) ≤ draft.old.room }
     ensures file { draft.new.file ≡ returned mends.now draft.old.file }
@@ -26,13 +26,13 @@ fn put_returns(draft: &mut Draft<'_>, mends: &Mends) -> Option<Times>
     ensures longer { length draft.new.file ≤ length draft.old.file + most_returns mends.now (front_in draft.old.file) }
     ensures memory { memory_of draft.new ≡ memory_of draft.old }
 {
-    if mends.line_ends {
+    if mends.crlf {
         return draft.put_returns();
     }
     None
 }
 
-/// Takes sequences out, where that is asked for.
+/// Removes sequences, if that is asked for.
 fn take_out_sequences(draft: &mut Draft<'_>, mends: &Mends) -> Told
     requires { length draft.old.file ≤ longest_file }
     ensures file { AreSequencesOut mends.now draft.old.file draft.new.file result }
@@ -45,20 +45,20 @@ fn take_out_sequences(draft: &mut Draft<'_>, mends: &Mends) -> Told
     Told::nothing()
 }
 
-/// Takes the line ends behind full rows out, where that is asked for.
+/// Removes the line ends after full rows, if that is asked for.
 fn join_rows(draft: &mut Draft<'_>, mends: &Mends, size: Size) -> Option<Times>
     requires { length draft.old.file ≤ longest_file }
     ensures file { AreRowsJoined mends.now size draft.old.file draft.new.file result }
     ensures no_longer { length draft.new.file ≤ length draft.old.file }
     ensures memory { memory_of draft.new ≡ memory_of draft.old }
 {
-    if mends.full_rows {
+    if mends.join_rows {
         return draft.take_out_row_ends(Size::new(size.width(), MAX_LINES));
     }
     None
 }
 
-/// Takes line ends at the very end out, where sequences are to be taken out.
+/// Removes line ends at the very end, if sequences are to be removed.
 fn take_out_last_ends(draft: &mut Draft<'_>, mends: &Mends, size: Size) -> Option<Times>
     requires { length draft.old.file ≤ longest_file }
     ensures file { AreLastEndsGone mends.now size draft.old.file draft.new.file result }
@@ -71,7 +71,7 @@ fn take_out_last_ends(draft: &mut Draft<'_>, mends: &Mends, size: Size) -> Optio
     None
 }
 
-/// Names the colours, where that is asked for.
+/// Names the colours, if that is asked for.
 fn name_colours(draft: &mut Draft<'_>, mends: &Mends) -> Result<Option<Times>, Unmended>
     requires length { length draft.old.file ≤ longest_file }
     requires room { IsTrue mends.now.name_colours → names_room draft.old.file ≤ draft.old.room }
@@ -86,8 +86,8 @@ fn name_colours(draft: &mut Draft<'_>, mends: &Mends) -> Result<Option<Times>, U
     Ok(None)
 }
 
-/// Changes of the content what is asked for, on a screen of this size. An error says that the file is too long
-/// with its returns, or with names of colours.
+/// Makes the changes to the content that are asked for, on a screen of this size. An error says that the file is
+/// too long with its returns, or with names of colours.
 pub(crate) fn edit(draft: &mut Draft<'_>, mends: &Mends, size: Size) -> Result<Edits, Unmended>
     requires { most_added mends.now draft.old.file ≤ draft.old.room }
     ensures edits { IfOk result (IsEdited mends.now size draft.old.file draft.new.file) }

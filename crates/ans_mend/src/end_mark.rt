@@ -1,4 +1,4 @@
-//! The end mark behind the content.
+//! The end mark after the content.
 
 ghost use Rattle.std.specs.Prelude.{◌≡◌, ◌≤◌};
 ghost use Rattle.std.specs.List.{list_any};
@@ -19,7 +19,7 @@ fn has_end_mark(body: &[u8]) -> bool
     content.len() != body.len()
 }
 
-/// Where the end mark is to be put, in bytes from the file's start.
+/// Where the end mark is to be added, in bytes from the file's start.
 fn place_of_end_mark(file: &[u8]) -> Option<usize>
     ensures { result ≡ end_mark_put file.now }
 {
@@ -32,8 +32,8 @@ fn place_of_end_mark(file: &[u8]) -> Option<usize>
 }
 
 impl<'a> Draft<'a> {
-    /// Puts an end mark behind the content of a file that has a record, before the comments that the
-    /// record counts, where there is none (SAUCE 00.5, file layout). Returns its offset, in bytes from the
+    /// Adds an end mark after the content of a file that has a record, before the comments that the
+    /// record counts, if there is none (SAUCE 00.5, file layout). Returns its offset, in bytes from the
     /// file's start. The draft needs room for a byte.
     pub(crate) fn put_end_mark(&mut self) -> Option<usize>
         requires { 1 ≤ self.old.room }

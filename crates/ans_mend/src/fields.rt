@@ -1,4 +1,4 @@
-//! Fields of a record that are set anew.
+//! Fields of a record that are set.
 
 ghost use Rattle.std.specs.Prelude.{◌≡◌, ◌≤◌, length};
 ghost use Rattle.ans_sauce.specs.Found.{record_in};

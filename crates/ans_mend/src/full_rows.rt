@@ -1,4 +1,4 @@
-//! Line ends behind full rows that are taken out.
+//! Line ends after full rows that are removed.
 
 ghost use Rattle.std.specs.Prelude.{◌≡◌, ◌+◌, ◌-◌, ◌≤◌, ◌<◌, ◌++◌, ℕ, List, length, take, drop, true};
 ghost use Rattle.ans_model.specs.Bytes.{longest_file};
@@ -15,7 +15,7 @@ use ans_hints::{FullRowEnd, RowPlay, ends_full_rows};
 use ans_model::size::Size;
 use ans_pens::Times;
 
-/// What was taken out, how often, and how many bytes are left of those that were looked at.
+/// What was removed, how often, and how many bytes are left of those that were looked at.
 #[derive(Clone, Copy)]
 struct RowsLeft {
     times: Option<Times>,
@@ -45,7 +45,7 @@ pub(crate) fn once_more(times: Option<Times>, offset: usize) -> Option<Times>
     }
 }
 
-/// Takes a line end out: the bytes from an offset up to it are moved behind the first ones, whose number
+/// Removes a line end: the bytes from an offset up to it are moved after the first ones, whose number
 /// is given. Returns how many there are then.
 fn take_out_end(memory: &mut [u8], count: usize, from: usize, end: &FullRowEnd) -> usize
     requires behind { count ≤ from }
@@ -66,7 +66,7 @@ fn take_out_end(memory: &mut [u8], count: usize, from: usize, end: &FullRowEnd) 
     }
 }
 
-/// Takes the line ends behind full rows out of the first `count` bytes, which a play is to go over.
+/// Removes the line ends after full rows from the first `count` bytes, which a play is to go over.
 fn take_out_ends(memory: &mut [u8], count: usize, mut rows: RowPlay) -> RowsLeft
     requires within { count ≤ length memory.old }
     requires limit { count ≤ longest_file }
@@ -94,9 +94,9 @@ fn take_out_ends(memory: &mut [u8], count: usize, mut rows: RowPlay) -> RowsLeft
 }
 
 impl<'a> Draft<'a> {
-    /// Takes the line ends behind full rows out of the content of a file that has a record, in the play
-    /// from the cleared start on a screen of this size: where a line end stands behind every full row that
-    /// something is printed behind, and there are two of these. Behind a full row the cursor stands in the
+    /// Removes the line ends after full rows from the content of a file that has a record, in the play
+    /// from the cleared start on a screen of this size: if a line end follows every full row that
+    /// something is printed after, and there are two of these. After a full row the cursor is in the
     /// next row already, so a line end there makes an empty one. Returns how many line ends, and the offset of
     /// the first, in bytes from the file's start.
     pub(crate) fn take_out_row_ends(&mut self, size: Size) -> Option<Times>

@@ -1,4 +1,4 @@
-//! What is read of a file that is to be mended, and how one comes out that was.
+//! What is read of a file that is to be mended, and the verdict on one that was.
 ghost use Rattle.std.specs.Prelude.{◌≡◌, ◌≤◌, ◌↔◌, IsTrue, List, false, length, IfOk, IfErr, IsErrOf, OnOk};
 ghost use Rattle.ans_model.specs.Bytes.{longest_file};
 ghost use Rattle.ans_model.specs.Screen.StartClass.{all_known, none_known};
@@ -23,7 +23,7 @@ use ans_model::start::Start;
 use ans_sauce::{Parts, split};
 use ans_verdict::{Screens, cleared_fault};
 
-/// What is read of a file that is told or set anew later, of its record and of its content.
+/// What is read of a file that is reported or set later, of its record and of its content.
 #[derive(Clone, Copy)]
 pub(crate) struct Reading {
     pub(crate) size: Size,
@@ -64,7 +64,7 @@ pub(crate) fn read(file: &[u8], lacks: bool) -> Result<Reading, Unmended>
     }
 }
 
-/// How a drawing comes out that passes from the cleared start.
+/// The verdict on a drawing that passes from the cleared start.
 #[derive(Clone, Copy)]
 pub(crate) struct Judgement {
     // whether it needs the mending in front
@@ -72,7 +72,7 @@ pub(crate) struct Judgement {
     pub(crate) reading: Reading,
 }
 
-/// Whether names of colours are asked for, and are wanted before a sequence that could have them.
+/// Whether names of colours are asked for, and needed before a sequence that could have them.
 fn wants_names(content: &[u8], mends: &Mends) -> bool
     requires length { length content.now ≤ longest_file }
     requires reads { (tokens : List TokenKind) × Reads content.now tokens }
@@ -81,7 +81,7 @@ fn wants_names(content: &[u8], mends: &Mends) -> bool
     mends.name_colours && begins_unnamed(content)
 }
 
-/// Whether a content that passes from the cleared start wants the mending in front, by its fault from all
+/// Whether a content that passes from the cleared start needs the safe beginning, by its fault from all
 /// starts.
 fn wants_mending(parts: &Parts<'_>, fault: Option<Fault>, mends: &Mends) -> bool
     requires length { length (content_of parts.now) ≤ longest_file }
@@ -101,7 +101,7 @@ fn wants_mending(parts: &Parts<'_>, fault: Option<Fault>, mends: &Mends) -> bool
     }
 }
 
-/// Plays the content of a file from all starts, and where its fault depends on the start from the cleared
+/// Plays the content of a file from all starts, and if its fault depends on the start, from the cleared
 /// one.
 pub(crate) fn judge<S: Screens>(
     screens: &mut S,

@@ -1,8 +1,8 @@
-//! Bytes that stay, while others before them are taken out.
+//! Bytes that stay, while others before them are removed.
 
 ghost use Rattle.std.specs.Prelude.{◌≡◌, ◌+◌, ◌-◌, ◌≤◌, ◌++◌, ℕ, length, take, drop};
 
-/// Moves the bytes from one offset up to another behind the first ones, whose number is given. Returns how
+/// Moves the bytes from one offset up to another after the first ones, whose number is given. Returns how
 /// many there are then.
 #[tactic(auto, using(crate::proofs::MovedDown::kept_behind, crate::proofs::MovedDown::left_behind))]
 pub(crate) fn keep(memory: &mut [u8], count: usize, from: usize, to: usize) -> usize

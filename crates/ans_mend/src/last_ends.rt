@@ -1,4 +1,4 @@
-//! Line ends at the very end of a content that are taken out.
+//! Line ends at the very end of a content that are removed.
 
 ghost use Rattle.std.specs.Prelude.{◌≡◌, ℕ, ◌<◌, ◌≤◌, true, false, IfNone, IfSome, length, drop};
 ghost use Rattle.std.specs.List.{list_all};
@@ -19,14 +19,14 @@ fn is_line_end(byte: u8) -> bool
     byte == b'\n' || byte == b'\r'
 }
 
-/// Whether a return stands before the offset and its line feed behind it.
+/// Whether a return is before the offset and its line feed after it.
 fn splits_line_end(bytes: &[u8], at: usize) -> bool
     ensures { result ≡ splits_line_end bytes.now at }
 {
     at > 0 && at < bytes.len() && bytes[at - 1] == b'\r' && bytes[at] == b'\n'
 }
 
-/// How many bytes stand before the line feeds and returns at the end.
+/// How many bytes come before the line feeds and returns at the end.
 fn count_before_ends(bytes: &[u8]) -> usize
     ensures within { result ≤ length bytes.now }
     ensures ends { list_all is_line_end (drop result bytes.now) ≡ true }
@@ -39,8 +39,8 @@ fn count_before_ends(bytes: &[u8]) -> usize
     count
 }
 
-/// How many of the first bytes at most pass from the cleared start, where enough of them do and behind
-/// these there are line feeds and returns alone.
+/// How many of the first bytes at most pass from the cleared start, if enough of them do and only line feeds and
+/// returns follow these.
 fn most_passing(size: Size, bytes: &[u8], enough: usize) -> usize
     requires length { length bytes.now ≤ longest_file }
     requires within { enough ≤ length bytes.now }
@@ -65,7 +65,7 @@ fn most_passing(size: Size, bytes: &[u8], enough: usize) -> usize
 }
 
 /// How many bytes of a content are left if as few line ends at its very end go as must for it to pass from
-/// the cleared start. None where it does not pass, however many go. It takes no memory.
+/// the cleared start. None if it does not pass, however many go. It takes no memory.
 pub fn count_passing(size: Size, content: &[u8]) -> Option<usize>
     requires { length content.now ≤ longest_file }
     ensures some { IfSome result (LeavesMost size content.now) }
@@ -85,7 +85,7 @@ pub fn count_passing(size: Size, content: &[u8]) -> Option<usize>
     Some(count)
 }
 
-/// How many line ends the bytes are, where they are nothing but line feeds and returns: a return and a line
+/// How many line ends the bytes are, if they are only line feeds and returns: a return and a line
 /// feed are one.
 pub fn count_line_ends(bytes: &[u8]) -> usize
     ensures count { result ≡ line_ends bytes.now }
@@ -102,7 +102,7 @@ pub fn count_line_ends(bytes: &[u8]) -> usize
     count
 }
 
-/// So many, from this offset on.
+/// That many, from this offset on.
 pub(crate) fn times_at(count: usize, first: usize) -> Option<Times>
     ensures { result ≡ times_at count first }
 {
@@ -112,7 +112,7 @@ pub(crate) fn times_at(count: usize, first: usize) -> Option<Times>
     Some(Times { count, first })
 }
 
-/// How many line ends the bytes behind an offset are, and that offset.
+/// How many line ends the bytes after an offset are, and that offset.
 fn ends_behind(content: &[u8], left: usize) -> Option<Times>
     requires { left ≤ length content.now }
     ensures { result ≡ times_at (line_ends (drop left content.now)) left }
@@ -121,8 +121,8 @@ fn ends_behind(content: &[u8], left: usize) -> Option<Times>
 }
 
 impl<'a> Draft<'a> {
-    /// Takes as few line ends at the very end out of the content of a file that has a record as must go for
-    /// it to pass from the cleared start on a screen of this size, where it then does. Returns how many, and
+    /// Removes as few line ends at the very end of the content of a file that has a record as must go for
+    /// it to pass from the cleared start on a screen of this size, if it then does. Returns how many, and
     /// the offset of the first, in bytes from the file's start.
     pub(crate) fn take_out_last_ends(&mut self, size: Size) -> Option<Times>
         requires { length self.old.file ≤ longest_file }

@@ -34,7 +34,7 @@ pub(crate) fn count_line_feeds(bytes: &[u8]) -> usize
     count
 }
 
-/// Writes a byte behind the first ones, behind a return if it is a line feed. Returns how many bytes there
+/// Writes a byte after the first ones, after a return if it is a line feed. Returns how many bytes there
 /// are then.
 fn write_returned(memory: &mut [u8], count: usize, byte: u8) -> usize
     requires { count + length (byte_returned byte) ≤ length memory.old }
@@ -52,7 +52,7 @@ fn write_returned(memory: &mut [u8], count: usize, byte: u8) -> usize
     end + 1
 }
 
-/// The `count` bytes behind a gap are written to the front, each line feed behind a return. The gap has
+/// The `count` bytes after a gap are written to the front, each line feed after a return. The gap has
 /// room for as many returns as there are line feeds.
 fn close_gap(memory: &mut [u8], gap: usize, count: usize)
     requires within { gap + count ≤ length memory.old }
@@ -69,8 +69,8 @@ fn close_gap(memory: &mut [u8], gap: usize, count: usize)
     }
 }
 
-/// Puts a return before each line feed of the first `count` of the bytes that are used, for which there
-/// is a gap behind these.
+/// Adds a return before each line feed of the first `count` of the bytes that are used, for which there
+/// is a gap after these.
 fn put_returns_in(memory: &mut [u8], used: usize, count: usize, gap: usize)
     requires room { used + gap ≤ length memory.old }
     requires within { count ≤ used }
@@ -95,7 +95,7 @@ fn first_line_feed(bytes: &[u8]) -> Option<usize>
     memchr(b'\n', bytes)
 }
 
-/// The line feeds that want a return: how many, and the first one's place.
+/// The line feeds that need a return: how many, and the place of the first.
 fn wanted_returns(content: &[u8]) -> Option<Times>
     ensures { AreReturns content.now result }
 {
@@ -120,7 +120,7 @@ pub(crate) fn content_of(file: &[u8]) -> Option<&[u8]>
 }
 
 impl<'a> Draft<'a> {
-    /// Puts a return before each line feed of the content of a file that has a record, where it has line
+    /// Adds a return before each line feed of the content of a file that has a record, if it has line
     /// feeds and no return. Returns how many, and the place of the first line feed, in bytes from the
     /// file's start. The draft needs room for as many bytes as the content has line feeds.
     pub(crate) fn put_returns(&mut self) -> Option<Times>

@@ -35,7 +35,7 @@ fn lacks_lines(file: &[u8], mends: &Mends) -> bool
     }
 }
 
-/// Has the record state the lines that are given, or else the most, until they are settled, where it states
+/// Has the record state the lines that are given, or else the most, until they are settled, if it states
 /// none and a number is asked for. Returns whether that is so.
 pub(crate) fn open_lines(draft: &mut Draft<'_>, mends: &Mends) -> bool
     ensures draft { draft.new ≡ draft_of (opened mends.now draft.old.file) draft.old.room }
@@ -48,7 +48,7 @@ pub(crate) fn open_lines(draft: &mut Draft<'_>, mends: &Mends) -> bool
     true
 }
 
-/// Whether others than the stated lines are wanted: none are stated, or the content does not pass from
+/// Whether other lines than the stated ones are needed: none are stated, or the content does not pass from
 /// the cleared start with those that are.
 fn wants_lines(parts: &Parts<'_>, lacks: bool) -> bool
     requires length { length (content_of parts.now) ≤ longest_file }
@@ -59,7 +59,7 @@ fn wants_lines(parts: &Parts<'_>, lacks: bool) -> bool
     lacks || !is_good(parts.size(), parts.content())
 }
 
-/// The least number of lines with which the content passes, if its rows are not torn on them. None where
+/// The smallest number of lines with which the content passes, if its rows do not look broken on them. None if
 /// it passes with none, and some are stated.
 fn least_wanted(parts: &Parts<'_>, lacks: bool) -> Result<Option<u16>, Unmended>
     requires length { length (content_of parts.now) ≤ longest_file }
@@ -84,7 +84,7 @@ fn least_wanted(parts: &Parts<'_>, lacks: bool) -> Result<Option<u16>, Unmended>
     Ok(Some(lines))
 }
 
-/// The number of lines to be stated, where it is not to stay as it is.
+/// The number of lines to be stated, if it is not to stay as it is.
 fn number_wanted(parts: &Parts<'_>, mends: &Mends, lacks: bool) -> Result<Option<u16>, Unmended>
     requires length { length (content_of parts.now) ≤ longest_file }
     requires asked { lacks ≡ true → asks_for_lines mends.now ≡ true }
@@ -122,7 +122,7 @@ pub(crate) fn lines_for(file: &[u8], mends: &Mends, lacks: bool) -> Result<Optio
     number_wanted(&parts, mends, lacks)
 }
 
-/// States these lines, where there are some.
+/// States these lines, if there are some.
 pub(crate) fn take_lines(draft: &mut Draft<'_>, lines: Option<u16>)
     requires { 128 ≤ length draft.old.file }
     ensures { draft.new ≡ draft_of (lined lines draft.old.file) draft.old.room }

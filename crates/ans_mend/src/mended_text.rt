@@ -1,7 +1,7 @@
 //! What mending says: what was changed, or why there is none.
 ghost use Rattle.std.specs.Prelude.{◌≡◌};
 ghost use Rattle.std.specs.List.{flat_map};
-ghost use Rattle.ans_mend.specs.MendedText.{all_given, at_text, flag_line, front_line, has_least};
+ghost use Rattle.ans_mend.specs.MendedText.{all_given, at_text, by_count, flag_line, front_line, has_least};
 ghost use Rattle.ans_mend.specs.MendedText.{help_text, lines_offered, mended_text, no_lines_help, offered};
 ghost use Rattle.ans_mend.specs.MendedText.{others_text, place_help, quoted_excerpt, record_line};
 ghost use Rattle.ans_mend.specs.MendedText.{replaced_text, rows_help, sequence_help, tail_line};
@@ -15,28 +15,38 @@ use ans_model::mends::Mends;
 use ans_pens::Times;
 use ans_report::{
     Help, fault_help, put_counted, put_end_mark_line, put_fault_line, put_quoted_bytes,
-    put_reset_line, put_times,
+    put_reset_line,
 };
 use ans_write::Outbox;
 use std::io::Write;
 
+fn by_count<'a>(count: usize, one: &'a [u8], several: &'a [u8]) -> &'a [u8]
+    ensures { result.now ≡ by_count count one.now several.now }
+{
+    if count == 1 { one } else { several }
+}
+
 fn put_at<W: Write>(out: &mut Outbox<'_, W>, times: &Times)
     ensures { Puts W.contents out.old out.new (at_text times.now) }
 {
-    if times.count == 1 {
-        out.put(b" at ");
-        out.put_decimal(times.first as u64);
-        return;
-    }
-    out.put(b", ");
-    put_times(out, times.count, times.first);
+    out.put(by_count(times.count, b", at ", b", first at "));
+    out.put_decimal(times.first as u64);
 }
 
-fn put_times_line<W: Write>(out: &mut Outbox<'_, W>, what: &[u8], times: &Option<Times>)
-    ensures { Puts W.contents out.old out.new (times_line what.now times.now) }
+/// Puts what was done, to how many, and where: after the number the text for one or for several.
+fn put_times_line<W: Write>(
+    out: &mut Outbox<'_, W>,
+    done: &[u8],
+    one: &[u8],
+    several: &[u8],
+    times: &Option<Times>,
+)
+    ensures { Puts W.contents out.old out.new (times_line done.now one.now several.now times.now) }
 {
     if let Some(times) = times {
-        out.put(what);
+        out.put(done);
+        out.put_decimal(times.count as u64);
+        out.put(by_count(times.count, one, several));
         put_at(out, times);
         out.put(b"\n");
     }
@@ -59,14 +69,14 @@ fn put_others<W: Write>(out: &mut Outbox<'_, W>, count: usize)
     }
     out.put(b", and ");
     out.put_decimal((count - 1) as u64);
-    out.put(b" more of its kind");
+    out.put(b" more like it");
 }
 
 fn put_taken_line<W: Write>(out: &mut Outbox<'_, W>, taken: &Option<TakenOut>)
     ensures { Puts W.contents out.old out.new (taken_line taken.now) }
 {
     if let Some(taken) = taken {
-        out.put(b"took out ");
+        out.put(b"removed ");
         put_excerpt(out, &taken.text);
         out.put(b" at ");
         out.put_decimal(taken.times.first as u64);
@@ -87,11 +97,11 @@ fn put_tail_line<W: Write>(out: &mut Outbox<'_, W>, cut: &Option<Times>)
     ensures { Puts W.contents out.old out.new (tail_line cut.now) }
 {
     if let Some(cut) = cut {
-        out.put(b"cut ");
+        out.put(b"cut off ");
         put_counted(out, cut.count as u64, b"byte");
-        out.put(b" at ");
+        out.put(b" after the record, at ");
         out.put_decimal(cut.first as u64);
-        out.put(b", behind the record\n");
+        out.put(b"\n");
     }
 }
 
@@ -101,7 +111,7 @@ fn put_replaced<W: Write>(out: &mut Outbox<'_, W>, count: usize)
     if count == 0 {
         return;
     }
-    out.put(b", in the place of ");
+    out.put(b", in place of ");
     put_counted(out, count as u64, b"byte");
 }
 
@@ -109,9 +119,9 @@ fn put_record_line<W: Write>(out: &mut Outbox<'_, W>, given: &Option<GivenRecord
     ensures { Puts W.contents out.old out.new (record_line given.now) }
 {
     if let Some(given) = given {
-        out.put(b"put an end mark and a record of ");
+        out.put(b"added an end mark and a record for ");
         put_counted(out, u64::from(given.width), b"column");
-        out.put(b" at ");
+        out.put(b", at ");
         out.put_decimal(given.place as u64);
         put_replaced(out, given.cut);
         out.put(b"\n");
@@ -132,12 +142,11 @@ fn put_front_line<W: Write>(out: &mut Outbox<'_, W>, front: bool)
     ensures { Puts W.contents out.old out.new (front_line front) }
 {
     if front {
-        out.put(b"put 25 bytes in front\n");
+        out.put(b"added the safe beginning, 25 bytes\n");
     }
 }
 
-/// Puts what was changed of a file that is mended, a line for each kind of change, in the order in which it
-/// is mended.
+/// Puts what mending changed in a file, a line for each kind of change, in the order of the changes.
 pub fn put_mended<W: Write>(out: &mut Outbox<'_, W>, mended: &Mended)
     ensures { Puts W.contents out.old out.new (mended_text mended.now) }
 {
@@ -145,24 +154,32 @@ pub fn put_mended<W: Write>(out: &mut Outbox<'_, W>, mended: &Mended)
     put_record_line(out, &mended.given_record);
     put_times_line(
         out,
-        b"put a return before a line feed",
+        b"added ",
+        b" carriage return before a line feed",
+        b" carriage returns before line feeds",
         &mended.edits.returns,
     );
     put_taken_lines(out, &mended.edits.told.kinds);
     put_flag_line(out, &mended.non_blink);
     put_times_line(
         out,
-        b"took out a line end behind a full row",
+        b"removed ",
+        b" line end after a full row",
+        b" line ends after full rows",
         &mended.edits.row_ends,
     );
     put_times_line(
         out,
-        b"took out a line end at the end",
+        b"removed ",
+        b" line end at the end",
+        b" line ends at the end",
         &mended.edits.last_ends,
     );
     put_times_line(
         out,
-        b"named the colours of a sequence",
+        b"named the colours of ",
+        b" sequence",
+        b" sequences",
         &mended.edits.named_colours,
     );
     put_reset_line(out, b"lines ", &mended.lines);
@@ -171,21 +188,22 @@ pub fn put_mended<W: Write>(out: &mut Outbox<'_, W>, mended: &Mended)
     put_reset_line(out, b"file size ", &mended.file_size);
 }
 
-/// Where no flag is left that may help.
-const LOOK: &[u8] = b"help: anscheck why shows the place, and anscheck help tells of the fault\n";
+/// If no flag is left that may help.
+const LOOK: &[u8] = b"see anscheck why for the place, and anscheck help for the fault\n";
 
-/// What a drawing without a record wants.
-const WIDTH: &[u8] = b"help: --width N gives a drawing without a record one for N columns\n";
+/// What a drawing without a record needs.
+const RECORD: &[u8] = b"try: --add-record N, which adds a record for N columns\n";
 
-/// Why `--width` puts no record.
-const NO_WIDTH: &[u8] =
-    b"help: no record is put where SAUCE00 stands, or more follows 1Ah: see anscheck help F1\n";
+/// Why `--add-record` adds no record.
+const NO_RECORD: &[u8] =
+    b"no record is added if SAUCE00 appears in the file or more follows 1Ah: see anscheck help F1\n";
 
-/// What a drawing without lines wants.
-const LEAST_LINES: &[u8] = b"help: --least-lines states the least number of lines that is enough\n";
+/// What a drawing needs whose record states no lines.
+const LEAST_LINES: &[u8] =
+    b"try: --least-lines, which sets the smallest number of lines that works\n";
 
-/// What a drawing wants that has sequences which are refused.
-const TAKE_OUT: &[u8] = b"help: --take-out takes out what is known of such sequences\n";
+/// What a drawing needs that has sequences which are refused.
+const TAKE_OUT: &[u8] = b"try: --take-out, which removes such sequences if it knows them\n";
 
 fn sequence_help(asked: &Mends) -> &'static [u8]
     ensures { result.now ≡ sequence_help asked.now }
@@ -202,11 +220,14 @@ fn has_least(asked: &Mends) -> bool
 fn all_given(asked: &Mends) -> bool
     ensures { result ≡ all_given asked.now }
 {
-    asked.line_ends && asked.full_rows && asked.take_out && has_least(asked)
+    asked.crlf && asked.join_rows && asked.take_out && has_least(asked)
 }
 
-/// What goes before the flags that may help.
-const ADDED: &[u8] = b"help: may be added (see anscheck why):";
+/// What comes before the flags that may help.
+const TRY: &[u8] = b"try:";
+
+/// What comes after them.
+const WHICH: &[u8] = b" (anscheck why says which)\n";
 
 /// Puts a flag, unless it is given.
 fn put_offered<W: Write>(out: &mut Outbox<'_, W>, given: bool, flag: &[u8])
@@ -235,12 +256,12 @@ fn put_rows_help<W: Write>(out: &mut Outbox<'_, W>, asked: &Mends)
         out.put(LOOK);
         return;
     }
-    out.put(ADDED);
-    put_offered(out, asked.line_ends, b"--line-ends");
-    put_offered(out, asked.full_rows, b"--full-rows");
+    out.put(TRY);
+    put_offered(out, asked.crlf, b"--crlf");
+    put_offered(out, asked.join_rows, b"--join-rows");
     put_offered(out, asked.take_out, b"--take-out");
     put_lines_offered(out, asked);
-    out.put(b"\n");
+    out.put(WHICH);
 }
 
 fn put_place_help<W: Write>(out: &mut Outbox<'_, W>, asked: &Mends)
@@ -250,18 +271,19 @@ fn put_place_help<W: Write>(out: &mut Outbox<'_, W>, asked: &Mends)
         out.put(LOOK);
         return;
     }
-    out.put(ADDED);
+    out.put(TRY);
     put_lines_offered(out, asked);
-    out.put(b"\n");
+    out.put(WHICH);
 }
 
 fn put_torn_help<W: Write>(out: &mut Outbox<'_, W>, asked: &Mends)
     ensures { Puts W.contents out.old out.new (torn_help asked.now) }
 {
-    out.put(ADDED);
-    put_offered(out, asked.line_ends, b"--line-ends");
-    put_offered(out, asked.full_rows, b"--full-rows");
-    out.put(b" --lines N\n");
+    out.put(TRY);
+    put_offered(out, asked.crlf, b"--crlf");
+    put_offered(out, asked.join_rows, b"--join-rows");
+    out.put(b" --lines N");
+    out.put(WHICH);
 }
 
 fn put_no_lines_help<W: Write>(out: &mut Outbox<'_, W>, asked: &Mends)
@@ -279,7 +301,7 @@ fn put_help<W: Write>(out: &mut Outbox<'_, W>, asked: &Mends, cause: &Cause)
 {
     match fault_help(cause) {
         Help::Look => out.put(LOOK),
-        Help::Record => out.put(WIDTH),
+        Help::Record => out.put(RECORD),
         Help::LeastLines => out.put(LEAST_LINES),
         Help::TakeOut => out.put(sequence_help(asked)),
         Help::Place => put_place_help(out, asked),
@@ -287,12 +309,12 @@ fn put_help<W: Write>(out: &mut Outbox<'_, W>, asked: &Mends, cause: &Cause)
     }
 }
 
-/// Why there is none where the file would be too long.
+/// Why there is none if the file would be too long.
 const TOO_LONG: &[u8] = b"the file would be longer than 16777216 bytes\n\
-    help: only a shorter drawing can be mended so\n";
+    only a shorter drawing can be fixed this way\n";
 
-/// Puts why a file is not mended, and what may help, of what was not asked for: the line of a fault as
-/// `check` has it, or the reason.
+/// Puts why a file is not mended: the line of the fault as `check` has it, or another reason; and what may help that
+/// was not asked for.
 pub fn put_unmended<W: Write>(out: &mut Outbox<'_, W>, asked: &Mends, reason: &Unmended)
     ensures { Puts W.contents out.old out.new (unmended_text asked.now reason.now) }
 {
@@ -303,14 +325,14 @@ pub fn put_unmended<W: Write>(out: &mut Outbox<'_, W>, asked: &Mends, reason: &U
         }
         Unmended::TakesNoRecord(fault) => {
             put_fault_line(out, fault);
-            out.put(NO_WIDTH);
+            out.put(NO_RECORD);
         }
         Unmended::Torn => {
-            out.put(b"the rows are torn\n");
+            out.put(b"the rows look broken\n");
             put_torn_help(out, asked);
         }
         Unmended::NoLines => {
-            out.put(b"no number of lines up to 8192 is enough\n");
+            out.put(b"no number of lines up to 8192 would do\n");
             put_no_lines_help(out, asked);
         }
         Unmended::TooLong => out.put(TOO_LONG),

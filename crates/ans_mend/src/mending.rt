@@ -19,14 +19,14 @@ use ans_model::limits::MAX_FILE;
 use ans_model::mends::Mends;
 use ans_verdict::Screens;
 
-/// Gives the file a record of the width that is asked for, where it takes one. Returns what was put.
+/// Gives the file a record of the width that is asked for, if it takes one. Returns what was added.
 fn give_record(draft: &mut Draft<'_>, mends: &Mends) -> Option<GivenRecord>
     requires { 129 ≤ draft.old.room }
     ensures file { draft.new.file ≡ recorded mends.now draft.old.file }
     ensures given { result ≡ record_put mends.now draft.old.file }
     ensures memory { memory_of draft.new ≡ memory_of draft.old }
 {
-    match mends.width {
+    match mends.add_record {
         Some(width) => draft.give_record(width),
         None => None,
     }
@@ -50,7 +50,7 @@ struct Settled {
     end_mark: Option<usize>,
 }
 
-/// Changes the content, settles the lines and puts the end mark.
+/// Changes the content, settles the lines and adds the end mark.
 fn settle(draft: &mut Draft<'_>, asked: &Mends) -> Result<Settled, Unmended>
     requires length { length draft.old.file ≤ longest_file }
     requires room { most_added asked.now draft.old.file + 1 ≤ draft.old.room }
@@ -79,8 +79,8 @@ fn settle(draft: &mut Draft<'_>, asked: &Mends) -> Result<Settled, Unmended>
     })
 }
 
-/// Sets the file size for a content of so many bytes that passes, the mending counted if it needs that, and the
-/// end mark if it was counted before. Returns the size.
+/// Sets the file size for a content of that many bytes that passes, the safe beginning counted if it needs that, and
+/// the end mark if it was counted before. Returns the size.
 fn set_file_size(
     draft: &mut Draft<'_>,
     front: bool,
@@ -103,13 +103,13 @@ fn set_file_size(
     Ok(size)
 }
 
-/// Mends a file in its draft: cuts off what stands behind the record and is none of the drawing, changes
-/// of the content what is asked for, states the lines that are asked for where the drawing does not pass
-/// with those that are stated, puts an end mark behind the content, and sets the file size anew. What is
-/// left passes from every start, with the picture that its content has from the cleared one, behind the
-/// mending where `front` says so: that is for the caller to write first.
+/// Mends a file in its draft: cuts off what follows the record and is not part of the drawing, makes the changes
+/// to the content that are asked for, states the lines that are asked for if the drawing does not pass
+/// with those that are stated, adds an end mark after the content, and corrects the file size. What is
+/// left passes from every start, with the picture that its content has from the cleared one, after the
+/// safe beginning if `front` says so: that is for the caller to write first.
 ///
-/// `NotMended` says why the file cannot be mended so. The draft then holds a file that is half changed.
+/// `NotMended` says why the file cannot be mended this way. The draft then holds a file that is half changed.
 /// `Memory` says that the draft has room for fewer bytes than [`room_for`] says, or that there is none for the
 /// screen.
 pub fn mend_on<S: Screens>(

@@ -28,7 +28,7 @@ struct Growth {
     bytes: usize,
 }
 
-/// What naming adds. None where the content cannot be read.
+/// What naming adds. None if the content cannot be read.
 fn growth_of(content: &[u8]) -> Option<Growth>
     requires { length content.now ≤ longest_file }
     ensures some { IfSome result (Grows content.now) }
@@ -50,7 +50,7 @@ fn growth_of(content: &[u8]) -> Option<Growth>
     }
 }
 
-/// Writes bytes behind the first ones, whose number is given. Returns how many there are then.
+/// Writes bytes after the first ones, whose number is given. Returns how many there are then.
 fn write_behind(memory: &mut [u8], count: usize, bytes: &[u8]) -> usize
     requires { count + length bytes.now ≤ length memory.old }
     ensures count { result ≡ count + length bytes.now }
@@ -98,7 +98,7 @@ fn write_named(memory: &mut [u8], gap: usize, end: usize)
     keep(memory, written, read, end);
 }
 
-/// Names the colours of the first `count` of the bytes that are used, for which there is a gap behind these.
+/// Names the colours of the first `count` of the bytes that are used, for which there is a gap after these.
 fn name_in(memory: &mut [u8], used: usize, count: usize, gap: usize)
     requires room { used + gap ≤ length memory.old }
     requires within { count ≤ used }
@@ -115,7 +115,7 @@ fn name_in(memory: &mut [u8], used: usize, count: usize, gap: usize)
 impl<'a> Draft<'a> {
     /// Names the colours of the content of a file that has a record: a colour sequence with a 0 or an omitted
     /// number gets 37, 40 or both after the last of them, if something is printed or cleared in a player's own
-    /// white or black after it. Where it would be too long for ansilove, or has an omitted number, the names stand
+    /// white or black after it. If it would be too long for ansilove, or has an omitted number, the names are
     /// in a sequence of their own. A content that cannot be read stays. Returns how many sequences, and the
     /// offset of the first, in bytes from the file's start, as it was before. `Err` says that the file would be too
     /// long; the draft is then as it was. The draft needs room for four bytes for each byte before the record, up to

@@ -31,11 +31,11 @@ struct Taking {
 #[derive(Clone, Copy)]
 pub(crate) struct NamingPlace {
     pub(crate) start: usize,
-    /// How many bytes stand before the names.
+    /// How many bytes come before the names.
     pub(crate) zero: usize,
     /// Where what stays after the names begins.
     pub(crate) rest: usize,
-    /// Behind the token that prints or clears next.
+    /// After the token that prints or clears next.
     pub(crate) end: usize,
     pub(crate) put: &'static [u8],
 }
@@ -46,7 +46,7 @@ struct NameSearch {
     /// Which colours are named.
     named: Names,
     taking: Option<Taking>,
-    /// How many bytes stand behind the last token.
+    /// How many bytes follow the last token.
     behind: usize,
 }
 
@@ -110,7 +110,7 @@ impl Walker for NameSearch {
 struct Waiting {
     taking: Taking,
     named: Names,
-    /// Behind the token that prints or clears.
+    /// After the token that prints or clears.
     end: usize,
 }
 

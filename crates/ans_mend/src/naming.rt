@@ -9,7 +9,7 @@ ghost use Rattle.ans_mend.specs.NamedColours.{through_numbers, way_of};
 
 use ans_kinds::{Names, omits_number};
 
-/// Where the names of a sequence stand: in it, in one after it, or in one between it and what is left of it.
+/// Where the names of a sequence are: in it, in one after it, or in one between it and what is left of it.
 #[derive(Clone, Copy)]
 pub enum Way {
     Within,
@@ -47,7 +47,7 @@ fn ends_number(byte: u8) -> bool
     byte == b';' || byte == b'm'
 }
 
-/// How many bytes of a sequence there are up to and with so many numbers.
+/// How many bytes of a sequence there are up to and with that many numbers.
 fn length_through(text: &[u8], count: usize) -> usize
     ensures length { result ≡ length (through_numbers count text.now) }
     ensures text { take result text.now ≡ through_numbers count text.now }
@@ -111,7 +111,7 @@ fn text_put(way: Way, named: Names) -> &'static [u8]
     }
 }
 
-/// How a sequence with so many numbers up to its last 0 names the colours that are not named after it.
+/// How a sequence with that many numbers up to its last 0 names the colours that are not named after it.
 pub(crate) fn naming_of(text: &[u8], count: usize, named: Names) -> Naming
     requires missing { are_both (shown_names named) ≡ false }
     requires limit { length text.now ≤ longest_file }

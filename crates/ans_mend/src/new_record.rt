@@ -13,7 +13,7 @@ use ans_model::fault::{Cause, Fault};
 use ans_sauce::fields::END_MARK;
 use ans_sauce::{cut_content, cut_record};
 
-/// The record but for its width: version 00, blank texts, a date of eight zeros, Character/ANSi (SAUCE
+/// The record except for its width: version 00, blank texts, a date of eight zeros, Character/ANSi (SAUCE
 /// 00.5, record layout).
 const BLANK: &[u8; 128] = b"SAUCE00\
     \x20                                  \
@@ -21,7 +21,7 @@ const BLANK: &[u8; 128] = b"SAUCE00\
     \x00\x00\x00\x00\x01\x01\x00\x00\x00\x00\x00\x00\x00\x00\x00\x00\
     \x00\x00\x00\x00\x00\x00\x00\x00\x00\x00\x00\x00\x00\x00\x00\x00\x00\x00\x00\x00\x00\x00";
 
-/// Where the width stands (TInfo1).
+/// Where the width is (TInfo1).
 const TINFO_1: usize = 96;
 
 fn new_record(width: u16) -> [u8; 128]
@@ -51,7 +51,7 @@ fn holds_sauce(bytes: &[u8]) -> bool
     false
 }
 
-/// The content of a file that takes a record, and what stands behind it.
+/// The content of a file that takes a record, and what follows it.
 fn cut_for_record(file: &[u8]) -> Option<(&[u8], &[u8])>
     ensures takes { IfSome result (λ cut. takes_record file.now ≡ true) }
     ensures content { IfSome result (λ cut. cut.0.now ≡ content file.now) }
@@ -65,8 +65,8 @@ fn cut_for_record(file: &[u8]) -> Option<(&[u8], &[u8])>
     Some((content, rest))
 }
 
-/// Why a file is not mended whose record or layout has this fault: whether a record could be put is part of
-/// it where there is none.
+/// Why a file is not mended whose record or layout has this fault: if there is no record, whether one could be added is
+/// part of it.
 pub(crate) fn refusal_of(file: &[u8], fault: Fault) -> Unmended
     ensures { result ≡ refusal_of file.now fault }
 {
@@ -77,9 +77,9 @@ pub(crate) fn refusal_of(file: &[u8], fault: Fault) -> Unmended
 }
 
 impl<'a> Draft<'a> {
-    /// Puts an end mark and a record of this width, in columns, behind the content of a file that has no
-    /// record, in the place of what stands there, where that is only end marks, zero bytes, line feeds and
-    /// returns, and `SAUCE00` stands nowhere in the file. Returns what was put. The draft needs room for 129
+    /// Adds an end mark and a record of this width, in columns, after the content of a file that has no
+    /// record, in place of what is there, if that is only end marks, zero bytes, line feeds and
+    /// returns, and `SAUCE00` appears nowhere in the file. Returns what was added. The draft needs room for 129
     /// bytes.
     pub fn give_record(&mut self, width: u16) -> Option<GivenRecord>
         requires { 129 ≤ self.old.room }

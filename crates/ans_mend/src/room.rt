@@ -1,4 +1,4 @@
-//! For how many bytes a draft wants room.
+//! For how many bytes a draft needs room.
 ghost use Rattle.std.specs.Prelude.{◌≡◌, ◌+◌, ◌*◌, ◌≤◌, length};
 ghost use Rattle.ans_model.specs.Bytes.{longest_file};
 ghost use Rattle.ans_mend.specs.MendingRoom.{most_names, most_put};
@@ -7,11 +7,11 @@ use crate::line_ends::count_line_feeds;
 use ans_model::limits::MAX_FILE;
 use ans_model::mends::Mends;
 
-/// How many bytes a record takes with its end mark, and an end mark behind the content.
+/// How many bytes a record takes with its end mark, and an end mark after the content.
 const RECORD_ROOM: usize = 130;
 
-/// How many bytes names of colours are at most, where they are asked for: eight for each byte before the record,
-/// an end mark that is put counted, up to the longest file.
+/// How many bytes names of colours are at most, if they are asked for: eight for each byte before the record,
+/// an end mark that is added counted, up to the longest file.
 fn room_for_names(file: &[u8], mends: &Mends) -> usize
     requires { length file.now ≤ longest_file }
     ensures value { result ≡ most_names mends.now (length file.now) (length file.now + 1) }
@@ -24,7 +24,7 @@ fn room_for_names(file: &[u8], mends: &Mends) -> usize
     }
 }
 
-/// How many bytes are put into a file at most: a return before each line feed, names of colours, a record and
+/// How many bytes are added to a file at most: a return before each line feed, names of colours, a record and
 /// end marks.
 pub fn room_for(file: &[u8], mends: &Mends) -> usize
     requires { length file.now ≤ longest_file }
@@ -32,7 +32,7 @@ pub fn room_for(file: &[u8], mends: &Mends) -> usize
     ensures few { result ≤ 2 * longest_file + 130 }
 {
     let names = room_for_names(file, mends);
-    if !mends.line_ends {
+    if !mends.crlf {
         return names + RECORD_ROOM;
     }
     count_line_feeds(file) + names + RECORD_ROOM

@@ -1,4 +1,4 @@
-//! What follows a record and is none of the drawing.
+//! What follows a record and is not part of the drawing.
 
 ghost use Rattle.std.specs.Prelude.{◌≡◌, ◌-◌, ◌≤◌, length};
 ghost use Rattle.std.specs.List.{list_all};
@@ -34,7 +34,7 @@ fn ends_in_ansi(file: &[u8]) -> bool
 }
 
 impl<'a> Draft<'a> {
-    /// Cuts off what follows the last record of version 00, if that is nothing but zero bytes, line feeds,
+    /// Cuts off what follows the last record of version 00, if that is only zero bytes, line feeds,
     /// returns and end marks; but nothing of a file that ends in a record of type Character/ANSi. Returns how
     /// many bytes were cut, and where the first of them was, in bytes from the file's start.
     pub(crate) fn cut_tail(&mut self) -> Option<Times>

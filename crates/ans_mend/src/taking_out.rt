@@ -1,4 +1,4 @@
-//! Sequences that are taken out of a drawing.
+//! Sequences that are removed from a drawing.
 
 ghost use Rattle.std.specs.Prelude.{◌≡◌, ◌≤◌, ℕ, List, length, take, drop, IfSome};
 ghost use Rattle.ans_model.specs.Bytes.{longest_file};
@@ -22,17 +22,17 @@ pub struct Excerpt {
     pub length: usize,
 }
 
-/// The sequences of one kind that were taken out.
+/// The sequences of one kind that were removed.
 #[derive(Debug, Clone, Copy, PartialEq, Eq)]
 pub struct TakenOut {
     /// How many, and the offset of the first, in bytes from the file's start, as it was before any was
-    /// taken out.
+    /// removed.
     pub times: Times,
     /// The first of them.
     pub text: Excerpt,
 }
 
-/// What is told of the sequences that were taken out.
+/// What is reported of the sequences that were removed.
 #[derive(Debug, Clone, Copy, PartialEq, Eq)]
 pub struct Told {
     /// Those of each kind, in the order of the kinds.
@@ -118,7 +118,7 @@ impl Told {
         }
     }
 
-    /// One sequence more, which stands at this offset.
+    /// One sequence more, which is at this offset.
     fn count(&mut self, kind: Unwanted, place: usize, text: &[u8])
         requires { CountsWithin self.old longest_file }
         ensures { self.new ≡ told_with self.old (gone_at kind place text.now) }
@@ -130,7 +130,7 @@ impl Told {
     }
 }
 
-/// What is told of the sequences that were taken out, and how many bytes are left of those that were looked
+/// What is reported of the sequences that were removed, and how many bytes are left of those that were looked
 /// at.
 #[derive(Clone, Copy)]
 struct BytesLeft {
@@ -138,7 +138,7 @@ struct BytesLeft {
     count: usize,
 }
 
-/// Takes sequences out of the first `count` bytes.
+/// Removes sequences from the first `count` bytes.
 fn take_out_sequences(memory: &mut [u8], count: usize) -> BytesLeft
     requires within { count ≤ length memory.old }
     requires limit { count ≤ longest_file }
@@ -177,10 +177,10 @@ impl<'a> Draft<'a> {
         }
     }
 
-    /// Takes sequences out of the content of a file that has a record, those that `ans_forms` names, where
-    /// they are refused: the content is read token by token up to what is refused, and goes on behind it if
+    /// Removes sequences from the content of a file that has a record, those that `ans_forms` names, if
+    /// they are refused: the content is read token by token up to what is refused, and goes on after it if
     /// it is one of these. What the last switch for bright backgrounds says becomes the record's non-blink
-    /// flag. Returns what is told of them; offsets are in bytes from the file's start, as it was before.
+    /// flag. Returns what is reported of them; offsets are in bytes from the file's start, as it was before.
     pub(crate) fn take_out(&mut self) -> Told
         requires { length self.old.file ≤ longest_file }
         ensures file { AreTakenOut self.old.file self.new.file result }

@@ -8,7 +8,7 @@ use ans_model::mends::Mends;
 use ans_pens::Times;
 use ans_samples::puts;
 
-/// Of a file that is mended nothing was changed.
+/// Nothing was changed in a file that is mended.
 const UNCHANGED: Mended = Mended {
     tail: None,
     given_record: None,
@@ -36,7 +36,7 @@ fn times(count: usize, first: usize) -> Option<Times> {
     Some(Times { count, first })
 }
 
-/// A sequence that was taken out. The bytes behind its own are none of it.
+/// A sequence that was removed. The bytes after its own are not part of it.
 fn taken(text: &[u8], count: usize, first: usize) -> Option<TakenOut> {
     let mut bytes = [b'?'; 32];
     let length = text.len().min(32);
@@ -91,17 +91,17 @@ fn changed_once() -> Mended {
     }
 }
 
-const SAID_ONCE: &[u8] = b"cut 1 byte at 137, behind the record\n\
-    put an end mark and a record of 1 column at 9\n\
-    put a return before a line feed at 4\n\
-    took out <ESC>[?33h at 0\n\
+const SAID_ONCE: &[u8] = b"cut off 1 byte after the record, at 137\n\
+    added an end mark and a record for 1 column, at 9\n\
+    added 1 carriage return before a line feed, at 4\n\
+    removed <ESC>[?33h at 0\n\
     set the non-blink flag\n\
-    took out a line end behind a full row at 2\n\
-    took out a line end at the end at 7\n\
-    named the colours of a sequence at 12\n\
+    removed 1 line end after a full row, at 2\n\
+    removed 1 line end at the end, at 7\n\
+    named the colours of 1 sequence, at 12\n\
     lines 2, was 1\n\
-    put an end mark at 9\n\
-    put 25 bytes in front\n\
+    added an end mark at 9\n\
+    added the safe beginning, 25 bytes\n\
     file size 28, was 0\n";
 
 /// Changes, several times each, with texts of 32 bytes and of more.
@@ -148,23 +148,23 @@ fn changed_often() -> Mended {
     }
 }
 
-const SAID_OFTEN: &[u8] = b"cut 2 bytes at 2724, behind the record\n\
-    put an end mark and a record of 1024 columns at 2596, in the place of 3 bytes\n\
-    put a return before a line feed, 2 times, first at 4\n\
-    took out <ESC>[?25l at 5, and 1 more of its kind\n\
-    took out <ESC>[=3h at 0\n\
-    took out <ESC>[0;40<SP>D at 17, and 2 more of its kind\n\
-    took out <ESC>[MCDEFGABCDEFGABCDEFGABCDEFGAB\xe2\x99\xab at 30\n\
-    took out <ESC>[0;171;0;0t at 70, and 998 more of its kind\n\
-    took out <ESC>[6n at 16777215\n\
-    took out <ESC>[65;\"<BEL><BS><TAB><LF><CR><SP>and<SP>what<SP>else<SP>is<SP>typ .. at 80, and 3 more of its kind\n\
-    took out <ESC> at 131\n\
+const SAID_OFTEN: &[u8] = b"cut off 2 bytes after the record, at 2724\n\
+    added an end mark and a record for 1024 columns, at 2596, in place of 3 bytes\n\
+    added 2 carriage returns before line feeds, first at 4\n\
+    removed <ESC>[?25l at 5, and 1 more like it\n\
+    removed <ESC>[=3h at 0\n\
+    removed <ESC>[0;40<SP>D at 17, and 2 more like it\n\
+    removed <ESC>[MCDEFGABCDEFGABCDEFGABCDEFGAB\xe2\x99\xab at 30\n\
+    removed <ESC>[0;171;0;0t at 70, and 998 more like it\n\
+    removed <ESC>[6n at 16777215\n\
+    removed <ESC>[65;\"<BEL><BS><TAB><LF><CR><SP>and<SP>what<SP>else<SP>is<SP>typ .. at 80, and 3 more like it\n\
+    removed <ESC> at 131\n\
     cleared the non-blink flag\n\
-    took out a line end behind a full row, 24 times, first at 81\n\
-    took out a line end at the end, 3 times, first at 1999\n\
-    named the colours of a sequence, 5 times, first at 12\n\
+    removed 24 line ends after full rows, first at 81\n\
+    removed 3 line ends at the end, first at 1999\n\
+    named the colours of 5 sequences, first at 12\n\
     lines 8192, was 0\n\
-    put an end mark at 16777215\n\
+    added an end mark at 16777215\n\
     file size 0, was 4294967295\n";
 
 #[test]
@@ -190,7 +190,7 @@ macro_rules! refused {
             $cause,
             concat!(
                 $line,
-                "\nhelp: --width N gives a drawing without a record one for N columns\n"
+                "\ntry: --add-record N, which adds a record for N columns\n"
             )
         )
     };
@@ -200,12 +200,12 @@ macro_rules! refused {
             $cause,
             concat!(
                 $line,
-                "\nhelp: --least-lines states the least number of lines that is enough\n"
+                "\ntry: --least-lines, which sets the smallest number of lines that works\n"
             )
         )
     };
     (take_out, $offset:literal, $cause:expr, $line:literal) => {
-        refused!($offset, $cause, concat!($line, "\nhelp: --take-out takes out what is known of such sequences\n"))
+        refused!($offset, $cause, concat!($line, "\ntry: --take-out, which removes such sequences if it knows them\n"))
     };
     (rows, $offset:literal, $cause:expr, $line:literal) => {
         refused!(
@@ -213,18 +213,18 @@ macro_rules! refused {
             $cause,
             concat!(
                 $line,
-                "\nhelp: may be added (see anscheck why): --line-ends --full-rows --take-out --least-lines\n"
+                "\ntry: --crlf --join-rows --take-out --least-lines (anscheck why says which)\n"
             )
         )
     };
     (place, $offset:literal, $cause:expr, $line:literal) => {
-        refused!($offset, $cause, concat!($line, "\nhelp: may be added (see anscheck why): --least-lines\n"))
+        refused!($offset, $cause, concat!($line, "\ntry: --least-lines (anscheck why says which)\n"))
     };
     (other, $offset:literal, $cause:expr, $line:literal) => {
         refused!($offset, $cause,
             concat!(
                 $line,
-                "\nhelp: anscheck why shows the place, and anscheck help tells of the fault\n"
+                "\nsee anscheck why for the place, and anscheck help for the fault\n"
             ))
     };
     ($offset:literal, $cause:expr, $text:expr) => {
@@ -360,16 +360,16 @@ static REASONS: [(Unmended, &str); 27] = [
     ),
     (
         Unmended::Torn,
-        "the rows are torn\nhelp: may be added (see anscheck why): --line-ends --full-rows --lines N\n",
+        "the rows look broken\ntry: --crlf --join-rows --lines N (anscheck why says which)\n",
     ),
     (
         Unmended::NoLines,
-        "no number of lines up to 8192 is enough\n\
-        help: may be added (see anscheck why): --line-ends --full-rows --take-out\n",
+        "no number of lines up to 8192 would do\n\
+        try: --crlf --join-rows --take-out (anscheck why says which)\n",
     ),
     (
         Unmended::TooLong,
-        "the file would be longer than 16777216 bytes\nhelp: only a shorter drawing can be mended so\n",
+        "the file would be longer than 16777216 bytes\nonly a shorter drawing can be fixed this way\n",
     ),
 ];
 
@@ -388,10 +388,10 @@ fn reasons_are_said(rt: HostRuntime) {
 
 /// Everything that can be asked for.
 const ALL: Mends = Mends {
-    width: Some(80),
-    line_ends: true,
+    add_record: Some(80),
+    crlf: true,
     take_out: true,
-    full_rows: true,
+    join_rows: true,
     name_colours: true,
     least_lines: true,
     lines: None,
@@ -416,24 +416,24 @@ static HELP: [(Mends, Unmended, &str); 13] = [
         ALL,
         TAKES_NONE,
         "at 7: F1 no SAUCE record\n\
-        help: no record is put where SAUCE00 stands, or more follows 1Ah: see anscheck help F1\n",
+        no record is added if SAUCE00 appears in the file or more follows 1Ah: see anscheck help F1\n",
     ),
     (
         Mends::NONE,
         TAKES_NONE,
         "at 7: F1 no SAUCE record\n\
-        help: no record is put where SAUCE00 stands, or more follows 1Ah: see anscheck help F1\n",
+        no record is added if SAUCE00 appears in the file or more follows 1Ah: see anscheck help F1\n",
     ),
     (
         ALL,
         at_7!(KeyReassigned),
-        "at 7: F15 key reassigned\nhelp: anscheck why shows the place, and anscheck help tells of the fault\n",
+        "at 7: F15 key reassigned\nsee anscheck why for the place, and anscheck help for the fault\n",
     ),
     (
         ALL,
         at_7!(OutsideScreen),
         "at 7: F19 place outside the screen\n\
-        help: anscheck why shows the place, and anscheck help tells of the fault\n",
+        see anscheck why for the place, and anscheck help for the fault\n",
     ),
     (
         Mends {
@@ -441,24 +441,21 @@ static HELP: [(Mends, Unmended, &str); 13] = [
             ..ALL
         },
         at_7!(PrintBelow),
-        "at 7: F20 print below the stated lines\nhelp: may be added (see anscheck why): --take-out\n",
+        "at 7: F20 print below the stated lines\ntry: --take-out (anscheck why says which)\n",
     ),
     (
-        Mends {
-            line_ends: false,
-            ..ALL
-        },
+        Mends { crlf: false, ..ALL },
         at_7!(Scrolls),
-        "at 7: F21 scrolls\nhelp: may be added (see anscheck why): --line-ends\n",
+        "at 7: F21 scrolls\ntry: --crlf (anscheck why says which)\n",
     ),
     (
         Mends {
-            full_rows: false,
+            join_rows: false,
             least_lines: false,
             ..ALL
         },
         at_7!(Scrolls),
-        "at 7: F21 scrolls\nhelp: may be added (see anscheck why): --full-rows --least-lines\n",
+        "at 7: F21 scrolls\ntry: --join-rows --least-lines (anscheck why says which)\n",
     ),
     (
         Mends {
@@ -467,20 +464,20 @@ static HELP: [(Mends, Unmended, &str); 13] = [
             ..ALL
         },
         at_7!(Scrolls),
-        "at 7: F21 scrolls\nhelp: may be added (see anscheck why): --lines N with a larger N\n",
+        "at 7: F21 scrolls\ntry: --lines N with a larger N (anscheck why says which)\n",
     ),
     (
         Mends {
-            full_rows: false,
+            join_rows: false,
             ..ALL
         },
         Unmended::Torn,
-        "the rows are torn\nhelp: may be added (see anscheck why): --full-rows --lines N\n",
+        "the rows look broken\ntry: --join-rows --lines N (anscheck why says which)\n",
     ),
     (
         ALL,
         Unmended::Torn,
-        "the rows are torn\nhelp: may be added (see anscheck why): --lines N\n",
+        "the rows look broken\ntry: --lines N (anscheck why says which)\n",
     ),
     (
         Mends {
@@ -488,22 +485,22 @@ static HELP: [(Mends, Unmended, &str); 13] = [
             ..Mends::NONE
         },
         at_7!(OutsideScreen),
-        "at 7: F19 place outside the screen\nhelp: may be added (see anscheck why): --lines N with a larger N\n",
+        "at 7: F19 place outside the screen\ntry: --lines N with a larger N (anscheck why says which)\n",
     ),
     (
         Mends {
-            width: Some(80),
+            add_record: Some(80),
             ..Mends::NONE
         },
         Unmended::NoLines,
-        "no number of lines up to 8192 is enough\n\
-        help: may be added (see anscheck why): --line-ends --full-rows --take-out\n",
+        "no number of lines up to 8192 would do\n\
+        try: --crlf --join-rows --take-out (anscheck why says which)\n",
     ),
     (
         ALL,
         Unmended::NoLines,
-        "no number of lines up to 8192 is enough\n\
-        help: anscheck why shows the place, and anscheck help tells of the fault\n",
+        "no number of lines up to 8192 would do\n\
+        see anscheck why for the place, and anscheck help for the fault\n",
     ),
 ];
 

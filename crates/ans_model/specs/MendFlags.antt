@@ -1,7 +1,7 @@
 -- The flags of mend: what each is called, and what it asks for.
 use Rattle.std.specs.Prelude.{ℕ, Bool, List, [], ◌∷◌, codes}
 use Rattle.ans_model.specs.declared.mends.MendStep.{MendStep}
-use Rattle.ans_model.specs.declared.mends.MendStep.TheVariants.{TakeOut, LineEnds, FullRows, NameColours, LeastLines}
+use Rattle.ans_model.specs.declared.mends.MendStep.TheVariants.{TakeOut, Crlf, JoinRows, NameColours, LeastLines}
 use Rattle.ans_model.specs.declared.mends.MendFlag.{MendFlag}
 use Rattle.ans_model.specs.declared.mends.Mends.{Mends}
 
@@ -18,8 +18,8 @@ flag_row step name bit = record { step = step; name = name; bit = bit }
 abbrev pub mend_flags : List FlagRow
 mend_flags =
     flag_row TakeOut (codes "take-out") 1
-    ∷ flag_row LineEnds (codes "line-ends") 2
-    ∷ flag_row FullRows (codes "full-rows") 4
+    ∷ flag_row Crlf (codes "crlf") 2
+    ∷ flag_row JoinRows (codes "join-rows") 4
     ∷ flag_row NameColours (codes "name-colours") 16
     ∷ flag_row LeastLines (codes "least-lines") 8
     ∷ []
@@ -31,8 +31,8 @@ row_of_flag f = flag_row f.step f.name.now f.bit
 -- with this step asked for, or not
 abbrev pub with_step : MendStep → Bool → Mends → Mends
 with_step TakeOut asked mends = record mends { take_out = asked }
-with_step LineEnds asked mends = record mends { line_ends = asked }
-with_step FullRows asked mends = record mends { full_rows = asked }
+with_step Crlf asked mends = record mends { crlf = asked }
+with_step JoinRows asked mends = record mends { join_rows = asked }
 with_step NameColours asked mends = record mends { name_colours = asked }
 with_step LeastLines asked mends = record mends { least_lines = asked }
 

@@ -6,24 +6,24 @@ ghost use Rattle.ans_model.specs.MendFlags.{mend_flags, row_of_flag, with_step};
 /// What may be asked for of a file that is mended, besides what is mended by itself.
 #[derive(Debug, Clone, Copy, PartialEq, Eq)]
 pub struct Mends {
-    /// The width of the record that a file without one is given, in columns: 1 to 1024. Its lines are
-    /// those of `lines`, and where there is no number the least with which the drawing passes.
-    pub width: Option<u16>,
-    /// Whether a return is put before each line feed of a drawing that has none.
-    pub line_ends: bool,
-    /// Whether sequences are taken out that are refused, and as few line ends at the very end as must go.
+    /// The width of the record that is added to a file without one, in columns: 1 to 1024. Its lines are
+    /// those of `lines`, or without that number the least with which the drawing passes.
+    pub add_record: Option<u16>,
+    /// Whether a return is added before each line feed of a drawing that has no return.
+    pub crlf: bool,
+    /// Whether sequences that are refused are removed, and as few line ends at the very end as must go.
     /// The sequences are screen modes, font selections, music, 24-bit colours, reports that are asked for,
     /// reassigned keys, and an unfinished one at the end.
     pub take_out: bool,
-    /// Whether the line ends after full rows are taken out, where each full row has one.
-    pub full_rows: bool,
+    /// Whether the line ends after full rows are removed, if each full row has one.
+    pub join_rows: bool,
     /// Whether colour sequences with a 0 or an omitted number name the foreground and the background after
-    /// it, 37 and 40, where something is printed or cleared in a player's own colours.
+    /// it, 37 and 40, if something is printed or cleared in a player's own colours.
     pub name_colours: bool,
-    /// Whether the least number of lines with which the drawing passes is stated where those that the
-    /// record states are too few, or none are. Where `lines` has a number, that one is.
+    /// Whether the least number of lines with which the drawing passes is stated, if those that the
+    /// record states are too few, or none are. A number in `lines` is stated instead.
     pub least_lines: bool,
-    /// The number of lines to be stated where those that the record states are too few, or none are: 1 to
+    /// The number of lines to be stated if those that the record states are too few, or none are: 1 to
     /// 8192.
     pub lines: Option<u16>,
 }
@@ -31,10 +31,10 @@ pub struct Mends {
 impl Mends {
     /// Nothing but what is mended by itself.
     pub const NONE: Mends = Mends {
-        width: None,
-        line_ends: false,
+        add_record: None,
+        crlf: false,
         take_out: false,
-        full_rows: false,
+        join_rows: false,
         name_colours: false,
         least_lines: false,
         lines: None,
@@ -49,12 +49,12 @@ impl Mends {
                 take_out: asked,
                 ..self
             },
-            MendStep::LineEnds => Mends {
-                line_ends: asked,
+            MendStep::Crlf => Mends {
+                crlf: asked,
                 ..self
             },
-            MendStep::FullRows => Mends {
-                full_rows: asked,
+            MendStep::JoinRows => Mends {
+                join_rows: asked,
                 ..self
             },
             MendStep::NameColours => Mends {
@@ -73,8 +73,8 @@ impl Mends {
 #[derive(Debug, Clone, Copy, PartialEq, Eq)]
 pub enum MendStep {
     TakeOut,
-    LineEnds,
-    FullRows,
+    Crlf,
+    JoinRows,
     NameColours,
     LeastLines,
 }
@@ -96,31 +96,31 @@ const MEND_FLAGS: [MendFlag; 5] = [
         step: MendStep::TakeOut,
         name: "take-out",
         bit: 1,
-        help: "Take out refused sequences, such as screen modes",
+        help: "Remove refused sequences, such as screen modes",
     },
     MendFlag {
-        step: MendStep::LineEnds,
-        name: "line-ends",
+        step: MendStep::Crlf,
+        name: "crlf",
         bit: 2,
-        help: "Put a return before each line feed, where there is none",
+        help: "Turn line feeds into CR LF, if the drawing has no CR",
     },
     MendFlag {
-        step: MendStep::FullRows,
-        name: "full-rows",
+        step: MendStep::JoinRows,
+        name: "join-rows",
         bit: 4,
-        help: "Take out the line ends behind full rows, if each has one",
+        help: "Remove line ends after full rows, if each has one",
     },
     MendFlag {
         step: MendStep::NameColours,
         name: "name-colours",
         bit: 16,
-        help: "Put 37 and 40 after a 0 that something is printed in",
+        help: "Add 37 and 40 after a 0 that something is printed in",
     },
     MendFlag {
         step: MendStep::LeastLines,
         name: "least-lines",
         bit: 8,
-        help: "State the least number of lines that is enough",
+        help: "Set the smallest number of lines that works",
     },
 ];
 

@@ -23,7 +23,7 @@ use Rattle.ans_options.specs.declared.command.TableForm.{TableForm}
 use Rattle.ans_options.specs.declared.topic.Topic.{Topic}
 use Rattle.ans_options.specs.CommandLine.{AreOptionsOf, AsksAs, AsksFor, IsReadAs, anscheck}
 use Rattle.ans_options.specs.CommandLine.{command_name, mend_options, redraw_options, table_options}
-use Rattle.ans_options.specs.CommandLine.{words_meant}
+use Rattle.ans_options.specs.CommandLine.{why_options, words_meant}
 use Rattle.ans_options.specs.CommandLine.{holds_flag, named_start, part_flags, start_asked, takes_flags}
 use Rattle.ans_options.proofs.CommandLineLemmas.{MetIn, not_true, program_met}
 use Rattle.ans_options.proofs.RowLemmas.{Lacks, never_has, unfound, unheld}
@@ -162,6 +162,17 @@ one_asked words a o file asks is = go (subcommand_of anscheck (words_meant words
         → IsSomeAnd sub (λ p. AsksFor p o (option_map string_bytes file))
     go None asks = absurd asks
     go (Some met) asks = asks.0
+
+-- where the words ask what is wrong with files, the options of that are theirs
+pub why_asked : (words : List Text) (a : Asked) (names : Vec (String Global) Global) → IsReadAs words a
+    → a ≡ asked.Why names → AreOptionsOf words why_options None
+why_asked words a names asks is =
+    let m = met_by words Why (AsksAs (asked.Why names)) (λ sub asks. asks.0) (rw (sym is) asks) in
+    let start = none_asked Why m.met.1 refl m.lacks in
+    let cells = unheld (codes "cells") m.met.1 (m.lacks (codes "cells") refl) in
+    let file = unfound (codes "file") m.met.1 (m.lacks (codes "file") refl) in
+    subst (λ (s : Option (Text × List Row)). IsSomeAnd s (λ sub. AsksFor sub why_options None)) (sym m.found)
+    (m.asks.0, tt, sym start, rw cells ((λ on. on), (λ on. on)), sym file)
 
 -- where the words ask for a table, its options are theirs
 pub table_asked : (words : List Text) (a : Asked) (form : TableForm) (names : Vec (String Global) Global)

@@ -1,5 +1,5 @@
 -- The first fault of words that ask for help or for the version.
-use Rattle.std.proofs.Common.{◌≡◌, false, true≢false, List, [], ◌∷◌, codes, refl}
+use Rattle.std.proofs.Common.{◌≡◌, true, false, true≢false, List, [], ◌∷◌, codes, refl, sym}
 use Rattle.clap.specs.Words.{Text}
 use Rattle.clap.specs.Faults.{flags_fault, walk_fault}
 use Rattle.clap.specs.Walk.{bundle_met, walked}
@@ -10,7 +10,7 @@ use Rattle.clap.specs.declared.error.ErrorKind.TheVariants.{InvalidSubcommand, U
 use Rattle.ans_options.specs.declared.command.Command.{Command}
 use Rattle.ans_options.specs.declared.command.Command.TheVariants.{Why, Check, Show, Sauce, Tokens, Needs, Table, Mend}
 use Rattle.ans_options.specs.declared.command.Command.TheVariants.{Redraw}
-use Rattle.ans_options.specs.CommandLine.{IsNoCommand, command_name, faults_of, is_table}
+use Rattle.ans_options.specs.CommandLine.{IsNoCommand, command_name, faults_of, takes_files}
 use Rattle.ans_options.proofs.MeaningLemmas.{no_command_name}
 
 pub long_version : (program : Text) (more : List Text)
@@ -45,10 +45,10 @@ pub help_of_other : (program name : Text) (more : List Text) → IsNoCommand nam
 unfolding walked walk_fault
 help_of_other program name more other = rw (no_command_name name other) refl
 
-pub help_of_more : (program word : Text) (more : List Text) (c : Command) → is_table c ≡ false
+pub help_of_more : (program word : Text) (more : List Text) (c : Command) → takes_files c ≡ false
     → faults_of (program ∷ codes "help" ∷ command_name c ∷ word ∷ more) ≡ UnknownArgument ∷ []
 unfolding walked walk_fault
-help_of_more program word more Why one = refl
+help_of_more program word more Why one = absurd (true≢false one)
 help_of_more program word more Needs one = refl
 help_of_more program word more Check one = refl
 help_of_more program word more (Show form) one = refl
@@ -58,7 +58,15 @@ help_of_more program word more (Table form) one = absurd (true≢false one)
 help_of_more program word more (Mend mends) one = refl
 help_of_more program word more Redraw one = refl
 
-pub help_of_table_and_more : (program word : Text) (more : List Text)
-    → faults_of (program ∷ codes "help" ∷ codes "table" ∷ word ∷ more) ≡ UnknownArgument ∷ InvalidSubcommand ∷ []
+pub help_of_files_and_more : (program word : Text) (more : List Text) (c : Command) → takes_files c ≡ true
+    → faults_of (program ∷ codes "help" ∷ command_name c ∷ word ∷ more) ≡ UnknownArgument ∷ InvalidSubcommand ∷ []
 unfolding walked walk_fault
-help_of_table_and_more program word more = refl
+help_of_files_and_more program word more Why many = refl
+help_of_files_and_more program word more (Table form) many = refl
+help_of_files_and_more program word more Needs many = absurd (true≢false (sym many))
+help_of_files_and_more program word more Check many = absurd (true≢false (sym many))
+help_of_files_and_more program word more (Show form) many = absurd (true≢false (sym many))
+help_of_files_and_more program word more Sauce many = absurd (true≢false (sym many))
+help_of_files_and_more program word more Tokens many = absurd (true≢false (sym many))
+help_of_files_and_more program word more (Mend mends) many = absurd (true≢false (sym many))
+help_of_files_and_more program word more Redraw many = absurd (true≢false (sym many))

@@ -13,7 +13,7 @@ use Rattle.ans_options.specs.declared.command.Command.TheVariants.{Redraw}
 use Rattle.ans_options.specs.declared.command.Form.TheVariants.{Terminal}
 use Rattle.ans_model.specs.declared.mends.TheConstants.Mends as no_mends
 use Rattle.ans_options.specs.declared.command.TableForm.TheVariants.{Headed}
-use Rattle.ans_options.specs.CommandLine.{IsNoCommand, command_names, help_on, is_mend, is_redraw, is_table}
+use Rattle.ans_options.specs.CommandLine.{IsNoCommand, command_names, help_on, is_mend, is_redraw, takes_files}
 use Rattle.ans_options.specs.CommandLine.{words_meant}
 use Rattle.ans_model.specs.declared.mends.Mends.{Mends}
 use Rattle.ans_options.specs.declared.command.TableForm.{TableForm}
@@ -59,17 +59,17 @@ others_meant [] none many other = absurd (omega arith)
 others_meant (program ∷ []) none many other = absurd (omega arith)
 others_meant (program ∷ word ∷ more) none many other = rw other refl
 
--- what is no table in any form is none
-pub no_table : (c : Command) → ((form : TableForm) → c ≡ Table form → ⊥) → is_table c ≡ false
-no_table (Table form) other = absurd (other form refl)
-no_table Why other = refl
-no_table Check other = refl
-no_table (Show form) other = refl
-no_table Sauce other = refl
-no_table Tokens other = refl
-no_table Needs other = refl
-no_table (Mend mends) other = refl
-no_table Redraw other = refl
+-- what is neither `why` nor a table in any form takes one file
+pub takes_one : (c : Command) → ((form : TableForm) → c ≡ Table form → ⊥) → c ≢ Why → takes_files c ≡ false
+takes_one (Table form) no_table no_why = absurd (no_table form refl)
+takes_one Why no_table no_why = absurd (no_why refl)
+takes_one Check no_table no_why = refl
+takes_one (Show form) no_table no_why = refl
+takes_one Sauce no_table no_why = refl
+takes_one Tokens no_table no_why = refl
+takes_one Needs no_table no_why = refl
+takes_one (Mend mends) no_table no_why = refl
+takes_one Redraw no_table no_why = refl
 
 -- and what does not mend in any way does not mend
 pub no_mend : (c : Command) → ((mends : Mends) → c ≡ Mend mends → ⊥) → is_mend c ≡ false

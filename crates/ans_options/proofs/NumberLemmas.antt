@@ -525,9 +525,9 @@ mend_parsed : (id : Text) (p : ValueParser) → list_any (λ a. bytes_eq a.id id
 mend_parsed id p before here behind =
     (others id p (built_command 0).rules before, (here, others_of id p (drop 2 (built anscheck).subs) behind))
 
-widths_parsed : AllParsedBy (codes "width") (numbers_up_to 1024) (built anscheck).subs
+widths_parsed : AllParsedBy (codes "add-record") (numbers_up_to 1024) (built anscheck).subs
 widths_parsed =
-    mend_parsed (codes "width") (numbers_up_to 1024) refl
+    mend_parsed (codes "add-record") (numbers_up_to 1024) refl
     (other, (other, (other, (other, (other, (other, (other, ((λ e. (refl, refl, refl, refl)), (other, tt))))))))) refl
 
 lines_parsed : AllParsedBy (codes "lines") (numbers_up_to 8192) (built anscheck).subs
@@ -598,8 +598,8 @@ number_passed most id (r ∷ rows) all = go (bytes_eq r.id id) refl (number_pass
 numbers_found : (words : List Text) (met : Text × List Row) → fault_of anscheck words ≡ []
     → subcommand_of anscheck words ≡ Some met → HasNumbersOfMend met.1
 numbers_found words met none e = (
-  number_passed 1024 (codes "width") met.1
-      (program-passed (codes "width") (numbers_up_to 1024) words met widths_parsed none e),
+  number_passed 1024 (codes "add-record") met.1
+      (program-passed (codes "add-record") (numbers_up_to 1024) words met widths_parsed none e),
   number_passed 8192 (codes "lines") met.1
       (program-passed (codes "lines") (numbers_up_to 8192) words met lines_parsed none e),
 )

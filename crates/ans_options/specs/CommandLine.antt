@@ -1,11 +1,12 @@
 -- The command line, and the options that its words give.
 use Rattle.std.specs.Prelude.{map, fold, ◌≡◌, ◌≢◌, ◌↔◌, not, Bool, true, false, List, [], ◌∷◌, Option, Some, codes}
-use Rattle.std.specs.Prelude.{option_map, string_bytes, IsSomeAnd, IsTrue, MatchOption, if◌then◌else◌, unwrap_or, ⊤}
-use Rattle.std.specs.Prelude.{◌||◌, ◌&&◌, ◌==◌, ◌≤◌, ℕ, IfSome, nat_eq, pos}
+use Rattle.std.specs.Prelude.{length, option_map, string_bytes, IsSomeAnd, IsTrue, MatchOption, if◌then◌else◌, unwrap_or, ⊤}
+use Rattle.std.specs.Prelude.{◌||◌, ◌&&◌, ◌≤◌, ℕ, IfSome, nat_eq, pos}
 use Rattle.std.specs.List.{list_any, starts_with}
 use Rattle.std.specs.Option.{option_map_or}
-use Rattle.std.specs.Str.{bytes_eq}
+use Rattle.std.specs.Str.{bytes_eq, chars}
 use Rattle.std.specs.Str.Parse.{IsNumeral, digits_value, without_leading_plus}
+use Rattle.strsim.specs.Edits.{levenshtein_row}
 use Rattle.clap.specs.Words.{App, Row, Rule, Text, all_of, first_of, kind_of, one_of, new_app, new_rule, subcommand_of}
 use Rattle.clap.specs.Words.{HasKind, Kinds, fault_of, takes, with_rule, with_subcommand}
 use Rattle.clap.specs.declared.builder.ArgAction.TheVariants.{Append, SetTrue}
@@ -64,6 +65,10 @@ part_flags =
 abbrev pub files_rule : Rule
 files_rule = record (new_rule (codes "files")) { value_names = 1; action = Some Append }
 
+-- `NAME [FILE]..`
+abbrev pub files_app : Text → App
+files_app name = with_rule (new_app name) files_rule
+
 -- the name of each command
 abbrev pub command_name : Command → Text
 command_name Why = codes "why"
@@ -86,13 +91,14 @@ command_app (Show form) =
     with_flags (with_flags (file_app (command_name (Show form)))
     (codes "html" ∷ codes "vga" ∷ codes "cleared" ∷ codes "any" ∷ []))
     part_flags
+command_app Why = files_app (command_name Why)
 command_app (Table form) =
-    with_flags (with_rule (new_app (command_name (Table form))) files_rule) (codes "json" ∷ codes "no-header" ∷ [])
+    with_flags (files_app (command_name (Table form))) (codes "json" ∷ codes "no-header" ∷ [])
 command_app (Mend mends) =
     with_rule
     (with_rule (with_flags (file_app (command_name (Mend mends))) (map (λ f. f.name) mend_flags))
     (number_rule (codes "lines") (numbers_up_to 8192)))
-    (number_rule (codes "width") (numbers_up_to 1024))
+    (number_rule (codes "add-record") (numbers_up_to 1024))
 command_app command = file_app (command_name command)
 
 -- the commands, in the order of the help
@@ -117,10 +123,11 @@ with_subcommands app more = fold (λ a command. with_subcommand a (command_app c
 abbrev pub anscheck : App
 anscheck = with_subcommands anscheck_top commands
 
--- whether a command writes a table of many files
-abbrev pub is_table : Command → Bool
-is_table (Table form) = true
-is_table _ = false
+-- whether a command takes any number of files
+abbrev pub takes_files : Command → Bool
+takes_files Why = true
+takes_files (Table form) = true
+takes_files _ = false
 
 -- whether a command writes a file mended
 abbrev pub is_mend : Command → Bool
@@ -142,16 +149,17 @@ takes_flags _ = false
 abbrev pub IsNoCommand : Text → Type 0
 IsNoCommand name = (c : Command) → name ≢ command_name c
 
--- What stands for `help COMMAND`: `COMMAND --help`. A word after it is a mistake. To have clap name it, the command
--- gets its own name as the FILE, behind `--`, and then the word, which is one too many. For `table` no word is one too
--- many, so there the word stands behind `--` alone, where the program takes none.
+-- What `help COMMAND` means: `COMMAND --help`. A word after it is a mistake. To have clap name it, the command gets its
+-- own name as the FILE, after `--`, and then the word, which is one too many. For `why` and `table` no word is one too
+-- many, so there the word comes after `--` alone, where the program takes none.
 abbrev pub help_on_command : Text → List Text → List Text
 help_on_command name [] = name ∷ codes "--help" ∷ []
 help_on_command name (word ∷ more) =
-    if bytes_eq name (codes "table") then codes "--" ∷ word ∷ [] else name ∷ codes "--" ∷ name ∷ word ∷ []
+    if bytes_eq name (codes "why") || bytes_eq name (codes "table") then codes "--" ∷ word ∷ []
+    else name ∷ codes "--" ∷ name ∷ word ∷ []
 
--- What stands for `help` with these words after it: `--help` where there are none. A first word that is no command is a
--- mistake. To have clap name it, it stands behind `--`, where the program takes no word.
+-- What `help` with these words after it means: `--help` if there are none. A first word that is no command is a
+-- mistake. To have clap name it, it comes after `--`, where the program takes no word.
 abbrev pub help_on : List Text → List Text
 help_on [] = codes "--help" ∷ []
 help_on (name ∷ more) =
@@ -225,21 +233,21 @@ number_asked id rows = option_map number_written (first_of id rows)
 abbrev pub HasNumberUpTo : ℕ → Text → List Row → Type 0
 HasNumberUpTo most id rows = (one_of id rows ≡ first_of id rows) × IfSome (first_of id rows) (IsNumberUpTo most)
 
--- the numbers of `--width` and `--lines`, where they are given, are those that clap lets through
+-- the numbers of `--add-record` and `--lines`, where they are given, are those that clap lets through
 abbrev pub HasNumbersOfMend : List Row → Type 0
-HasNumbersOfMend rows = HasNumberUpTo 1024 (codes "width") rows × HasNumberUpTo 8192 (codes "lines") rows
+HasNumbersOfMend rows = HasNumberUpTo 1024 (codes "add-record") rows × HasNumberUpTo 8192 (codes "lines") rows
 
 -- what may be changed of a file that is mended: what the flags name, and the numbers that the options are given
 abbrev pub mends_asked : List Row → Mends
 mends_asked rows =
     with_given (λ f. holds_flag f.name rows)
-    (record no_mends.NONE { width = number_asked (codes "width") rows; lines = number_asked (codes "lines") rows })
+    (record no_mends.NONE { add_record = number_asked (codes "add-record") rows; lines = number_asked (codes "lines") rows })
     mend_flags
 
 -- a width is 1 to 1024 columns, and a number of lines 1 to 8192
 abbrev pub AreInRange : Mends → Type 0
 AreInRange mends =
-    IfSome mends.width (λ n. (1 ≤ n) × (n ≤ 1024)) × IfSome mends.lines (λ n. (1 ≤ n) × (n ≤ 8192))
+    IfSome mends.add_record (λ n. (1 ≤ n) × (n ≤ 1024)) × IfSome mends.lines (λ n. (1 ≤ n) × (n ≤ 8192))
 
 -- where the command shows a picture, writes a table or mends, it does so as the flags and the numbers ask
 abbrev pub IsInFormAsked : Command → List Row → Type 0
@@ -265,6 +273,14 @@ AreOptionsOf words o file = IsSomeAnd (subcommand_of anscheck (words_meant words
 -- the names of `[FILE]..` in the matches: none where no file is given
 abbrev pub files_of : List Row → List Text
 files_of rows = unwrap_or (all_of (codes "files") rows) []
+
+-- the options of `why`: nothing is known, and no cells are asked for
+abbrev pub why_options : Options
+why_options = record { command = Why; start = none_known; cells = false }
+
+-- the subcommand is `why`, and these are its `[FILE]..`
+abbrev pub AsksForWhy : (Text × List Row) → List Text → Type 0
+AsksForWhy sub names = (sub.0 ≡ command_name Why) × (names ≡ files_of sub.1)
 
 -- the options of a table: nothing is known, and no cells are asked for
 abbrev pub table_options : TableForm → Options
@@ -296,14 +312,15 @@ redraw_options = record { command = Redraw; start = none_known; cells = false }
 abbrev pub AsksForRedraw : (Text × List Row) → Option Text → Type 0
 AsksForRedraw sub file = (sub.0 ≡ command_name Redraw) × (file ≡ first_of (codes "file") sub.1)
 
--- The subcommand asks for a table of many files, for one file mended or redrawn, or for another command on one file.
--- No subcommand asks for a meaning.
+-- The subcommand asks what is wrong with files, for a table of them, for one file mended or redrawn, or for another
+-- command on one file. No subcommand asks for a meaning.
 abbrev pub AsksAs : Asked → (Text × List Row) → Type 0
 AsksAs (asked.One options file) sub =
     AsksFor sub options (option_map string_bytes file)
-    × (is_table options.command ≡ false)
+    × (takes_files options.command ≡ false)
     × (is_mend options.command ≡ false)
     × (is_redraw options.command ≡ false)
+AsksAs (asked.Why names) sub = AsksForWhy sub (map string_bytes names.items)
 AsksAs (asked.Table form names) sub = AsksForTable sub form (map string_bytes names.items)
 AsksAs (asked.Mend mends file) sub = AsksForMend sub mends (option_map string_bytes file)
 AsksAs (asked.Redraw file) sub = AsksForRedraw sub (option_map string_bytes file)
@@ -313,19 +330,25 @@ AsksAs (asked.Meaning topic) sub = ⊥
 abbrev pub IsReadAs : List Text → Asked → Type 0
 IsReadAs words a = IsSomeAnd (subcommand_of anscheck (words_meant words)) (AsksAs a)
 
--- a dot or a slash: no command's name has one, nor does `help`
-abbrev pub is_dot_or_slash : ℕ → Bool
-is_dot_or_slash byte = byte == 0x2E || byte == 0x2F
-
--- Whether a first word names a file: it has a dot or a slash, and does not begin with `-`.
+-- Whether a first word names a file: it is no command, it is not `help`, and it does not begin with `-`.
 abbrev pub names_file : Text → Bool
-names_file word = list_any is_dot_or_slash word && not (starts_with nat_eq word (codes "-"))
+names_file word =
+    not (list_any (bytes_eq word) command_names)
+    && (not (bytes_eq word (codes "help")) && not (starts_with nat_eq word (codes "-")))
 
 -- The words with their command: if the first word after the program's name names a file, `why` comes before it.
 abbrev pub words_asked : List Text → List Text
 words_asked (program ∷ word ∷ more) =
     program ∷ (if names_file word then command_name Why ∷ word ∷ more else word ∷ more)
 words_asked words = words
+
+-- the edits from a word to a name: characters that are put in, left out or changed
+abbrev pub edits : Text → Text → ℕ
+edits word name = levenshtein_row nat_eq (chars word) (chars name) (length (chars name))
+
+-- the name is a command's, and the word is at most two edits from it
+abbrev pub IsNear : Text → Text → Type 0
+IsNear word name = (list_any (bytes_eq name) command_names ≡ true) × (edits word name ≤ 2)
 
 -- the words ask for this: what a topic means if they name one, and else what clap reads in them with their command
 abbrev pub IsAskedBy : List Text → Asked → Type 0

@@ -1,7 +1,7 @@
 //! What the program is asked to do.
 
 ghost use Rattle.std.specs.Prelude.{◌≡◌};
-ghost use Rattle.ans_options.specs.CommandLine.{mend_options, redraw_options, table_options};
+ghost use Rattle.ans_options.specs.CommandLine.{command_name, mend_options, redraw_options, table_options};
 
 use crate::topic::Topic;
 use ans_model::mends::Mends;
@@ -32,7 +32,7 @@ pub enum TableForm {
 /// What the program does with a file, or with many.
 #[derive(Debug, Clone, Copy, PartialEq, Eq)]
 pub enum Command {
-    /// Writes why it is refused, or what it relies on, and how that is mended.
+    /// Writes what is wrong with it, what it relies on, and how to fix it.
     Why,
     /// Checks it, and writes the report.
     Check,
@@ -52,18 +52,44 @@ pub enum Command {
     Redraw,
 }
 
+impl Command {
+    /// The command's name, as it is typed.
+    pub fn name(&self) -> &'static str
+        ensures { result.now ≡ command_name self.now }
+    {
+        match self {
+            Command::Why => "why",
+            Command::Check => "check",
+            Command::Show(_) => "show",
+            Command::Sauce => "sauce",
+            Command::Tokens => "tokens",
+            Command::Needs => "needs",
+            Command::Table(_) => "table",
+            Command::Mend(_) => "mend",
+            Command::Redraw => "redraw",
+        }
+    }
+}
+
 /// What the command line asks for.
 #[derive(Debug, Clone, Copy, PartialEq, Eq)]
 pub struct Options {
     pub command: Command,
     /// What is known of the state that the content finds. Only `Check` and `Show` read it.
     pub start: Start,
-    /// Whether the report of a pass also tells each cell. Only `Check` reads it.
+    /// Whether the report of a pass also has each cell. Only `Check` reads it.
     pub cells: bool,
 }
 
 impl Options {
-    /// The options of a table. It reads neither what is known of the start nor whether cells are told.
+    /// Those of `why`. It reads neither what is known of the start nor whether cells are reported.
+    pub const WHY: Options = Options {
+        command: Command::Why,
+        start: Start::ANY,
+        cells: false,
+    };
+
+    /// The options of a table. It reads neither what is known of the start nor whether cells are reported.
     pub(crate) fn of_table(form: TableForm) -> Options
         ensures { result ≡ table_options form }
     {
@@ -74,7 +100,7 @@ impl Options {
         }
     }
 
-    /// The options of mending. It reads neither what is known of the start nor whether cells are told.
+    /// The options of mending. It reads neither what is known of the start nor whether cells are reported.
     pub(crate) fn of_mend(mends: Mends) -> Options
         ensures { result ≡ mend_options mends }
     {
@@ -85,7 +111,7 @@ impl Options {
         }
     }
 
-    /// The options of redrawing. It reads neither what is known of the start nor whether cells are told.
+    /// The options of redrawing. It reads neither what is known of the start nor whether cells are reported.
     pub(crate) fn of_redraw() -> Options
         ensures { result ≡ redraw_options }
     {
@@ -102,12 +128,15 @@ impl Options {
 pub enum Asked {
     /// One command, and the name of its input as it is given, `-` too.
     One(Options, Option<String>),
+    /// What is wrong with files, and their names as they are given, `-` too, in their order. Without a name it is
+    /// standard input.
+    Why(Vec<String>),
     /// A table, and the names of its files as they are given, in their order.
     Table(TableForm, Vec<String>),
     /// A file mended, and the name of its input as it is given, `-` too.
     Mend(Mends, Option<String>),
     /// A file redrawn, and the name of its input as it is given, `-` too.
     Redraw(Option<String>),
-    /// What a fault or a note means, and how it is mended.
+    /// What a fault, a note or a word means.
     Meaning(Topic),
 }

@@ -1,7 +1,6 @@
 //! The command line, and the options that its words give.
 ghost use Rattle.std.specs.Prelude.{◌≡◌, true, IfOk, option_map, string_bytes, codes, map, IfSome, IfNone, IfErr};
-ghost use Rattle.std.specs.Prelude.{IsSomeAnd, IsSome, None, IsTrue, ◌↔◌, ◌≢◌, false, [], ◌∷◌};
-ghost use Rattle.std.specs.List.{list_any};
+ghost use Rattle.std.specs.Prelude.{◌≤◌, IsSomeAnd, IsSome, None, IsTrue, ◌↔◌, ◌≢◌, false, [], ◌∷◌};
 ghost use Rattle.clap.specs.Words.{app_of, first_of, found_of, rows_of, rule_of, subcommand_rows_of, takes};
 ghost use Rattle.clap.specs.Words.{fault_of, subcommand_of};
 ghost use Rattle.ans_model.specs.Screen.StartClass.{none_known};
@@ -10,14 +9,14 @@ ghost use Rattle.ans_options.specs.CommandLine.{HasKindAmong, IsErrorOf, RanOutO
 ghost use Rattle.ans_options.specs.CommandLine.{faults_of, form_asked, help_on, named_start, takes_flags};
 ghost use Rattle.ans_options.specs.CommandLine.{with_flags, with_subcommands};
 ghost use Rattle.ans_options.specs.CommandLine.{words_meant, anscheck, command_app, command_name, file_app};
-ghost use Rattle.ans_options.specs.CommandLine.{asks_for_cleared, holds_flag};
+ghost use Rattle.ans_options.specs.CommandLine.{asks_for_cleared, files_app, holds_flag};
 ghost use Rattle.ans_options.specs.CommandLine.{AreInRange, HasNumberUpTo, HasNumbersOfMend, is_mend, mends_asked};
 ghost use Rattle.ans_options.specs.CommandLine.{is_redraw};
 ghost use Rattle.ans_options.specs.CommandLine.{number_asked, number_rule};
 ghost use Rattle.ans_model.specs.MendFlags.{row_of_flag, with_given};
 ghost use Rattle.ans_model.specs.Text.Words.{texts_of};
-ghost use Rattle.ans_options.specs.CommandLine.{AsksAs, IsAskedBy, IsReadAs, files_of, is_table, table_form_asked};
-ghost use Rattle.ans_options.specs.CommandLine.{is_dot_or_slash, names_file, words_asked};
+ghost use Rattle.ans_options.specs.CommandLine.{AsksAs, IsAskedBy, IsReadAs, files_of, table_form_asked, takes_files};
+ghost use Rattle.ans_options.specs.CommandLine.{IsNear, edits, names_file, words_asked};
 ghost use Rattle.ans_options.specs.Topics.{topic_of};
 ghost use Rattle.ans_options.specs.declared.command.Command.TheVariants.{Check, Show, Table, Mend};
 ghost use Rattle.ans_model.specs.declared.mends.TheConstants.Mends as no_mends;
@@ -32,6 +31,7 @@ use ans_model::start::Start;
 use clap::builder::ValueParser;
 use clap::{Arg, ArgAction, ArgMatches, value_parser};
 use std::alloc::{AllocError, Global};
+use strsim::levenshtein;
 
 /// Why the words give no options.
 #[derive(Debug, Drop)]
@@ -54,7 +54,7 @@ impl From<clap::Error> for WordsError {
 /// What `--version` prints after the program's name: its version, and the prover's logic.
 const VERSION: &str = "0.2.0 (rattle logic dac8208d650f15bf)";
 
-/// A text, and behind it the exit statuses, of which the first comes where this is so.
+/// A text, and after it the exit statuses, of which the first comes if this is so.
 macro_rules! with_exit_statuses {
     ($text:literal, $success:literal) => {
         concat!(
@@ -71,19 +71,22 @@ Exit status:
 }
 
 /// The last lines of the help of `why`.
-const WHY_END: &str = with_exit_statuses!(
-    "\
-If players: names own-colours alone, the drawing is the same on every player in
-named colours; a light theme shows its own black and white.
+const WHY_END: &str = "\
+With several files each answer begins with file: NAME, and the greatest status
+counts. 'anscheck help WORD' explains each word of an answer, such as
+  anscheck help F20
+  anscheck help hints
+  anscheck help wrap-at-once
 
-",
-    "The file passes from the cleared screen, or help was asked for"
-);
+Exit status:
+  0  Each file passes, on a cleared screen at least, or help was asked for
+  1  A file is refused
+  2  There is no answer; standard error says why";
 
 /// The last lines of the help of `needs`.
 const NEEDS_END: &str = with_exit_statuses!(
     "",
-    "The file passes from the cleared screen, or help was asked for"
+    "The file passes on a cleared screen, or help was asked for"
 );
 
 /// The last lines of the help of `check`.
@@ -92,7 +95,8 @@ const CHECK_END: &str = with_exit_statuses!("", "The file passes, or help was as
 /// The last lines of the help of `show`.
 const SHOW_END: &str = with_exit_statuses!(
     "\
-Without --any or a --known flag all five are assumed: a screen just cleared.
+The picture is that of a cleared screen. --cleared, --any and the --known flags
+of check are taken too: they ask for the picture of those starts.
 
 ",
     "The file passes, or help was asked for"
@@ -109,28 +113,28 @@ const TOKENS_END: &str = with_exit_statuses!(
 
 /// The last lines of the help of `table`.
 const TABLE_END: &str = "\
-The verdict is that of needs: pass means from a screen just cleared. A file
-that cannot be read has the verdict error, and the reason as its fault. In a
-name \\t, \\n and \\xHH stand for a tab, a line end and a byte that is not shown.
+The verdict is pass, cleared (it passes on a cleared screen), refused or error
+(it cannot be read; the reason is its fault). In a name \\t, \\n and \\xHH stand
+for a tab, a line end and a byte that is not shown.
 
 Exit status:
-  0  Every file passes, or help was asked for
+  0  Each file passes, on a cleared screen at least, or help was asked for
   1  A file is refused, and every file was read
   2  A file could not be read, or the table could not be written";
 
 /// The last lines of the help of `mend`.
 const MEND_END: &str = "\
-The mended file goes to standard output: give it another name, as in
-  anscheck mend drawing.ans > mended.ans
-since the shell empties a file before it is read. Each change is told on
-standard error; without a flag only what is safe is changed.
+The fixed drawing goes to standard output: give it another name, as in
+  anscheck mend drawing.ans > fixed.ans
+since the shell empties a file before it is read. Each change is reported on
+standard error; without options only what is safe is changed.
 
 --name-colours is for terminals whose own white and black, those of a 0, are
 not those of 37 and 40: the drawing then shows in the latter everywhere.
 
 Exit status:
   0  A file was written, or help was asked for
-  1  No file could be mended so; standard error says why
+  1  Nothing was written; standard error says why
   2  There is no answer; standard error says why";
 
 /// The last lines of the help of `redraw`.
@@ -140,29 +144,32 @@ The redrawn file goes to standard output: give it another name, as in
 since the shell empties a file before it is read. The picture is the one that
 the drawing shows in the end on a cleared screen, so an animation becomes
 still; it then shows from every start. Record and comments stay, except the
-file size, and an end mark is put after the drawing where there is none. Both
+file size; an end mark is added after the drawing if there is none. Both
 colours are named after each 0, and ESC[0m ends it. It shows on screens of two
 rows and more, of the stated columns or more; that is tried, not proved.
 
 Exit status:
   0  A file was written, or help was asked for
-  1  The file is refused, or would be too long; standard error says which
+  1  Nothing was written; standard error says why
   2  There is no answer; standard error says why";
 
-/// How the program is used, where words name no command. A drawing's name without a dot or a slash is such a word.
+/// How the program is used, if there are no words.
 const PROGRAM_USAGE: &str = "\
-anscheck <COMMAND>
+anscheck FILE...
+       anscheck COMMAND
 
-  tip: to begin with a drawing, 'anscheck why drawing.ans'";
+  tip: to begin with a drawing, 'anscheck drawing.ans'";
 
 /// The last lines of the program's help.
 const PROGRAM_END: &str = with_exit_statuses!(
     "\
-If FILE has a dot or a slash, anscheck FILE is anscheck why FILE.
+anscheck FILE... is anscheck why FILE...; a file with the name of a command is
+given as ./NAME. 'anscheck help WORD' explains a command, a fault, or a word of
+an answer.
 
 Examples:
   anscheck drawing.ans
-  anscheck mend drawing.ans > mended.ans
+  anscheck mend drawing.ans > fixed.ans
   anscheck redraw drawing.ans > redrawn.ans
   anscheck check --cleared drawing.ans
   anscheck show drawing.ans
@@ -174,15 +181,15 @@ Examples:
 );
 
 // What the commands do, in the order of the program's help.
-const WHY: &str = "Say why a drawing is refused, what it relies on, and how to mend it";
+const WHY: &str = "Explain what is wrong, what it relies on, and how to fix it";
 
-const MEND: &str = "Write a drawing mended, so that it shows the same from every start";
+const MEND: &str = "Fix a drawing so that it looks the same from every start";
 
-const REDRAW: &str = "Write the picture anew, in the plainest form there is";
+const REDRAW: &str = "Write the picture again from scratch, in the simplest form";
 
-const NEEDS: &str = "Print what a drawing relies on: screen, cursor, saved, colours, wrap";
+const NEEDS: &str = "List what it relies on: screen, cursor, saved, colours, wrap";
 
-const CHECK: &str = "Check that a file always shows the same picture, and print it";
+const CHECK: &str = "Succeed only if it always shows the same picture, and print it";
 
 const SHOW: &str = "Show the picture in its colours, for a terminal or as a page";
 
@@ -190,7 +197,7 @@ const SAUCE: &str = "Print what a file's SAUCE record says";
 
 const TOKENS: &str = "Print the bytes and the escape sequences of a file, one a line";
 
-const TABLE: &str = "Print one row for each file: its verdict, its needs, its record";
+const TABLE: &str = "Check many files, one row each";
 
 /// The commands, in the order of the program's help.
 const COMMANDS: [Command; 9] = [
@@ -206,10 +213,10 @@ const COMMANDS: [Command; 9] = [
 ];
 
 /// What `--lines` of `mend` does.
-const LINES: &str = "State N lines, if too few or none are stated: 1 to 8192";
+const LINES: &str = "Set N lines if too few or none are stated (1 to 8192)";
 
-/// What `--width` of `mend` does.
-const WIDTH: &str = "Give a drawing with no record one of N columns: 1 to 1024";
+/// What `--add-record` of `mend` does.
+const ADD_RECORD: &str = "Add a record for N columns if there is none (1 to 1024)";
 
 /// The flags that name a part of the start, each with its help.
 const PART_FLAGS: [(&str, &str); 5] = [
@@ -236,13 +243,17 @@ const CHECK_FLAGS: [(&str, &str); 3] = [
     ),
 ];
 
-/// The other flags of `show`.
-const SHOW_FLAGS: [(&str, &str); 4] = [
+/// The flags of `show` that its help lists.
+const SHOW_FLAGS: [(&str, &str); 2] = [
     ("html", "Write an HTML page, in the colours of a VGA"),
     (
         "vga",
         "Mix the colours of a VGA, whatever the terminal's are",
     ),
+];
+
+/// The other flags of `show`, besides those that name a part of the start.
+const START_FLAGS: [(&str, &str); 2] = [
     ("cleared", "Assume all five: a screen that was just cleared"),
     ("any", "Assume nothing but what the other flags say"),
 ];
@@ -270,7 +281,27 @@ fn file_command<'a>(
         .arg(file)
 }
 
-fn flag<'a>(alloc: Global, name: &'a str, help: &'a str) -> Arg<'a>
+fn files_command<'a>(
+    alloc: Global,
+    name: &'a str,
+    about: &'a str,
+    end: &'a str,
+    help: &'a str,
+) -> Result<clap::Command<'a>, AllocError>
+    ensures { IfOk result (λ c. app_of c ≡ files_app name.now) }
+{
+    let files = Arg::new(alloc, "files")
+        .value_name("FILE")
+        .action(ArgAction::Append)
+        .help(help);
+    clap::Command::new(alloc, name)
+        .about(about)
+        .after_help(end)
+        .arg(files)
+}
+
+/// `--NAME`, which help lists unless it is hidden.
+fn flag<'a>(alloc: Global, name: &'a str, help: &'a str, hidden: bool) -> Arg<'a>
     ensures rule { rule_of result ≡ flag_rule name.now }
     ensures local { result.global ≡ false }
 {
@@ -278,6 +309,7 @@ fn flag<'a>(alloc: Global, name: &'a str, help: &'a str) -> Arg<'a>
         .long(name)
         .action(ArgAction::SetTrue)
         .help(help)
+        .hide(hidden)
 }
 
 /// `--NAME N`, where the parser says which numbers N may be.
@@ -296,12 +328,13 @@ fn with_flags<'a>(
     alloc: Global,
     mut command: clap::Command<'a>,
     flags: &[(&'a str, &'a str)],
+    hidden: bool,
 ) -> Result<clap::Command<'a>, AllocError>
     ensures { IfOk result (λ c.
         app_of c ≡ with_flags (app_of command.entry) (map (λ f. f.0.now) flags.now)) }
 {
     for (name, help) in flags {
-        command = command.arg(flag(alloc, name, help))?;
+        command = command.arg(flag(alloc, name, help, hidden))?;
     }
     Ok(command)
 }
@@ -315,7 +348,7 @@ fn with_mend_flags<'a>(
         app_of c ≡ with_flags (app_of command.entry) (map (λ f. f.name) (map row_of_flag flags.now))) }
 {
     for one in flags {
-        command = command.arg(flag(alloc, one.name, one.help))?;
+        command = command.arg(flag(alloc, one.name, one.help, false))?;
     }
     Ok(command)
 }
@@ -324,16 +357,17 @@ fn check_command<'a>(alloc: Global) -> Result<clap::Command<'a>, AllocError>
     ensures { IfOk result (λ c. app_of c ≡ command_app Check) }
 {
     let command = file_command(alloc, "check", CHECK, CHECK_END)?;
-    let command = with_flags(alloc, command, &PART_FLAGS)?;
-    with_flags(alloc, command, &CHECK_FLAGS)
+    let command = with_flags(alloc, command, &PART_FLAGS, false)?;
+    with_flags(alloc, command, &CHECK_FLAGS, false)
 }
 
 fn show_command<'a>(alloc: Global) -> Result<clap::Command<'a>, AllocError>
     ensures { IfOk result (λ c. app_of c ≡ command_app (Show Terminal)) }
 {
     let command = file_command(alloc, "show", SHOW, SHOW_END)?;
-    let command = with_flags(alloc, command, &SHOW_FLAGS)?;
-    with_flags(alloc, command, &PART_FLAGS)
+    let command = with_flags(alloc, command, &SHOW_FLAGS, false)?;
+    let command = with_flags(alloc, command, &START_FLAGS, true)?;
+    with_flags(alloc, command, &PART_FLAGS, true)
 }
 
 fn mend_command<'a>(alloc: Global) -> Result<clap::Command<'a>, AllocError>
@@ -342,29 +376,29 @@ fn mend_command<'a>(alloc: Global) -> Result<clap::Command<'a>, AllocError>
     let command = file_command(alloc, "mend", MEND, MEND_END)?;
     let command = with_mend_flags(alloc, command, mend_flags())?;
     let lines = number(alloc, "lines", value_parser!(u16).range(1..=8192), LINES);
-    let width = number(alloc, "width", value_parser!(u16).range(1..=1024), WIDTH);
-    command.arg(lines)?.arg(width)
+    let columns = value_parser!(u16).range(1..=1024);
+    let add_record = number(alloc, "add-record", columns, ADD_RECORD);
+    command.arg(lines)?.arg(add_record)
 }
+
+/// The help of the files of `why`.
+const WHY_FILES: &str = "The files to read; - or none is standard input";
+
+/// The help of the files of `table`.
+const TABLE_FILES: &str = "The files; without any, names from standard input, ended by 00h";
 
 fn table_command<'a>(alloc: Global) -> Result<clap::Command<'a>, AllocError>
     ensures { IfOk result (λ c. app_of c ≡ command_app (Table Headed)) }
 {
-    let files = Arg::new(alloc, "files")
-        .value_name("FILE")
-        .action(ArgAction::Append)
-        .help("The files; without one, names from standard input, ended by 00h");
-    let command = clap::Command::new(alloc, "table")
-        .about(TABLE)
-        .after_help(TABLE_END)
-        .arg(files)?;
-    with_flags(alloc, command, &TABLE_FLAGS)
+    let command = files_command(alloc, "table", TABLE, TABLE_END, TABLE_FILES)?;
+    with_flags(alloc, command, &TABLE_FLAGS, false)
 }
 
 fn subcommand<'a>(alloc: Global, command: Command) -> Result<clap::Command<'a>, AllocError>
     ensures { IfOk result (λ c. app_of c ≡ command_app command) }
 {
     match command {
-        Command::Why => file_command(alloc, "why", WHY, WHY_END),
+        Command::Why => files_command(alloc, "why", WHY, WHY_END, WHY_FILES),
         Command::Mend(_) => mend_command(alloc),
         Command::Redraw => file_command(alloc, "redraw", REDRAW, REDRAW_END),
         Command::Needs => file_command(alloc, "needs", NEEDS, NEEDS_END),
@@ -476,7 +510,7 @@ fn mends_asked(matches: &ArgMatches<'_>) -> Mends
     ensures range { AreInRange result }
 {
     let numbers = Mends {
-        width: number_asked(matches, "width"),
+        add_record: number_asked(matches, "add-record"),
         lines: number_asked(matches, "lines"),
         ..Mends::NONE
     };
@@ -487,7 +521,7 @@ fn mends_asked(matches: &ArgMatches<'_>) -> Mends
 fn in_form_asked(command: Command, matches: &ArgMatches<'_>) -> Command
     requires { HasNumbersOfMend (rows_of (found_of matches.now)) }
     ensures name { command_name result ≡ command_name command }
-    ensures table { is_table result ≡ is_table command }
+    ensures table { takes_files result ≡ takes_files command }
     ensures mend { is_mend result ≡ is_mend command }
     ensures redraw { is_redraw result ≡ is_redraw command }
     ensures form { IsInFormAsked result (rows_of (found_of matches.now)) }
@@ -553,7 +587,7 @@ fn file_of(alloc: Global, matches: &ArgMatches<'_>) -> Result<Option<String>, Wo
 fn options_of(command: Command, matches: &ArgMatches<'_>) -> Options
     requires { HasNumbersOfMend (rows_of (found_of matches.now)) }
     ensures name { command_name result.command ≡ command_name command }
-    ensures table { is_table result.command ≡ is_table command }
+    ensures files { takes_files result.command ≡ takes_files command }
     ensures mend { is_mend result.command ≡ is_mend command }
     ensures redraw { is_redraw result.command ≡ is_redraw command }
     ensures form { IsInFormAsked result.command (rows_of (found_of matches.now)) }
@@ -608,6 +642,10 @@ fn read_matches(alloc: Global, matches: &ArgMatches<'_>) -> Result<Asked, WordsE
         let names = files_of(alloc, found)?;
         return Ok(Asked::Table(table_form_asked(found), names));
     }
+    if let Command::Why = command {
+        let names = files_of(alloc, found)?;
+        return Ok(Asked::Why(names));
+    }
     let file = file_of(alloc, found)?;
     match command {
         Command::Mend(_) => Ok(Asked::Mend(mends_asked(found), file)),
@@ -629,6 +667,7 @@ fn words_for_help<'a>(
             Vec::from_slice(alloc, &[program, "--", name])
         }
         [command] => Vec::from_slice(alloc, &[program, command, "--help"]),
+        ["why", word, ..] => Vec::from_slice(alloc, &[program, "--", word]),
         ["table", word, ..] => Vec::from_slice(alloc, &[program, "--", word]),
         [command, word, ..] => Vec::from_slice(alloc, &[program, command, "--", command, word]),
     }
@@ -671,17 +710,11 @@ fn read_words(alloc: Global, words: &[&str]) -> Result<Asked, WordsError>
     read_matches(alloc, &matches)
 }
 
-fn has_dot_or_slash(bytes: &[u8]) -> bool
-    ensures { result ≡ list_any is_dot_or_slash bytes.now }
-{
-    bytes.iter().any(|byte| *byte == b'.' || *byte == b'/')
-}
-
-/// Whether a first word names a file: it has a dot or a slash, and does not begin with `-`.
+/// Whether a first word names a file: it is no command, it is not `help`, and it does not begin with `-`.
 fn names_file(word: &str) -> bool
     ensures { result ≡ names_file word.now }
 {
-    has_dot_or_slash(word.as_bytes()) && !word.as_bytes().starts_with(b"-")
+    command_named(word).is_none() && word != "help" && !word.as_bytes().starts_with(b"-")
 }
 
 /// The words with their command: `why` before a first word that names a file.
@@ -698,27 +731,55 @@ fn words_asked<'a>(alloc: Global, words: &[&'a str]) -> Result<Vec<&'a str>, All
     }
 }
 
-/// Reads the program's words, its own name first: `anscheck why [FILE]`, `anscheck mend` with its flags and
+/// The first command, in the order of help, that is at most this many edits from the word.
+fn command_within(alloc: Global, word: &str, most: usize) -> Option<&'static str>
+    requires { most ≤ 2 }
+    ensures { IfSome result (λ name. IsNear word.now name.now) }
+{
+    for command in &COMMANDS {
+        let name = command.name();
+        match levenshtein(alloc, word, name) {
+            Ok(edits) if edits <= most => return Some(name),
+            Ok(_) => {}
+            Err(AllocError) => return None,
+        }
+    }
+    None
+}
+
+/// The name of the command that may have been meant by a word: one that is one edit from it, or else two, the first
+/// in the order of help. An edit puts a character in, leaves one out, or changes one. None if no command is so near,
+/// and if memory runs out.
+pub fn near_command(alloc: Global, word: &str) -> Option<&'static str>
+    ensures { IfSome result (λ name. IsNear word.now name.now) }
+{
+    match command_within(alloc, word, 1) {
+        Some(name) => Some(name),
+        None => command_within(alloc, word, 2),
+    }
+}
+
+/// Reads the program's words, its own name first: `anscheck why [FILE]..`, `anscheck mend` with its flags and
 /// `[FILE]`, `anscheck redraw [FILE]`, `anscheck needs [FILE]`, `anscheck check` or `anscheck show` with its
 /// flags and `[FILE]`, `anscheck sauce [FILE]`, `anscheck tokens [FILE]`, or `anscheck table` with its flags
-/// and `[FILE]..`. `anscheck FILE` is `anscheck why FILE`: a first word that has a dot or a slash and does not
-/// begin with `-` names a file, and `why` is put before it. No command's name has one. A file whose name has
-/// neither is given as `./NAME`.
-/// A part of the start is known where its flag is given, as `--known-cursor`, and all are where `--cleared`
-/// is. With `show` all are known, too, where neither such a flag nor `--any` is given; with `check` `--any`
-/// changes nothing. Cells are asked for where `--cells` is given. A picture comes as a page where `--html`
-/// is, else in a VGA's colours where `--vga` is. A table's rows are JSON where `--json` is given, and else
+/// and `[FILE]..`. `anscheck FILE..` is `anscheck why FILE..`: a first word that is no command, is not `help` and
+/// does not begin with `-` names a file, and `why` is put before it. A file with the name of a command is given
+/// as `./NAME`.
+/// A part of the start is known if its flag is given, as `--known-cursor`, and all are if `--cleared`
+/// is. With `show` all are known, too, if neither such a flag nor `--any` is given; with `check` `--any`
+/// changes nothing. Cells are asked for if `--cells` is given. A picture comes as a page if `--html`
+/// is, else in a VGA's colours if `--vga` is. A table's rows are JSON if `--json` is given, and else
 /// have a line of names above them unless `--no-header` is. With the other commands nothing is known. What
-/// may be changed to mend is what the flags of `mend` name; `--width` has a number from 1 to 1024, and
-/// `--lines` one from 1 to 8192, where they are given.
+/// may be changed to mend is what the flags of `mend` name; `--add-record` has a number from 1 to 1024, and
+/// `--lines` one from 1 to 8192, if they are given.
 ///
-/// `help` with the name of a fault or a note alone, as `anscheck help F20`, asks for its meaning. These
-/// words are told before `clap` reads any, need no memory, and never fail. Other words `clap` reads.
+/// `help` with the name of a fault, a note or a word only, as `anscheck help F20`, asks for its meaning. These
+/// words are found before `clap` reads any, need no memory, and never fail. Other words `clap` reads.
 ///
-/// Fails where `clap` rejects the words, where they ask for help or for the version, and where memory
+/// Fails if `clap` rejects the words, if they ask for help or for the version, and if memory
 /// runs out. Help is asked for by `--help`, `-h`, `help` and `help COMMAND`, the version by
-/// `--version` and `-V`; the error then has the text that was asked for. But for want of memory the
-/// words alone decide: there is an answer exactly where they have no fault, and else the error has one
+/// `--version` and `-V`; the error then has the text that was asked for. Except for want of memory the
+/// words alone decide: there is an answer exactly if they have no fault, and else the error has one
 /// of the kinds that their first fault may have. To ask for help or for the version counts as a fault.
 pub fn asked(alloc: Global, words: &[&str]) -> Result<Asked, WordsError>
     ensures ok { IfOk result (IsAskedBy (texts_of words.now)) }
@@ -738,19 +799,21 @@ pub fn asked(alloc: Global, words: &[&str]) -> Result<Asked, WordsError>
 
 /// Reads the options and the file from the program's words, as [`asked`] does, and fails as it does. It reads the
 /// words as they are, and puts no `why` before a file's name.
-/// The file's name comes as it is given, `-` too. Of a table the options alone come, and no name. Words that
-/// ask what a fault or a note means have no options: of them comes what `clap` says, which knows no such help.
+/// The file's name comes as it is given, `-` too. Of `why` and of a table only the options come, and no name. Words
+/// that ask what a fault, a note or a word means have no options: of them comes what `clap` says, which knows no such
+/// help.
 pub fn options(alloc: Global, words: &[&str]) -> Result<(Options, Option<String>), WordsError>
     ensures ok { IfOk result (λ r.
         AreOptionsOf (texts_of words.now) r.0 (option_map string_bytes r.1)) }
     ensures flagless { IfOk result (λ r. takes_flags r.0.command ≡ false → r.0.start ≡ none_known) }
     ensures cells { IfOk result (λ r. r.0.command ≢ Command.Check → r.0.cells ≡ false) }
-    ensures nameless { IfOk result (λ r. is_table r.0.command ≡ true → r.1 ≡ None) }
+    ensures nameless { IfOk result (λ r. takes_files r.0.command ≡ true → r.1 ≡ None) }
     ensures accepted { IfOk result (λ r. faults_of (texts_of words.now) ≡ []) }
     ensures errors { IfErr result (IsErrorOf (texts_of words.now)) }
 {
     match read_words(alloc, words)? {
         Asked::One(options, file) => Ok((options, file)),
+        Asked::Why(_) => Ok((Options::WHY, None)),
         Asked::Table(form, _) => Ok((Options::of_table(form), None)),
         Asked::Mend(mends, file) => Ok((Options::of_mend(mends), file)),
         Asked::Redraw(file) => Ok((Options::of_redraw(), file)),

@@ -1,10 +1,11 @@
 //! The command line, and what its words ask for.
 //!
 //! [`asked`] has `clap` read what the words mean, and returns what they ask for: the [`Options`] and the
-//! name of one file, the form of a table and the names of many, the [`Mends`] and the name of a file to be
-//! mended, or the name of a file to be redrawn; or a [`WordsError`]. Before that it sees whether they ask for
-//! help on a [`Topic`], a fault or a note by its name, which `clap` knows nothing of.
-//! A drawing's name in the place of a command has `why` put before it (`words_asked`).
+//! name of one file, the names of the files of `why`, the form of a table and the names of its files, the
+//! [`Mends`] and the name of a file to be mended, or the name of a file to be redrawn; or a [`WordsError`].
+//! Before that it sees whether they ask for help on a [`Topic`], a fault, a note or a word by its name, which
+//! `clap` knows nothing of. A first word that is no command is a file's name, and `why` is put before it
+//! (`words_asked`); [`near_command`] is the command that may have been meant.
 //! [`options`] gives the options alone with the one name, and reads the words as they are. Which words ask for
 //! what is in `specs/CommandLine.antt`, the topics in `specs/Topics.antt`; there `help` means `--help`, and
 //! `help COMMAND` means `COMMAND --help`. Laws of it are in `ans_check_laws`.
@@ -18,8 +19,9 @@
 mod command;
 mod command_line;
 mod topic;
+mod words;
 
 pub use ans_model::mends::Mends;
 pub use command::{Asked, Command, Form, Options, TableForm};
-pub use command_line::{WordsError, asked, options};
-pub use topic::Topic;
+pub use command_line::{WordsError, asked, near_command, options};
+pub use topic::{HelpWord, Topic, WordTable, explains};

@@ -7,12 +7,12 @@ use Rattle.ans_redraw.specs.declared.outcome.Redrawn.{Redrawn}
 use Rattle.ans_redraw.specs.declared.outcome.Unredrawn.{Unredrawn}
 use Rattle.ans_redraw.specs.declared.outcome.Unredrawn.TheVariants as unredrawn
 
--- how long the content is and was; said where both are as long, too, since its bytes may be others
+-- how long the content is and was; printed even if both are as long, since its bytes may differ
 abbrev pub length_line : Reset → List ℕ
 length_line length =
     codes "content length " ++ (decimal length.is ++ (codes ", was " ++ (decimal length.was ++ codes "\n")))
 
--- what was changed, in the order in which it stands in the file
+-- what was changed, in its order in the file
 abbrev pub redrawn_text : Redrawn → List ℕ
 redrawn_text redrawn =
     length_line redrawn.content
@@ -21,7 +21,7 @@ redrawn_text redrawn =
 -- the line of the fault, or how long the file would be; and what may help
 abbrev pub unredrawn_text : Unredrawn → List ℕ
 unredrawn_text (unredrawn.Refused fault) =
-    fault_line fault ++ codes "help: anscheck why says more of it; a drawing that was mended can be redrawn\n"
+    fault_line fault ++ codes "see anscheck why; fix the drawing with mend, then redraw it\n"
 unredrawn_text (unredrawn.TooLong whole) =
     codes "the redrawn file would have " ++ (decimal whole
-    ++ codes " bytes, and 16777216 are the most\nhelp: fewer cells, end marks or changes of colour make it shorter\n")
+    ++ codes " bytes, and the limit is 16777216\nfewer cells, end marks or changes of colour make it shorter\n")

@@ -9,13 +9,12 @@ use ans_sauce::Reset;
 use ans_write::Outbox;
 use std::io::Write;
 
-/// What may help where the drawing is refused.
-const MEND: &[u8] =
-    b"help: anscheck why says more of it; a drawing that was mended can be redrawn\n";
+/// What may help if the drawing is refused.
+const MEND: &[u8] = b"see anscheck why; fix the drawing with mend, then redraw it\n";
 
-/// How many bytes a file may have, and what may help where there would be more.
-const TOO_LONG: &[u8] = b" bytes, and 16777216 are the most\n\
-    help: fewer cells, end marks or changes of colour make it shorter\n";
+/// How many bytes a file may have, and what may help if it would have more.
+const TOO_LONG: &[u8] = b" bytes, and the limit is 16777216\n\
+    fewer cells, end marks or changes of colour make it shorter\n";
 
 fn put_length_line<W: Write>(out: &mut Outbox<'_, W>, length: &Reset)
     ensures { Puts W.contents out.old out.new (length_line length.now) }
@@ -27,8 +26,8 @@ fn put_length_line<W: Write>(out: &mut Outbox<'_, W>, length: &Reset)
     out.put(b"\n");
 }
 
-/// Puts what was changed of a file that is redrawn: how long its content is and was, the end mark where one was
-/// put, and the file size where it is another.
+/// Puts what redrawing changed in a file: how long its content is and was, the end mark if one was added, and the
+/// file size if it differs.
 pub fn put_redrawn<W: Write>(out: &mut Outbox<'_, W>, redrawn: &Redrawn)
     ensures { Puts W.contents out.old out.new (redrawn_text redrawn.now) }
 {

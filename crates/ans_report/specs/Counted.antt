@@ -1,7 +1,7 @@
 -- How many there are of a thing, and how often it comes.
 use Rattle.std.specs.Prelude.{ℕ, ◌==◌, List, [], ◌++◌, codes, decimal, if◌then◌else◌}
 
--- so many of a thing, as `1 byte` and `2 bytes`
+-- that many of a thing, such as `1 byte` and `2 bytes`
 abbrev pub counted_text : ℕ → List ℕ → List ℕ
 counted_text count thing = decimal count ++ (codes " " ++ (thing ++ (if count == 1 then [] else codes "s")))
 

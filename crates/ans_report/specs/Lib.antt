@@ -11,4 +11,5 @@ pub mod Meanings
 pub mod Counted
 pub mod Quoted
 pub mod Changes
+pub mod FaultTold
 pub mod RecordReports

@@ -1,4 +1,4 @@
-//! What was changed of a file that is written anew.
+//! What was changed in a file that is written again.
 
 ghost use Rattle.ans_report.specs.Changes.{end_mark_line, reset_line};
 ghost use Rattle.ans_write.specs.Puts.{Puts};
@@ -7,7 +7,7 @@ use ans_sauce::Reset;
 use ans_write::Outbox;
 use std::io::Write;
 
-/// Puts the line of a number in the record that was set anew: what it is and was. Nothing where it is the same.
+/// Puts the line of a number of the record that was corrected: what it is and was. Nothing if it is the same.
 pub fn put_reset_line<W: Write>(out: &mut Outbox<'_, W>, what: &[u8], number: &Reset)
     ensures { Puts W.contents out.old out.new (reset_line what.now number.now) }
 {
@@ -21,12 +21,12 @@ pub fn put_reset_line<W: Write>(out: &mut Outbox<'_, W>, what: &[u8], number: &R
     out.put(b"\n");
 }
 
-/// Puts the line of an end mark that was put, with its offset in bytes from the file's start. Nothing where none was.
+/// Puts the line of an end mark that was added, with its offset in bytes from the file's start. Nothing if none was.
 pub fn put_end_mark_line<W: Write>(out: &mut Outbox<'_, W>, place: Option<usize>)
     ensures { Puts W.contents out.old out.new (end_mark_line place) }
 {
     if let Some(place) = place {
-        out.put(b"put an end mark at ");
+        out.put(b"added an end mark at ");
         out.put_decimal(place as u64);
         out.put(b"\n");
     }

@@ -12,7 +12,7 @@ fn plural(count: u64) -> &'static [u8]
     if count == 1 { b"" } else { b"s" }
 }
 
-/// Puts so many of a thing, as `1 byte` and `2 bytes`. The thing is named as where there is one.
+/// Puts that many of a thing, such as `1 byte` and `2 bytes`. The name of the thing is that of one.
 pub fn put_counted<W: Write>(out: &mut Outbox<'_, W>, count: u64, thing: &[u8])
     ensures { Puts W.contents out.old out.new (counted_text count thing.now) }
 {
@@ -22,8 +22,7 @@ pub fn put_counted<W: Write>(out: &mut Outbox<'_, W>, count: u64, thing: &[u8])
     out.put(plural(count));
 }
 
-/// Puts how many times a thing comes, and the offset at which it comes first: `once, at 5` and
-/// `3 times, first at 5`.
+/// Puts how many times a thing comes, and the offset of the first: `once, at 5` and `3 times, first at 5`.
 pub fn put_times<W: Write>(out: &mut Outbox<'_, W>, count: usize, first: usize)
     ensures { Puts W.contents out.old out.new (times_text count first) }
 {

@@ -30,7 +30,7 @@ mod tokens_text;
 pub use ans_write::{DeviceFault, Tried, WriteFault, glyph_text};
 pub use changes::{put_end_mark_line, put_reset_line};
 pub use counted::{put_counted, put_times};
-pub use fault_lines::{put_fault_line, put_refusal};
+pub use fault_lines::{put_fault, put_fault_line, put_refusal};
 pub use heading::put_notes;
 pub use lines::{answer_text, put_named_line, put_number_line, put_size_line, put_words};
 pub use meanings::{Help, fault_help, fault_meaning, fault_text, note_meaning, note_text};

@@ -1,14 +1,14 @@
-//! What each fault and each note is called, what it means, and how it is mended: a row for each, in their order.
+//! What each fault and each note is called, what it means, and how it is fixed: a row for each, in their order.
 //!
-//! A meaning stands there alone: what it is, an empty line, and how it is mended. `docs/FAULTS.md` and the page for
-//! browsers have it from here.
+//! A meaning is what `help` prints: its title, an empty line, what it is, and how it is fixed. `docs/FAULTS.md` and the
+//! page for browsers have it from here.
 ghost use Rattle.std.specs.Prelude.{◌≡◌, ◌-◌, ◌<◌, [], get_or, length, map};
 ghost use Rattle.ans_model.specs.Text.FaultText.{fault_text, note_number, note_text};
 ghost use Rattle.ans_report.specs.Meanings.{fault_help, fault_meaning, fault_place, note_meaning};
 
 use ans_sauce::{Cause, Fault, Note};
 
-/// What may be asked for of a file with a fault, for it to be mended.
+/// What may be asked for of a file with a fault, for it to be fixed.
 #[derive(Clone, Copy)]
 pub enum Help {
     /// Nothing: a look at the place helps.
@@ -31,364 +31,386 @@ type FaultRow = (&'static str, Help, &'static str);
 /// The text of a note, and what it means.
 type NoteRow = (&'static str, &'static str);
 
+/// The row of a fault. Its meaning begins with its text.
+macro_rules! fault {
+    ($text:literal, $help:expr, $meaning:literal) => {
+        ($text, $help, concat!($text, "\n\n", $meaning))
+    };
+}
+
+/// The row of a note. Its meaning begins with its name and its text.
+macro_rules! note {
+    ($number:literal, $text:literal, $meaning:literal) => {
+        ($text, concat!("N", $number, " ", $text, "\n\n", $meaning))
+    };
+}
+
 /// The faults, from F1 on.
 static FAULTS: [FaultRow; 24] = [
-    (
+    fault!(
         "F1 no SAUCE record",
         Help::Record,
         "\
-The file does not end in a SAUCE record, so nobody knows how wide the drawing
-is meant to be.
+The file does not end in a SAUCE record, so its width and height are unknown.
 
-To mend it, save the drawing with a record. Often there is one, and something
-stands behind it, as a line end from an editor or what a transfer filled its
-last block with: cut off what follows the 128 bytes of the record.
-",
+Often there is a record with a few bytes after it, left by a transfer or an
+editor. This cuts off bytes 00h, 0Ah, 0Dh and 1Ah; cut off others yourself:
+  anscheck mend FILE > FIXED
+If there is none, save the drawing again with a record, or add one for 80
+columns (--lines N if the smallest number of lines is not what you want):
+  anscheck mend --add-record 80 FILE > FIXED
+"
     ),
-    (
+    fault!(
         "F2 SAUCE version is not 00",
         Help::Look,
         "\
-Behind the word SAUCE come two digits, the version, and they are 00 in every
-record so far. Anything else is damage, or the work of a program that does not
-keep to SAUCE.
+The record's version is not 00, the only one in use. The record is damaged, or
+was written by a program that does not follow the standard.
 
-To mend it, save the drawing with a new record. If all other fields are right,
-set the two bytes to 00.
-",
+Save the drawing again. If all other fields are right, set the two bytes at the
+offset to \"00\". No command does that.
+"
     ),
-    (
+    fault!(
         "F3 not Character/ANSi",
         Help::Look,
         "\
-The record says that the file is something other than a still ANSI drawing:
-its data type has to be 1, Character, and its file type 1, ANSi.
+The record says that this is not a still ANSI drawing: that has data type 1 and
+file type 1. 'anscheck why' prints the two numbers.
 
-To mend it, set both bytes to 1 if the file is a plain text or a still drawing
-all the same. From an animation or another format, export a still ANSI drawing.
-",
+If it is one after all, or plain text, set both bytes to 1, at the offset and
+right after it. Export anything else, such as an animation, BinaryText or
+XBin, as a still ANSI drawing. No command does that.
+"
     ),
-    (
+    fault!(
         "F4 comment block missing",
         Help::Look,
         "\
-The record counts comments, but the word COMNT does not stand where they would
-begin: something has cut them out, or has moved them.
+The record counts comments, but there is no comment block before it. Something
+removed it or moved it.
 
-To mend it, save the drawing with its comments anew. Or give them up: set their
-number, the byte at the offset, to 0, and cut out what is left of them.
-",
+Save the drawing and its comments again. Or give the comments up: set their
+number, the byte at the offset, to 0, and delete what is left of them. No
+command does that, since it could be part of the drawing.
+"
     ),
-    (
+    fault!(
         "F5 number of lines not stated",
         Help::LeastLines,
         "\
-The record has 0 for the number of lines, so there is no lower edge to check
-the drawing against. Many older programs left it out.
+The record does not say how many lines the drawing has. Many older programs
+left this at 0.
 
-To mend it, look at the hints of 'anscheck why' first: full rows with line
-ends, bare line feeds, rows over the edge and UTF-8 tear a drawing. If the
-picture is right, state as many lines as the line 'lines:' says.
-",
+Look at the hints of 'anscheck why' first: the rows may be broken (see F20). If
+the picture is right, this sets the smallest number of lines that works:
+  anscheck mend --least-lines FILE > FIXED
+and this sets 25:
+  anscheck mend --lines 25 FILE > FIXED
+"
     ),
-    (
+    fault!(
         "F6 width above 1024",
         Help::Look,
         "\
-The record states more than 1024 columns. Mostly it is damaged, since drawings
-are 80, 132 or 160 columns wide.
+The record says that the drawing has more than 1024 columns. It is probably
+damaged: drawings are usually 80, 132 or 160 columns wide.
 
-To mend it, state the width that the drawing was made for. A drawing that is
-wider is not checked: cut it into strips, each a file.
-",
+Set the right width, the two bytes at the offset, low byte first. Wider
+drawings are not checked; cut them into strips. No command does that.
+"
     ),
-    (
+    fault!(
         "F7 lines above 8192",
         Help::Look,
         "\
-The record states more than 8192 lines. If the drawing is not that long, the
-field is damaged.
+The record says that the drawing has more than 8192 lines. If it is not that
+long, the field is damaged.
 
-To mend it, state the lines that the drawing has. A longer one has to be split
-into several files.
-",
+Set the right number, the two bytes at the offset, low byte first. Split a
+drawing that really is longer. No command does that.
+"
     ),
-    (
+    fault!(
         "F8 bytes after the end mark",
         Help::Look,
         "\
-The byte 1Ah ends the drawing, and behind it comes something other than further
-such bytes, before the comments and the record. Some programs would play it,
-others not.
+The byte 1Ah ends a drawing, but something follows it before the comments or
+the record. Some programs would play it, others would not.
 
-To mend it, look at the line 'is:' of 'anscheck why'. Comments that the record
-does not count are counted there or cut out; an older record is cut out; an
-arrow in the drawing, which is the byte 1Ah, has to be another character.
-",
+See the line 'is:' of 'anscheck why'. Delete an older record. Count comments
+that are not counted (byte 104 of the record), or delete them. An arrow in the
+drawing is this very byte: use another character, such as '>'. No command does
+any of that.
+"
     ),
-    (
+    fault!(
         "F9 broken sequence",
         Help::TakeOut,
         "\
-Behind ESC comes a byte that no sequence has there. Programs do different
-things then: some print the rest as letters, some swallow it.
+After ESC comes something that no sequence starts with. Some programs print the
+rest as text, others skip it.
 
-To mend it, look at the line 'is:' of 'anscheck why', and take the sequence
-out. For a font selection name the font in the record; ANSI music, ESC[|, goes
-with its notes; for ESC7 and ESC8 write ESC[s and ESC[u.
-",
+This removes font selections, and ANSI music that starts with ESC[|:
+  anscheck mend --take-out FILE > FIXED
+Name the font in the record instead. Remove others in an editor; for ESC7 and
+ESC8 write ESC[s and ESC[u.
+"
     ),
-    (
+    fault!(
         "F10 number above 255",
         Help::TakeOut,
         "\
-A number is at most 255, what fits into one byte. Programs differ in what they
-make of a larger one.
+A number in a sequence is larger than 255, the most that fits in a byte.
+Programs disagree about what it does.
 
-To mend it, write a carriage return (0Dh) for ESC[999D, the way to the left,
-and ESC[255C for ESC[999C, the way to the right, more than once where a row has
-more than 256 columns. What switches a later terminal's screen, as ESC[?1049h,
-does nothing for a drawing: take it out.
-",
+To go to the left edge write a carriage return instead of ESC[999D; to go to
+the right edge write ESC[255C instead of ESC[999C, twice if need be. This
+removes what a drawing has no use for, such as ESC[?1049h at its beginning:
+  anscheck mend --take-out FILE > FIXED
+"
     ),
-    (
+    fault!(
         "F11 more than 16 parameters",
         Help::TakeOut,
         "\
-A sequence has at most 16 numbers, its parameters. Programs have room for so
-many, and differ in how many.
+A sequence has more than 16 numbers. Programs differ in how many they can hold.
 
-To mend it, write two sequences for the one. Colours are set one after the
-other, so the result is the same.
-",
+Split it into two. Colours are applied one after the other, so two sequences
+do the same as one. No command does that for colours.
+"
     ),
-    (
+    fault!(
         "F12 content ends in a sequence",
         Help::TakeOut,
         "\
-The drawing stops before the letter of its last sequence. It was cut off in a
-transfer, or ESC stands alone at its end, or a quote inside a sequence is never
-closed.
+The drawing stops in the middle of a sequence. It was cut off in a transfer, or
+ends in a lone ESC, or a quote inside a sequence is never closed.
 
-To mend it, see whether the drawing is whole, and get it again if it is not.
-Else take out the unfinished sequence, which begins at the offset.
-",
+If part of the drawing is missing, get it again. Otherwise this removes the
+unfinished sequence, unless there is a quote in it:
+  anscheck mend --take-out FILE > FIXED
+"
     ),
-    (
+    fault!(
         "F13 unknown sequence",
         Help::TakeOut,
         "\
 The sequence is well formed, but ANSI.SYS has no such letter. Programs that do
-not know it leave it out, or print it.
+not know it skip it or print it.
 
-To mend it, look at the line 'is:' of 'anscheck why'. ANSI music, ESC[M or
-ESC[N up to the byte 0Eh, is taken out with its notes; a drawing with a 24-bit
-colour is saved with 16 colours; other sequences are taken out.
-",
+This removes ANSI music with its notes, 24-bit colours that follow an ordinary
+colour, and ESC[c:
+  anscheck mend --take-out FILE > FIXED
+Otherwise save the drawing with the 16 DOS colours, or remove the sequence in
+an editor.
+"
     ),
-    (
+    fault!(
         "F14 wrong parameters",
         Help::TakeOut,
         "\
-The letter of the sequence is known, but not with these numbers.
+ANSI.SYS knows this letter, but not with these numbers.
 
-To mend it, write what ANSI.SYS knows: ESC[2J clears the screen, ESC[K the rest
-of a row, ESC[s saves the cursor and ESC[u restores it. Print blanks where more
-is erased, and take out margins and questions to the terminal.
-",
+Write what it knows: ESC[2J clears the screen, ESC[K the rest of a row, ESC[s
+saves the cursor and ESC[u restores it. To erase anything else, print blanks.
+Remove margins and questions to the terminal; for ESC[5n this does it:
+  anscheck mend --take-out FILE > FIXED
+"
     ),
-    (
+    fault!(
         "F15 key reassigned",
         Help::TakeOut,
         "\
-The sequence makes a key of the reader's keyboard type something else, where
-ANSI.SYS plays it. That is a key bomb, and no drawing needs it.
+The sequence makes a key on the reader's keyboard type something else. This is
+a key bomb; no drawing needs it.
 
-To mend it, take the sequence out, with all between its quotes. Look for more
-of them, and be wary of where the file came from.
-",
+Be wary of where the file came from. This removes all of them:
+  anscheck mend --take-out FILE > FIXED
+"
     ),
-    (
+    fault!(
         "F16 screen mode set",
         Help::TakeOut,
         "\
-The sequence switches something of the reader's screen: bright backgrounds,
-whether the cursor shows, or a screen mode of DOS.
+The sequence changes a setting of the reader's screen: bright backgrounds,
+whether the cursor shows, or a DOS screen mode.
 
-To mend it, take the sequence out. Bright backgrounds, the iCE colours, are set
-in the record's flags: bit 0 of byte 105. Hiding the cursor changes nothing in
-a drawing, and the size of the screen stands in the record.
-",
+This removes it. Bright backgrounds (iCE colours) then go into the record's
+flags, where they belong. A mode in the middle of a drawing stays, since it may
+clear the screen: look, and remove it in an editor.
+  anscheck mend --take-out FILE > FIXED
+"
     ),
-    (
+    fault!(
         "F17 cursor report asked",
         Help::TakeOut,
         "\
-The terminal is asked where its cursor stands, and types the answer as if the
-reader had done so. Boards sent this to find out whether a caller has ANSI, and
-it was left in their login screens.
+It asks the terminal where the cursor is, and the terminal answers as if you
+had typed it. Bulletin boards used this to find out whether callers have ANSI.
 
-To mend it, take the four bytes out.
-",
+This removes it:
+  anscheck mend --take-out FILE > FIXED
+"
     ),
-    (
+    fault!(
         "F19 place outside the screen",
         Help::Place,
         "\
-A sequence names a row more than one below the stated lines, or a column right
-of the last one. Each screen would make something else of it.
+A sequence moves the cursor below the last line (by more than one) or to the
+right of the last column. Every screen does something else then.
 
-To mend it, take the sequence out where it draws nothing: often it is the last
-one of a short drawing, and only goes to the bottom of a screen of 25 rows.
-Else state as many lines or columns as it names.
-",
+Often it is the last sequence of a short drawing, going to row 25: remove it in
+an editor. If the record has too few lines, this adds some:
+  anscheck mend --least-lines FILE > FIXED
+"
     ),
-    (
+    fault!(
         "F20 print below the stated lines",
         Help::Rows,
         "\
-Something is printed below the lines that the record states. Either the drawing
-is torn, or it is longer than its record says.
+Something is printed below the last line. Usually the rows are broken; only
+sometimes is the record wrong. The hints of 'anscheck why' say which:
 
-To mend it, look at the hints of 'anscheck why' first: full rows with line
-ends, bare line feeds, rows over the edge and UTF-8 tear a drawing. Only if the
-picture is right, state as many lines as the line 'lines:' says.
-",
+  bare line feeds (a staircase)    anscheck mend --crlf FILE > FIXED
+  line ends after full rows        anscheck mend --join-rows FILE > FIXED
+  rows wider than the screen       set the width that it was made for
+  UTF-8                            convert it to code page 437
+  too few lines, picture right     anscheck mend --least-lines FILE > FIXED
+"
     ),
-    (
+    fault!(
         "F21 scrolls",
         Help::Rows,
         "\
-A line feed comes while the cursor stands below the stated lines, so that the
-screen would scroll and lose its top row.
+A line feed comes below the last line. The screen would scroll and lose its top
+row.
 
-To mend it, take out the last line end and all empty lines at the end, if
-nothing else follows. Otherwise look at the hints of 'anscheck why' first: full
-rows with line ends, bare line feeds, rows over the edge and UTF-8 tear a
-drawing. Only if the picture is right, state as many lines as the line 'lines:'
-says.
-",
+If only line ends follow, this removes them:
+  anscheck mend --take-out FILE > FIXED
+If more of the drawing follows, see F20: the rows are probably broken.
+"
     ),
-    (
+    fault!(
         "F22 print at an unknown place",
         Help::Look,
         "\
-Something is printed before the drawing has said where the cursor stands. On a
-screen where it stands elsewhere, the drawing is moved. The place is also
-unknown behind a full row if wrap was not switched on, and behind ESC[u if
-nothing was saved.
+Something is printed before the drawing has said where the cursor is. With the
+cursor elsewhere the picture moves. (This also happens after a full row if wrap
+was never switched on, and after ESC[u without ESC[s.)
 
-To mend it, put the safe beginning in front:
-ESC[?7h ESC[0;37;40m ESC[2J ESC[H ESC[s, without the blanks.
-",
+This starts the drawing with ESC[?7h ESC[0;37;40m ESC[2J ESC[H ESC[s:
+  anscheck mend FILE > FIXED
+"
     ),
-    (
+    fault!(
         "F23 erase at an unknown place",
         Help::Look,
         "\
-ESC[K blanks the rest of the cursor's row, and the drawing has not yet said
-where the cursor stands. It would blank another row on another screen.
+ESC[K erases the rest of a row before the drawing has said where the cursor is.
+With the cursor elsewhere it erases another row.
 
-To mend it, put the safe beginning in front:
-ESC[?7h ESC[0;37;40m ESC[2J ESC[H ESC[s, without the blanks. If the rest of
-the screen is to stay, place the cursor first: ESC[1;1H.
-",
+This starts the drawing with ESC[?7h ESC[0;37;40m ESC[2J ESC[H ESC[s:
+  anscheck mend FILE > FIXED
+To keep the rest of the screen, start with ESC[1;1H instead.
+"
     ),
-    (
+    fault!(
         "F24 may scroll",
         Help::Look,
         "\
-A line feed comes where the cursor may stand below the stated lines. From some
-starts the screen scrolls and loses its top row.
+A line feed comes when the cursor may be below the last line. From some
+starting positions the screen scrolls and loses its top row.
 
-To mend it, put the safe beginning in front:
-ESC[?7h ESC[0;37;40m ESC[2J ESC[H ESC[s, without the blanks. If the line feed
-then scrolls from every start, it is F21: take it out.
-",
+This starts the drawing with ESC[?7h ESC[0;37;40m ESC[2J ESC[H ESC[s:
+  anscheck mend FILE > FIXED
+If it is then refused for F21, see there.
+"
     ),
-    (
+    fault!(
         "F25 cell stays unknown",
         Help::Look,
         "\
-At the end there is a cell in which nothing was printed, or something in
-colours that the drawing never set. What was on the screen before shows
-through, or its colours do.
+At the end some cell depends on what was on the screen before: nothing was
+printed there, or in colours that the drawing never set.
 
-To mend it, put the safe beginning in front:
-ESC[?7h ESC[0;37;40m ESC[2J ESC[H ESC[s, without the blanks. The colours have
-to come before the clearing, which fills the screen with them.
-",
+This starts the drawing with ESC[?7h ESC[0;37;40m ESC[2J ESC[H ESC[s:
+  anscheck mend FILE > FIXED
+By hand, set the colours before you clear: clearing fills the screen with them.
+"
     ),
 ];
 
 /// The notes, from N1 on.
 static NOTES: [NoteRow; 6] = [
-    (
+    note!(
+        1,
         "width 0 taken as 80",
         "\
-The record states no width, and 80 columns are assumed. If the drawing was made
-for another width, it is checked on the wrong screen.
+The record does not say how wide the drawing is, and 80 columns are assumed.
 
-To mend it, state the width: bytes 96 and 97 of the record, the lower one
-first.
-",
+If that is wrong, set the width, bytes 96 and 97 of the record, low byte first.
+No command does that.
+"
     ),
-    (
+    note!(
+        2,
         "no end mark after the content",
         "\
-Nothing stands between the drawing and its record or comments. A viewer that
-does not know SAUCE prints them as text below the drawing; at a byte 1Ah, the
-end mark, many stop.
+The drawing runs straight into its comments or record. Viewers that do not know
+SAUCE print those as text; many stop at an end mark, the byte 1Ah.
 
-To mend it, put the byte 1Ah behind the drawing, before the comments and the
-record.
-",
+This adds it:
+  anscheck mend FILE > FIXED
+"
     ),
-    (
+    note!(
+        3,
         "file size differs from the content",
         "\
-The record says how many bytes the drawing had when it was saved, and it has
-another number of bytes now. Somebody changed the drawing and left the record,
-or bytes were lost or changed on the way.
+The record gives a different number of bytes than the drawing has. Someone
+edited the drawing, or bytes were lost.
 
-To mend it, see that the drawing is whole. Then set the file size, bytes 90 to
-93 of the record, the lowest first, to the number of bytes in the line
-'content:' of 'anscheck check'.
-",
+Check that the drawing is complete. Then this corrects the number:
+  anscheck mend FILE > FIXED
+"
     ),
-    (
+    note!(
+        4,
         "date is not eight digits",
         "\
-The date is not year, month and day in eight digits, as 19960101, so that a
-catalogue cannot sort it. A date that was left blank is noted, too.
+The date is not written as eight digits (19960101), so catalogues cannot sort
+it. An empty date counts too.
 
-To mend it, write the date in eight digits: bytes 82 to 89 of the record.
-",
+Write the date into bytes 82 to 89 of the record. No command does that.
+"
     ),
-    (
+    note!(
+        5,
         "flag bits 5 to 7 are not zero",
         "\
-The record's flags are one byte, of which SAUCE uses the lower five bits, and a
-higher one is set. The byte is damaged, or an older program left something else
-there.
+SAUCE uses five bits of the flags byte, and a higher one is set. The byte is
+damaged, or comes from a program with ideas of its own.
 
-To mend it, set the flags, byte 105 of the record, anew: 0, or 1 where the
-drawing has bright backgrounds.
-",
+Set the flags, byte 105 of the record, to 0, or to 1 if the drawing uses bright
+backgrounds. No command does that.
+"
     ),
-    (
+    note!(
+        6,
         "a flag pair is 11",
         "\
-Two pairs of bits in the record's flags say how letters are spaced and what
-shape pixels have. One of them is 11, which has no meaning.
+Two pairs of bits in the flags give the letter spacing and the shape of pixels.
+One of them is 11, which means nothing.
 
-To mend it, set that pair to 01 or 10 for one of its two choices, or to 00,
-which says nothing. The flags change nothing in what is checked.
-",
+Set that pair to 01, 10, or 00 for \"not given\". It makes no difference to the
+check. No command does that.
+"
     ),
 ];
 
-/// Where the row of a fault stands: there is no F18.
+/// The place of a fault's row: there is no F18.
 fn fault_place(cause: &Cause) -> usize
     ensures place { result ≡ fault_place cause.now }
     ensures within { result < 24 }
@@ -424,7 +446,7 @@ pub fn fault_text(fault: &Fault) -> &'static str
     text
 }
 
-/// What may be asked for of a file with this fault, for it to be mended.
+/// What may be asked for of a file with this fault, for it to be fixed.
 pub fn fault_help(cause: &Cause) -> Help
     ensures { result ≡ fault_help cause.now }
 {
@@ -432,8 +454,8 @@ pub fn fault_help(cause: &Cause) -> Help
     help
 }
 
-/// What a fault means, and how it is mended: lines of at most 79 columns, each ended by a line feed. It is the same
-/// wherever the fault stands.
+/// What a fault means, and how it is fixed: its text, an empty line, and more lines of at most 79 columns, each ended
+/// by a line feed. It is the same at every offset and position.
 pub fn fault_meaning(cause: &Cause) -> &'static str
     ensures { result.now ≡ fault_meaning cause.now }
 {
@@ -449,7 +471,8 @@ pub fn note_text(note: &Note) -> &'static str
     text
 }
 
-/// What a note means, and how it is mended: lines of at most 79 columns, each ended by a line feed.
+/// What a note means, and how it is fixed: its name and text, an empty line, and more lines of at most 79 columns, each
+/// ended by a line feed.
 pub fn note_meaning(note: Note) -> &'static str
     ensures { result.now ≡ note_meaning note }
 {

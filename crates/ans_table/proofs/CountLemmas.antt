@@ -2,10 +2,12 @@
 use Rattle.std.proofs.Common.{◌≡◌, ℕ, List, ◌++◌, codes, append_assoc}
 use Rattle.ans_model.specs.Text.RecordText.{named_line}
 
-pub counts_line : (files word pass refused unread : List ℕ)
+pub counts_line : (files word pass cleared refused unread : List ℕ)
     → codes "anscheck: " ++ (files ++ (word ++ (pass ++ (codes " pass, "
-    ++ (refused ++ (codes " refused, " ++ (unread ++ codes " not read\n")))))))
+    ++ (cleared ++ (codes " pass on a cleared screen, "
+    ++ (refused ++ (codes " refused, " ++ (unread ++ codes " not read\n")))))))))
     ≡ named_line (codes "anscheck")
     (files ++ (word ++ (pass ++ (codes " pass, "
-    ++ (refused ++ (codes " refused, " ++ (unread ++ codes " not read")))))))
-counts_line files word pass refused unread = simp append_assoc
+    ++ (cleared ++ (codes " pass on a cleared screen, "
+    ++ (refused ++ (codes " refused, " ++ (unread ++ codes " not read")))))))))
+counts_line files word pass cleared refused unread = simp append_assoc

@@ -6,7 +6,7 @@ use Rattle.std.specs.Prelude.{⊤, if◌then◌else◌}
 use Rattle.std.proofs.lemmas.List.{map-append}
 use Rattle.std.specs.Ordering.{match_ordering}
 use Rattle.std.specs.Cmp.Lexicographic.{slice_cmp}
-use Rattle.serde_json.specs.Data.{Data, Members, boolean, no_members, member, string, put, depth, items_depth}
+use Rattle.serde_json.specs.Data.{Data, Members, no_members, member, string, put, depth, items_depth}
 use Rattle.serde_json.specs.Data.{members_depth}
 use Rattle.serde_json.specs.Read.{max_depth}
 use Rattle.serde_json.specs.View.{items_of, members_view, view}
@@ -28,8 +28,8 @@ use Rattle.ans_table.specs.NameText.{name_text}
 use Rattle.ans_table.specs.Columns.{by_pair}
 use Rattle.ans_table.specs.JsonRow.{Adds, Entries, Named, aspect_values, comments_from, content_values, count}
 use Rattle.ans_table.specs.JsonRow.{fault_values, field_values, flag_values, found_values, parts_values}
-use Rattle.ans_table.specs.JsonRow.{players_values, record_values, row_data, row_values, spacing_values, text_list}
-use Rattle.ans_table.specs.JsonRow.{verdict_values, with_values}
+use Rattle.ans_table.specs.JsonRow.{players_values, record_values, row_data, row_values, spacing_values, taller_values}
+use Rattle.ans_table.specs.JsonRow.{text_list, verdict_values, with_values}
 
 -- no float, and at most lists
 record IsFlat (d : Data) : Type 0 where
@@ -121,6 +121,10 @@ flat_players (InNamedColours class times) =
     (flat_texts (kind_word OwnColours ∷ []), (flat_texts (part_names class), tt))
 flat_players (Agreeing used) = (flat_texts (words_used used), tt)
 
+flat_taller : (same : Bool) → AllFlat (taller_values same)
+flat_taller true = (simple _ refl (omega arith), tt)
+flat_taller false = tt
+
 flat_found : (finding : Finding) → AllFlat (found_values finding)
 flat_found (NoContent said) = flat_fault said.fault
 flat_found (Refused parts said) =
@@ -131,8 +135,8 @@ flat_found (Passes parts said) = (
   simple _ refl (omega arith),
   (
     flat_texts _,
-    flat_append (players_values said.players) ((codes "taller", boolean said.taller) ∷ [])
-        (flat_players said.players) (simple (boolean said.taller) refl (omega arith), tt),
+    flat_append (players_values said.players) (taller_values said.taller) (flat_players said.players)
+        (flat_taller said.taller),
   ),
 )
 

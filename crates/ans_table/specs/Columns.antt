@@ -1,4 +1,4 @@
--- The columns of a row before the file's name, each with a tab behind it. A value that is absent is empty.
+-- The columns of a row before the file's name, each with a tab after it. A value that is absent is empty.
 use Rattle.std.specs.Prelude.{ℕ, ◌==◌, List, [], ◌∷◌, ◌++◌, length, codes, decimal}
 use Rattle.std.specs.Prelude.{Option, Some, None, Ok, Err, if◌then◌else◌}
 use Rattle.std.specs.List.{flat_map}
@@ -17,35 +17,36 @@ use Rattle.ans_kinds.specs.declared.players.Players.TheVariants.{Any, InNamedCol
 use Rattle.ans_players.specs.Kinds.{kind_word}
 use Rattle.ans_players.specs.declared.difference.Difference.TheVariants.{OwnColours}
 use Rattle.ans_table.specs.declared.finding.PassFinding.{PassFinding}
-use Rattle.ans_table.specs.Findings.{Finding, RowFinding, unread_text}
-use Rattle.ans_table.specs.Labels.{fault_label, labels_text}
+use Rattle.ans_table.specs.declared.counts.Outcome.TheVariants as outcome
+use Rattle.ans_table.specs.Findings.{Finding, RowFinding, pass_outcome, unread_text}
+use Rattle.ans_table.specs.Labels.{fault_label, labels_text, taller_word, verdict_word}
 
 abbrev pub tab : ℕ
 tab = 0x09
 
--- a text, and the tab behind it
+-- a text, and the tab after it
 abbrev pub column : List ℕ → List ℕ
 column text = text ++ tab ∷ []
 
 -- the columns from the verdict to the fault's offset; what only a pass has is empty
 abbrev pub fault_columns : Fault → List ℕ
 fault_columns fault =
-    column (codes "refused")
+    column (verdict_word outcome.Refused)
     ++ (tab ∷ tab ∷ tab ∷ tab ∷ (column (fault_label fault.cause) ++ column (decimal fault.offset)))
 
--- `any`, and the parts that have to be known for every player to show the same; or the kinds in which players part that
--- the drawing makes use of, and no parts
+-- `all`, and the parts that have to be known for all players to show the same picture; or the kinds in which players
+-- differ that the drawing uses, and the parts only if the kind is that of its own colours
 abbrev pub players_columns : Players → List ℕ
-players_columns (Any class) = column (codes "any") ++ column (needed_parts class)
+players_columns (Any class) = column (codes "all") ++ column (needed_parts class)
 players_columns (InNamedColours class times) = column (kind_word OwnColours) ++ column (needed_parts class)
 players_columns (Agreeing used) = column (words_text (words_used used)) ++ tab ∷ []
 
--- the columns from the verdict to the place of a fault, which a pass has none of
+-- the columns from the verdict to the place of a fault, which a pass has not
 abbrev pub pass_columns : PassFinding → List ℕ
 pass_columns said =
-    column (codes "pass")
+    column (verdict_word (pass_outcome said.needs))
     ++ (column (needed_parts said.needs)
-    ++ (players_columns said.players ++ (column (answer_text said.taller) ++ tab ∷ tab ∷ tab ∷ tab ∷ [])))
+    ++ (players_columns said.players ++ (column (taller_word said.taller) ++ tab ∷ tab ∷ tab ∷ tab ∷ [])))
 
 -- the columns from the verdict to the place of the fault, of a file that was read
 abbrev pub found_columns : Finding → List ℕ
@@ -58,7 +59,8 @@ found_columns (Passes parts said) = pass_columns said
 abbrev pub verdict_columns : RowFinding → List ℕ
 verdict_columns (Ok finding) = found_columns finding
 verdict_columns (Err reason) =
-    column (codes "error") ++ (tab ∷ tab ∷ tab ∷ tab ∷ (column (unread_text reason) ++ tab ∷ tab ∷ tab ∷ []))
+    column (verdict_word outcome.Unread)
+    ++ (tab ∷ tab ∷ tab ∷ tab ∷ (column (unread_text reason) ++ tab ∷ tab ∷ tab ∷ []))
 
 -- the width in columns and the number of lines; a width of 0 is 80
 abbrev pub stated_columns : Option (List ℕ) → List ℕ
@@ -73,12 +75,12 @@ abbrev pub content_columns : Option Parts → List ℕ
 content_columns (Some parts) = parts_columns parts
 content_columns None = tab ∷ tab ∷ []
 
--- what a pair of bits says, where it says one of two things
+-- what a pair of bits says, if it says one of two things
 abbrev pub by_pair : {A : Type 0} → ℕ → List A → List A → List A
 by_pair pair one two = if pair == 1 then one else if pair == 2 then two else []
 
 -- Whether bit 7 of an attribute is a bright background; letters of 8 or of 9 pixels; pixels to be stretched, or square
--- ones: the last two where they say which.
+-- ones: the last two if they say which.
 abbrev pub flag_columns : List ℕ → List ℕ
 flag_columns sauce =
     column (answer_text (is_non_blink sauce))

@@ -1,15 +1,16 @@
--- What is true of a file of which a row tells.
-use Rattle.std.specs.Prelude.{◌≡◌, ◌↔◌, ℕ, ◌+◌, ◌-◌, IsTrue, IsFalse, List, length, drop, codes, Option, Some, None}
-use Rattle.std.specs.Prelude.{Result, Ok, Err, option_map, if◌then◌else◌}
+-- What is true of the file of a row.
+use Rattle.std.specs.Prelude.{◌≡◌, ◌↔◌, ℕ, ◌+◌, ◌-◌, Bool, ◌||◌, IsTrue, IsFalse, List, length, drop, codes}
+use Rattle.std.specs.Prelude.{Option, Some, None, Result, Ok, Err, option_map, if◌then◌else◌}
 use Rattle.ans_model.specs.declared.cell.Position.{Position}
 use Rattle.ans_model.specs.declared.fault.Fault.{Fault}
+use Rattle.ans_model.specs.declared.start.Start.{Start}
 use Rattle.ans_model.specs.File.Refusals.{has_record}
 use Rattle.ans_model.specs.Screen.State.{Size}
 use Rattle.ans_model.specs.Screen.StartClass.{all_known}
 use Rattle.ans_model.specs.Verdict.Needs.{IsLeast}
 use Rattle.ans_sauce.specs.Parts.{content_of, record_of, size_of}
 use Rattle.ans_sauce.specs.RecordBytes.{sauce_bytes}
-use Rattle.ans_sauce.specs.Judged.{IsJudged, IsRecordFault, is_pass, parts_in}
+use Rattle.ans_sauce.specs.Judged.{IsJudged, IsRecordFault, parts_in}
 use Rattle.ans_sauce.specs.declared.judged.Judged.{Judged}
 use Rattle.ans_sauce.specs.declared.judged.Judged.TheVariants.{NoContent, Refused, Passes}
 use Rattle.ans_sauce.specs.declared.parts.Parts.{Parts}
@@ -25,14 +26,14 @@ use Rattle.ans_table.specs.declared.finding.RecordFinding.{RecordFinding}
 use Rattle.ans_table.specs.declared.finding.Unread.{Unread}
 use Rattle.ans_table.specs.declared.finding.Unread.TheVariants as why
 
--- before the fault the cursor stands in this row and this column, counted from 1, in the play from the cleared start
+-- before the fault the cursor is in this row and this column, counted from 1, in the play from the cleared start
 pub record StandsIn (z : Size) (content : List ℕ) (fault : Fault) (row column : ℕ) : Type 0 where
   pub position : Position
   pub shows : ShowsCursors z all_known content fault position position
   pub row_is : row ≡ position.row + 1
   pub column_is : column ≡ position.column + 1
 
--- the record in the file's last 128 bytes, where there is one
+-- the record in the file's last 128 bytes, if there is one
 abbrev pub IsRecordOf : List ℕ → Option (List ℕ) → Type 0
 IsRecordOf file (Some bytes) = IsTrue (has_record file) × (bytes ≡ drop (length file - 128) file)
 IsRecordOf file None = IsFalse (has_record file)
@@ -57,7 +58,7 @@ pub record IsPassFinding (parts : Parts) (said : PassFinding) : Type 0 where
 abbrev pub Finding : Type 0
 Finding = Judged RecordFinding FaultFinding PassFinding
 
--- what a row tells of a file: what is found of it, or why it was not read
+-- what a row says of a file: what is found of it, or why it was not read
 abbrev pub RowFinding : Type 0
 RowFinding = Result Finding Unread
 
@@ -65,25 +66,39 @@ RowFinding = Result Finding Unread
 abbrev pub IsFindingOf : List ℕ → Finding → Type 0
 IsFindingOf file finding = IsJudged (IsRecordFinding file) IsFaultFinding IsPassFinding file finding
 
--- the parts of a file that was read, where it has some
+-- the parts of a file that was read, if it has some
 abbrev pub parts_of : RowFinding → Option Parts
 parts_of (Ok finding) = parts_in finding
 parts_of (Err reason) = None
 
--- the record of a file that was read, where it has one
+-- the record of a file that was read, if it has one
 abbrev pub sauce_in : Finding → Option (List ℕ)
 sauce_in (NoContent said) = option_map sauce_bytes said.sauce
 sauce_in (Refused parts said) = Some (record_of parts)
 sauce_in (Passes parts said) = Some (record_of parts)
 
--- the record of the file, where one was read
+-- the record of the file, if one was read
 abbrev pub sauce_of : RowFinding → Option (List ℕ)
 sauce_of (Ok finding) = sauce_in finding
 sauce_of (Err reason) = None
 
--- how a file comes out
+-- whether the starts of this class have to be as the cleared screen in some part
+abbrev pub has_needs : Start → Bool
+has_needs needs = needs.screen || needs.cursor || needs.saved || needs.colours || needs.wrap
+
+-- a content that passes from the cleared start passes from each start, or only if a part is as on the cleared screen
+abbrev pub pass_outcome : Start → Outcome
+pass_outcome needs = if has_needs needs then outcome.Cleared else outcome.Pass
+
+-- the outcome of a file that was read
+abbrev pub outcome_in : Finding → Outcome
+outcome_in (NoContent said) = outcome.Refused
+outcome_in (Refused parts said) = outcome.Refused
+outcome_in (Passes parts said) = pass_outcome said.needs
+
+-- the outcome of any file
 abbrev pub outcome_of : RowFinding → Outcome
-outcome_of (Ok finding) = if is_pass finding then outcome.Pass else outcome.Refused
+outcome_of (Ok finding) = outcome_in finding
 outcome_of (Err reason) = outcome.Unread
 
 -- why a file was not read

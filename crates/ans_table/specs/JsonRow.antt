@@ -1,6 +1,6 @@
--- The row of a file as a JSON object. What is absent is left out. The names of an object stand in the order of their
--- bytes, as those of its map do.
-use Rattle.std.specs.Prelude.{◌≡◌, ℕ, zero, suc, ◌+◌, List, [], ◌∷◌, ◌++◌, length, map, Option, Some}
+-- The row of a file as a JSON object. What is absent is left out. The names of an object are in the order of their
+-- bytes, as those of its map are.
+use Rattle.std.specs.Prelude.{◌≡◌, ℕ, zero, suc, ◌+◌, Bool, true, false, List, [], ◌∷◌, ◌++◌, length, map, Option, Some}
 use Rattle.std.specs.Prelude.{None, Result, Ok, Err, OnOk, String, codes}
 use Rattle.std.specs.declared.alloc.Global.{Global}
 use Rattle.serde_json.specs.Data.{Data, Members, unsigned, boolean, number, string, array, object, no_members, put}
@@ -22,9 +22,10 @@ use Rattle.ans_players.specs.Kinds.{kind_word}
 use Rattle.ans_players.specs.declared.difference.Difference.TheVariants.{OwnColours}
 use Rattle.ans_table.specs.declared.finding.PassFinding.{PassFinding}
 use Rattle.ans_table.specs.Columns.{by_pair}
-use Rattle.ans_table.specs.Findings.{Finding, RowFinding, parts_of, sauce_of, unread_text}
+use Rattle.ans_table.specs.declared.counts.Outcome.TheVariants as outcome
+use Rattle.ans_table.specs.Findings.{Finding, RowFinding, parts_of, pass_outcome, sauce_of, unread_text}
 use Rattle.ans_table.specs.NameText.{name_text}
-use Rattle.ans_table.specs.Labels.{fault_label, note_label}
+use Rattle.ans_table.specs.Labels.{fault_label, note_label, taller_word, verdict_word}
 use Rattle.ans_model.specs.Text.Words.{part_names}
 
 -- a value and its name
@@ -46,25 +47,30 @@ with_values (v ∷ vs) members = with_values vs (put v.0 v.1 members)
 -- the fault and its offset
 abbrev pub fault_values : Fault → List Named
 fault_values fault =
-    (codes "verdict", string (codes "refused"))
+    (codes "verdict", string (verdict_word outcome.Refused))
     ∷ (codes "fault", string (fault_label fault.cause)) ∷ (codes "at", count fault.offset) ∷ []
 
--- no kinds, and the parts that have to be known for every player to show the same; or the kinds in which players part
--- that a content makes use of
+-- no kinds, and the parts that have to be known for all players to show the same picture; or the kinds in which players
+-- differ that a content uses, and the parts only if the kind is that of its own colours
 abbrev pub players_values : Players → List Named
 players_values (Any class) =
-    (codes "players", text_list []) ∷ (codes "on_every_player", text_list (part_names class)) ∷ []
+    (codes "players", text_list []) ∷ (codes "needs_on_all_players", text_list (part_names class)) ∷ []
 players_values (InNamedColours class times) =
     (codes "players", text_list (kind_word OwnColours ∷ []))
-    ∷ (codes "on_every_player", text_list (part_names class)) ∷ []
+    ∷ (codes "needs_on_all_players", text_list (part_names class)) ∷ []
 players_values (Agreeing used) = (codes "players", text_list (words_used used)) ∷ []
+
+-- that the picture is the same on taller screens, if it is shown to be
+abbrev pub taller_values : Bool → List Named
+taller_values true = (codes "taller_screens", string (taller_word true)) ∷ []
+taller_values false = []
 
 -- what a content needs that passes, on which players it shows its picture, and whether it does on taller screens
 abbrev pub pass_values : PassFinding → List Named
 pass_values said =
-    (codes "verdict", string (codes "pass"))
+    (codes "verdict", string (verdict_word (pass_outcome said.needs)))
     ∷ (codes "needs", text_list (part_names said.needs))
-    ∷ (players_values said.players ++ (codes "taller", boolean said.taller) ∷ [])
+    ∷ (players_values said.players ++ taller_values said.taller)
 
 -- the verdict on a file that was read, and what belongs to it
 abbrev pub found_values : Finding → List Named
@@ -77,9 +83,9 @@ found_values (Passes parts said) = pass_values said
 abbrev pub verdict_values : RowFinding → List Named
 verdict_values (Ok finding) = found_values finding
 verdict_values (Err reason) =
-    (codes "verdict", string (codes "error")) ∷ (codes "fault", string (unread_text reason)) ∷ []
+    (codes "verdict", string (verdict_word outcome.Unread)) ∷ (codes "fault", string (unread_text reason)) ∷ []
 
--- the comments from the i-th on, so many, as they are shown
+-- that many comments from the i-th on, as they are shown
 abbrev pub comments_from : ℕ → ℕ → List ℕ → List (List ℕ)
 comments_from i zero bytes = []
 comments_from i (suc n) bytes = shown_bytes (comment bytes i) ∷ comments_from (i + 1) n bytes
@@ -98,12 +104,12 @@ abbrev pub content_values : Option Parts → List Named
 content_values (Some parts) = parts_values parts
 content_values None = []
 
--- letters of 8 or of 9 pixels, where the flags say which
+-- letters of 8 or of 9 pixels, if the flags say which
 abbrev pub spacing_values : List ℕ → List Named
 spacing_values sauce =
     by_pair (letter_spacing sauce) ((codes "spacing", count 8) ∷ []) ((codes "spacing", count 9) ∷ [])
 
--- pixels to be stretched, or square ones, where the flags say which
+-- pixels to be stretched, or square ones, if the flags say which
 abbrev pub aspect_values : List ℕ → List Named
 aspect_values sauce =
     by_pair (aspect_ratio sauce) ((codes "aspect", string (codes "stretch")) ∷ [])

@@ -1,10 +1,24 @@
--- The labels of faults and notes.
-use Rattle.std.specs.Prelude.{ℕ, List, ◌++◌, map, codes, decimal}
+-- The words and labels of a row: its verdict, taller screens, faults and notes.
+use Rattle.std.specs.Prelude.{ℕ, Bool, true, false, List, [], ◌++◌, map, codes, decimal}
 use Rattle.ans_model.specs.declared.fault.Cause.{Cause}
 use Rattle.ans_model.specs.declared.note.Note.{Note}
 use Rattle.ans_model.specs.Text.FaultText.{cause_number, note_number}
 use Rattle.ans_model.specs.Text.Words.{words_text}
 use Rattle.ans_report.specs.Words.{later_word}
+use Rattle.ans_table.specs.declared.counts.Outcome.{Outcome}
+use Rattle.ans_table.specs.declared.counts.Outcome.TheVariants.{Pass, Cleared, Refused, Unread}
+
+-- the verdict on a file
+abbrev pub verdict_word : Outcome → List ℕ
+verdict_word Pass = codes "pass"
+verdict_word Cleared = codes "cleared"
+verdict_word Refused = codes "refused"
+verdict_word Unread = codes "error"
+
+-- `same` if the picture is shown to be the same on every taller screen, else nothing
+abbrev pub taller_word : Bool → List ℕ
+taller_word true = codes "same"
+taller_word false = []
 
 -- the label of a fault, as `F20`
 abbrev pub fault_label : Cause → List ℕ

@@ -9,10 +9,10 @@ use Rattle.ans_table.specs.NameText.{name_text}
 -- the names of the columns but the last
 abbrev pub column_names : List (List ℕ)
 column_names =
-    codes "verdict" ∷ codes "needs" ∷ codes "players" ∷ codes "on_every_player" ∷ codes "taller" ∷ codes "fault"
-    ∷ codes "at" ∷ codes "row" ∷ codes "column" ∷ codes "width" ∷ codes "lines" ∷ codes "content" ∷ codes "notes"
-    ∷ codes "ice" ∷ codes "spacing" ∷ codes "aspect" ∷ codes "font" ∷ codes "date" ∷ codes "title" ∷ codes "author"
-    ∷ codes "group" ∷ []
+    codes "verdict" ∷ codes "needs" ∷ codes "players" ∷ codes "needs_on_all_players"
+    ∷ codes "taller_screens" ∷ codes "fault" ∷ codes "at" ∷ codes "row" ∷ codes "column" ∷ codes "width" ∷ codes "lines"
+    ∷ codes "content" ∷ codes "notes" ∷ codes "ice" ∷ codes "spacing" ∷ codes "aspect" ∷ codes "font" ∷ codes "date"
+    ∷ codes "title" ∷ codes "author" ∷ codes "group" ∷ []
 
 -- the line of the columns' names
 abbrev pub header_line : List ℕ

@@ -9,8 +9,9 @@ ghost use Rattle.ans_table.specs.Columns.{fault_columns, field_columns, flag_col
 ghost use Rattle.ans_table.specs.Columns.{parts_columns, players_columns, record_columns, stated_columns};
 ghost use Rattle.ans_table.specs.Columns.{verdict_columns};
 
+use crate::counts::Outcome;
 use crate::finding::{Finding, PassFinding, RowFinding};
-use crate::labels::put_labels;
+use crate::labels::{put_labels, taller_word, verdict_word};
 use ans_kinds::Players;
 use ans_model::fault::Fault;
 use ans_players::difference::Difference;
@@ -46,7 +47,7 @@ fn put_players<W: Write>(out: &mut Outbox<'_, W>, players: &Players)
 {
     match players {
         Players::Any(class) => {
-            out.put(b"any\t");
+            out.put(b"all\t");
             put_needed_parts(out, *class);
             out.put(b"\t");
         }
@@ -65,11 +66,11 @@ fn put_players<W: Write>(out: &mut Outbox<'_, W>, players: &Players)
 fn put_pass<W: Write>(out: &mut Outbox<'_, W>, said: &PassFinding)
     ensures { Puts W.contents out.old out.new (pass_columns said.now) }
 {
-    out.put(b"pass\t");
+    put_column(out, verdict_word(Outcome::of_pass(&said.needs)).as_bytes());
     put_needed_parts(out, said.needs);
     out.put(b"\t");
     put_players(out, &said.players);
-    put_column(out, answer_text(said.taller));
+    put_column(out, taller_word(said.taller).as_bytes());
     out.put(b"\t\t\t\t");
 }
 
@@ -139,7 +140,7 @@ pub(crate) fn put_content<W: Write>(out: &mut Outbox<'_, W>, parts: Option<&Part
     }
 }
 
-/// What a pair of bits of the flags says: nothing where it is 0 or 3.
+/// What a pair of bits of the flags says: nothing if it is 0 or 3.
 fn pair_text(pair: u8, one: &'static [u8], two: &'static [u8]) -> &'static [u8]
     ensures { result.now ≡ by_pair pair one.now two.now }
 {

@@ -1,4 +1,4 @@
-//! What a row tells of a file.
+//! What a row says of a file.
 
 ghost use Rattle.std.specs.Prelude.{◌≡◌, ◌≤◌, length, option_map};
 ghost use Rattle.std.specs.Option.{option_copied};
@@ -9,8 +9,9 @@ ghost use Rattle.ans_sauce.specs.Parts.{content_of, size_of};
 ghost use Rattle.ans_sauce.specs.RecordBytes.{sauce_bytes};
 ghost use Rattle.ans_sauce.specs.Judged.{IsRecordFault};
 ghost use Rattle.ans_model.specs.Verdict.LastFault.{IsDeserved};
-ghost use Rattle.ans_table.specs.Findings.{IsFaultFinding, IsPassFinding, IsRecordFinding, outcome_of, parts_of};
-ghost use Rattle.ans_table.specs.Findings.{sauce_in, sauce_of, unread_text};
+ghost use Rattle.ans_table.specs.Findings.{IsFaultFinding, IsPassFinding, IsRecordFinding, has_needs};
+ghost use Rattle.ans_table.specs.Findings.{outcome_in, outcome_of, parts_of, pass_outcome, sauce_in, sauce_of};
+ghost use Rattle.ans_table.specs.Findings.{unread_text};
 
 use crate::counts::Outcome;
 use ans_kinds::{Players, Reach};
@@ -49,21 +50,21 @@ impl Unread {
     }
 }
 
-/// What a row tells of a file that was read.
+/// What a row says of a file that was read.
 pub type Finding<'a> = Judged<'a, RecordFinding<'a>, FaultFinding, PassFinding>;
 
-/// What a row tells of a file: what is found of it, or why it was not read.
+/// What a row says of a file: what is found of it, or why it was not read.
 pub type RowFinding<'a> = Result<Finding<'a>, Unread>;
 
-/// What a row tells of a record or a layout that is refused: its fault, and the record but for F1.
+/// What a row says of a record or a layout that is refused: its fault, and the record, except for F1.
 #[derive(Debug, Clone, Copy)]
 pub struct RecordFinding<'a> {
     pub fault: Fault,
     pub sauce: Option<Record<'a>>,
 }
 
-/// What a row tells of a content that is refused from the cleared start: its fault, and the row and the
-/// column, counted from 1, in which the cursor stands before it.
+/// What a row says of a content that is refused from the cleared start: its fault, and the row and the
+/// column, counted from 1, in which the cursor is before it.
 #[derive(Debug, Clone, Copy, PartialEq, Eq)]
 pub struct FaultFinding {
     pub fault: Fault,
@@ -71,7 +72,7 @@ pub struct FaultFinding {
     pub column: usize,
 }
 
-/// What a row tells of a content that passes from the cleared start: the least class of starts from
+/// What a row says of a content that passes from the cleared start: the least class of starts from
 /// which it does, on which players it shows its picture, and whether it does on every taller screen.
 #[derive(Debug, Clone, Copy, PartialEq, Eq)]
 pub struct PassFinding {
@@ -129,7 +130,7 @@ impl PassFinding {
     }
 }
 
-/// The parts of a file that was read, but where its record or its layout is refused.
+/// The parts of a file that was read, unless its record or its layout is refused.
 pub(crate) fn parts_of<'f, 'a>(finding: &'f RowFinding<'a>) -> Option<&'f Parts<'a>>
     ensures { option_copied result ≡ parts_of finding.now }
 {
@@ -148,7 +149,7 @@ fn sauce_in<'a>(finding: &Finding<'a>) -> Option<Record<'a>>
     }
 }
 
-/// The record of the file, where one was read.
+/// The record of the file, if one was read.
 pub(crate) fn sauce_of<'a>(finding: &RowFinding<'a>) -> Option<Record<'a>>
     ensures { option_map sauce_bytes result ≡ sauce_of finding.now }
 {
@@ -158,18 +159,40 @@ pub(crate) fn sauce_of<'a>(finding: &RowFinding<'a>) -> Option<Record<'a>>
     }
 }
 
+fn has_needs(needs: &Start) -> bool
+    ensures { result ≡ has_needs needs.now }
+{
+    needs.screen || needs.cursor || needs.saved || needs.colours || needs.wrap
+}
+
 impl Outcome {
-    /// How the file of a row comes out, by which files are counted.
+    /// Of a content that passes from the cleared start and needs these parts of it.
+    pub fn of_pass(needs: &Start) -> Outcome
+        ensures { result ≡ pass_outcome needs.now }
+    {
+        if has_needs(needs) {
+            Outcome::Cleared
+        } else {
+            Outcome::Pass
+        }
+    }
+
+    fn of_read(finding: &Finding<'_>) -> Outcome
+        ensures { result ≡ outcome_in finding.now }
+    {
+        match finding {
+            Judged::NoContent(_) | Judged::Refused(_, _) => Outcome::Refused,
+            Judged::Passes(_, said) => Outcome::of_pass(&said.needs),
+        }
+    }
+
+    /// Of the file of a row.
     pub fn of(finding: &RowFinding<'_>) -> Outcome
         ensures { result ≡ outcome_of finding.now }
     {
-        let Ok(finding) = finding else {
-            return Outcome::Unread;
-        };
-        if finding.is_pass() {
-            Outcome::Pass
-        } else {
-            Outcome::Refused
+        match finding {
+            Ok(finding) => Outcome::of_read(finding),
+            Err(_) => Outcome::Unread,
         }
     }
 }

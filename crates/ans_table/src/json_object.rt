@@ -10,13 +10,15 @@ ghost use Rattle.ans_sauce.specs.RecordBytes.{sauce_bytes};
 ghost use Rattle.ans_table.specs.JsonRow.{Adds, aspect_values, comment_texts, content_values, count};
 ghost use Rattle.ans_table.specs.JsonRow.{fault_values, field_values, flag_values, found_values, json_text};
 ghost use Rattle.ans_table.specs.JsonRow.{parts_values, pass_values, players_values};
-ghost use Rattle.ans_table.specs.JsonRow.{record_values, row_data, size_values, spacing_values, text_list};
-ghost use Rattle.ans_table.specs.JsonRow.{verdict_values};
+ghost use Rattle.ans_table.specs.JsonRow.{record_values, row_data, size_values, spacing_values, taller_values};
+ghost use Rattle.ans_table.specs.JsonRow.{text_list, verdict_values};
 ghost use Rattle.ans_table.specs.NameText.{name_text};
 ghost use Rattle.ans_table.specs.Labels.{fault_label, note_label};
 ghost use Rattle.ans_model.specs.Text.Words.{texts_of, part_names};
 
+use crate::counts::Outcome;
 use crate::finding::{Finding, PassFinding, RowFinding, parts_of, sauce_of};
+use crate::labels::{taller_word, verdict_word};
 use crate::name_text::put_name;
 use ans_kinds::Players;
 use ans_model::fault::{Cause, Fault};
@@ -31,7 +33,7 @@ use std::alloc::{AllocError, Global};
 /// The members of an object.
 type Members = Map<String, Value>;
 
-/// What adding to an object gives: `Err` where memory is refused.
+/// What adding to an object gives: `Err` if memory is refused.
 type Added = Result<(), AllocError>;
 
 /// The characters of bytes.
@@ -142,7 +144,7 @@ fn put_players(members: &mut Members, alloc: Global, players: &Players) -> Added
             put(
                 members,
                 alloc,
-                "on_every_player",
+                "needs_on_all_players",
                 known_value(alloc, *class)?,
             )
         }
@@ -152,7 +154,7 @@ fn put_players(members: &mut Members, alloc: Global, players: &Players) -> Added
             put(
                 members,
                 alloc,
-                "on_every_player",
+                "needs_on_all_players",
                 known_value(alloc, *class)?,
             )
         }
@@ -163,13 +165,23 @@ fn put_players(members: &mut Members, alloc: Global, players: &Players) -> Added
     }
 }
 
+fn put_taller(members: &mut Members, alloc: Global, same: bool) -> Added
+    ensures { Adds members.old.entries members.new.entries result (taller_values same) }
+{
+    if same {
+        return put_text(members, alloc, "taller_screens", taller_word(true));
+    }
+    Ok(())
+}
+
 fn put_pass(members: &mut Members, alloc: Global, said: &PassFinding) -> Added
     ensures { Adds members.old.entries members.new.entries result (pass_values said.now) }
 {
-    put_text(members, alloc, "verdict", "pass")?;
+    let verdict = verdict_word(Outcome::of_pass(&said.needs));
+    put_text(members, alloc, "verdict", verdict)?;
     put(members, alloc, "needs", known_value(alloc, said.needs)?)?;
     put_players(members, alloc, &said.players)?;
-    put(members, alloc, "taller", Value::Bool(said.taller))
+    put_taller(members, alloc, said.taller)
 }
 
 fn put_found(members: &mut Members, alloc: Global, finding: &Finding<'_>) -> Added
@@ -268,7 +280,7 @@ fn put_fields(members: &mut Members, alloc: Global, sauce: &Record<'_>) -> Added
     put(members, alloc, "group", shown_value(alloc, sauce.group())?)
 }
 
-/// The members of the record, where there is one.
+/// The members of the record, if there is one.
 fn put_record(members: &mut Members, alloc: Global, sauce: Option<Record<'_>>) -> Added
     ensures { Adds members.old.entries members.new.entries result (record_values (option_map sauce_bytes sauce.entry)) }
 {
@@ -294,9 +306,9 @@ fn row_value(alloc: Global, name: &[u8], finding: &RowFinding<'_>) -> Result<Val
 }
 
 /// The row of a file of this name as a JSON object, in one line without its line feed: what is absent
-/// is left out, and the names stand in the order of their bytes.
+/// is left out, and the names are in the order of their bytes.
 ///
-/// `Err` comes where memory for it is refused.
+/// `Err` comes if memory for it is refused.
 pub fn json_row(alloc: Global, name: &[u8], finding: &RowFinding<'_>) -> Result<String, AllocError>
     ensures text { IfOk result (λ s. string_bytes s ≡ json_text name.now finding.now) }
     ensures reads_back { IfOk result (λ s. read (string_bytes s) ≡ Some (row_data name.now finding.now)) }

@@ -1,14 +1,35 @@
-//! The labels of notes.
+//! The words and labels of a row: its verdict, taller screens, and notes.
 
+ghost use Rattle.std.specs.Prelude.{◌≡◌};
 ghost use Rattle.std.specs.List.{flat_map};
 ghost use Rattle.ans_write.specs.Puts.{Puts};
-ghost use Rattle.ans_table.specs.Labels.{labels_text, later_label, note_label};
+ghost use Rattle.ans_table.specs.Labels.{labels_text, later_label, note_label, taller_word, verdict_word};
 
+use crate::counts::Outcome;
 use ans_model::note::Note;
 use ans_write::Outbox;
 use std::io::Write;
 
-/// Puts the label of a note, as `N1`.
+/// The verdict on a file.
+pub(crate) fn verdict_word(outcome: Outcome) -> &'static str
+    ensures { result.now ≡ verdict_word outcome }
+{
+    match outcome {
+        Outcome::Pass => "pass",
+        Outcome::Cleared => "cleared",
+        Outcome::Refused => "refused",
+        Outcome::Unread => "error",
+    }
+}
+
+/// `same` if the picture is shown to be the same on every taller screen, else nothing.
+pub(crate) fn taller_word(same: bool) -> &'static str
+    ensures { result.now ≡ taller_word same }
+{
+    if same { "same" } else { "" }
+}
+
+/// Puts the label of a note, such as `N1`.
 fn put_label<W: Write>(out: &mut Outbox<'_, W>, note: Note)
     ensures { Puts W.contents out.old out.new (note_label note) }
 {

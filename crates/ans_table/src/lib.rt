@@ -1,12 +1,14 @@
 //! The rows of a table: one for each of many files.
 //!
-//! A [`Finding`] is what a row tells of a file that was read: that it passes from the cleared start,
+//! A [`Finding`] is what a row says of a file that was read: that it passes from the cleared start,
 //! what it needs, and on which players it shows its picture; or that it is refused, and where. Of
-//! another file a row tells why it was not read ([`Unread`]). [`put_row`] puts the row of a named file,
-//! [`put_header`] the line of the columns' names, and [`put_counts`] how many files passed. Which
-//! finding is true of a file stands in `specs/Findings.antt`, a row in `specs/RowText.antt`, and how a
-//! name is shown in `specs/NameText.antt`. [`json_row`] gives the row as a JSON object instead, by
-//! `specs/JsonRow.antt`.
+//! another file a row says why it was not read ([`Unread`]). The [`Outcome`] of a file is its verdict:
+//! it passes, passes on a cleared screen, is refused, or was not read.
+//!
+//! [`put_row`] puts the row of a named file, [`put_header`] the line of the columns' names, and
+//! [`put_counts`] how many files have each outcome. `specs/Findings.antt` says which finding is true of
+//! a file, `specs/RowText.antt` what a row is, and `specs/NameText.antt` how a name is shown.
+//! [`json_row`] gives the row as a JSON object instead, by `specs/JsonRow.antt`.
 #![tactic(auto)]
 
 mod columns;
@@ -20,4 +22,5 @@ mod row_text;
 pub use counts::{Counts, Outcome, put_counts};
 pub use finding::{FaultFinding, Finding, PassFinding, RecordFinding, RowFinding, Unread};
 pub use json_object::json_row;
+pub use name_text::put_name;
 pub use row_text::{put_header, put_line, put_row};

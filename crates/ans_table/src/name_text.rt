@@ -51,7 +51,7 @@ fn is_shown(character: char) -> bool
     character > '\u{9F}' && !turns_or_hides(character)
 }
 
-/// The length of the character that the bytes begin with, where it is shown as itself; else 0.
+/// The length of the character that the bytes begin with, if it is shown as itself; else 0.
 fn wide_size(bytes: &[u8]) -> usize
     ensures { result ≡ wide_size bytes.now }
 {
@@ -61,8 +61,8 @@ fn wide_size(bytes: &[u8]) -> usize
     }
 }
 
-/// Puts what shows the first byte of a name's rest, of which so many bytes are yet to be copied as
-/// they are. Returns how many of those behind it are.
+/// Puts what shows the first byte of a name's rest, of which that many bytes are yet to be copied as
+/// they are. Returns how many of those after it are.
 fn put_first<W: Write>(out: &mut Outbox<'_, W>, rest: &[u8], copied: usize) -> usize
     requires { 0 < length rest.now }
     ensures shown { (text : List ℕ) × Puts W.contents out.old out.new text
@@ -90,7 +90,7 @@ fn put_first<W: Write>(out: &mut Outbox<'_, W>, rest: &[u8], copied: usize) -> u
 /// Puts the name of a file: a tab, a line end and a backslash by their escapes, and each other control
 /// character, each character that turns or hides text, and what is not UTF-8, by its bytes in hexadecimal
 /// digits. What is put is UTF-8.
-pub(crate) fn put_name<W: Write>(out: &mut Outbox<'_, W>, name: &[u8])
+pub fn put_name<W: Write>(out: &mut Outbox<'_, W>, name: &[u8])
     ensures puts { Puts W.contents out.old out.new (name_text name.now) }
     ensures utf8 { IsUtf8 (name_text name.now) }
 {

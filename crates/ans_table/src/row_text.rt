@@ -14,8 +14,8 @@ use std::io::Write;
 
 /// The columns' names.
 const HEADER: &[u8] =
-    b"verdict\tneeds\tplayers\ton_every_player\ttaller\tfault\tat\trow\tcolumn\twidth\tlines\tcontent\tnotes\t\
-    ice\tspacing\taspect\tfont\tdate\ttitle\tauthor\tgroup\tfile\n";
+    b"verdict\tneeds\tplayers\tneeds_on_all_players\ttaller_screens\tfault\tat\trow\tcolumn\twidth\tlines\t\
+    content\tnotes\tice\tspacing\taspect\tfont\tdate\ttitle\tauthor\tgroup\tfile\n";
 
 /// Puts the row of a file of this name: its columns with a tab after each, and then the name, whose
 /// text is UTF-8 whatever the name is.
@@ -39,7 +39,7 @@ pub fn put_header<W: Write>(out: &mut Outbox<'_, W>)
     out.put(HEADER);
 }
 
-/// Puts a text, as that of a [`json_row`](crate::json_row), and a line feed behind it.
+/// Puts a text, such as that of a [`json_row`](crate::json_row), and a line feed after it.
 pub fn put_line<W: Write>(out: &mut Outbox<'_, W>, text: &[u8])
     ensures { Puts W.contents out.old out.new (line_of text.now) }
 {

@@ -3,18 +3,16 @@ use Rattle.std.proofs.Common.{◌≡◌, ℕ, ◌<◌, List, [], ◌∷◌, ◌+
 use Rattle.std.proofs.Common.{refl, arith, append_assoc}
 use Rattle.ans_model.specs.Text.Characters.{shown_bytes}
 use Rattle.ans_model.specs.Text.RecordText.{named_line}
-use Rattle.ans_why.specs.WhyText.{quoted, bytes_line}
-
--- a line with its key in one piece
-pub keyed_line_is : (key name text : List ℕ) → key ≡ name ++ codes ": "
-    → key ++ (text ++ codes "\n") ≡ named_line name text
-keyed_line_is key name text e = rw e (simp append_assoc)
+use Rattle.ans_why.specs.WhyText.{quoted, blamed_text}
 
 -- ---- the bytes to blame
-pub bytes_line_is : (bytes : List ℕ) → 0 < length bytes
-    → codes "bytes: " ++ (quoted bytes ++ codes "\n") ≡ bytes_line bytes
-bytes_line_is [] some = absurd (omega (arith, some))
-bytes_line_is (byte ∷ more) some = keyed_line_is (codes "bytes: ") (codes "bytes") (quoted (byte ∷ more)) refl
+pub blamed_text_is : (bytes : List ℕ) → 0 < length bytes → codes ": " ++ quoted bytes ≡ blamed_text bytes
+blamed_text_is [] some = absurd (omega (arith, some))
+blamed_text_is (byte ∷ more) some = refl
+
+pub blamed_line_is : (name fault blamed : List ℕ)
+    → name ++ (codes ": " ++ (fault ++ (blamed ++ codes "\n"))) ≡ named_line name (fault ++ blamed)
+blamed_line_is name fault blamed = simp append_assoc
 
 -- ---- the number of lines
 pub lines_line_is : (number torn : List ℕ) → codes "lines: " ++ (number ++ (torn ++ codes "\n"))
@@ -30,11 +28,11 @@ pub found_count : (count what : List ℕ) → codes "found: " ++ (count ++ (what
     ≡ named_line (codes "found") (count ++ what)
 found_count count what = simp append_assoc
 
-pub found_record : (offset behind : List ℕ)
-    → codes "found: a record at " ++ (offset ++ (codes ", and " ++ (behind ++ codes " behind it\n")))
+pub found_record : (offset after : List ℕ)
+    → codes "found: a record at " ++ (offset ++ (codes ", and " ++ (after ++ codes " after it\n")))
     ≡ named_line (codes "found")
-    (codes "a record at " ++ (offset ++ (codes ", and " ++ (behind ++ codes " behind it"))))
-found_record offset behind = simp append_assoc
+    (codes "a record at " ++ (offset ++ (codes ", and " ++ (after ++ codes " after it"))))
+found_record offset after = simp append_assoc
 
 pub found_kind : (kind subkind : List ℕ)
     → (codes "found: data type " ++ (kind ++ (codes ", file type " ++ subkind))) ++ codes "\n"

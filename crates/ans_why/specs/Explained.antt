@@ -1,4 +1,4 @@
--- What is said of a file is true of it.
+-- What is said about a file is true.
 use Rattle.std.specs.Prelude.{◌≡◌, ◌≢◌, ◌⊎◌, ℕ, ◌+◌, ◌≤◌, ◌↔◌, Bool, true, IsTrue, List, [], length, take}
 use Rattle.std.specs.Prelude.{drop, Option, Some, None, IfSome, IfNone, MatchOption}
 use Rattle.ans_model.specs.Bytes.{longest_file, most_lines}
@@ -58,7 +58,7 @@ IsShown z class content fault (Cursors low high) =
     ShowsNamed z class content fault.cause None × ShowsPlaces z class content fault low high
 IsShown z class content fault (Cells low high) = ShowsNamed z class content fault.cause (Some (low, high))
 
--- the hints of bytes that are read as tokens, before the bytes behind them
+-- the hints of bytes that are read as tokens, before the bytes after them
 abbrev pub AreHintsOf : Size → Bool → List ℕ → List ℕ → Hints → Type 0
 AreHintsOf z flag bytes behind hints =
     (tokens : List TokenKind) (texts : List (List ℕ)) → ReadsAs bytes tokens texts
@@ -81,34 +81,34 @@ pub record IsPass (file_length : ℕ) (sauce content : List ℕ) (pass : Pass) :
       × IsReliance (stated_size sauce) file_length content r)
   pub hints : AreHintsOf (stated_size sauce) (is_non_blink sauce) content [] pass.hints
 
--- F19 to F21, of which more lines may rid a content
+-- F19 to F21, which may go away on more lines
 abbrev pub IsOfLines : Cause → Type 0
 IsOfLines cause = (cause ≡ OutsideScreen) ⊎ (cause ≡ PrintBelow) ⊎ (cause ≡ Scrolls)
 
--- F9 to F14, where the reading refuses the sequence itself
+-- F9 to F14: the reading refuses the sequence itself
 abbrev pub IsOfReading : Cause → Type 0
 IsOfReading cause =
     (cause ≡ BrokenSequence) ⊎ (cause ≡ NumberTooLarge) ⊎ (cause ≡ TooManyParameters) ⊎ (cause ≡ EndInSequence)
     ⊎ (cause ≡ UnknownSequence) ⊎ (cause ≡ WrongParameters)
 
--- the least number of lines that is enough, for a fault of which they may rid the content; and none where none is
+-- the least number of lines that is enough, for a fault that may go away on more lines; and none if none is
 pub record AreLines (width : ℕ) (content : List ℕ) (cause : Cause) (lines : Option ℕ) : Type 0 where
   pub least : IfSome lines (λ n. IsOfLines cause × (n ≤ most_lines) × IsLeastLines width content n)
   pub none : IfNone lines (IsOfLines cause → (n : ℕ) → n ≤ most_lines → ¬ IsGoodOn width content n)
 
--- where the tokens that hints count end: at the token to blame with its bytes, or before what the reading refuses
+-- where the tokens end that hints count: after the token to blame, or before what the reading refuses
 pub record EndsHints (fault : Fault) (bytes : List ℕ) (end : ℕ) : Type 0 where
   pub reading : IsOfReading fault.cause → end ≡ fault.offset
   pub token : ¬ IsOfReading fault.cause → end ≡ fault.offset + length bytes
 
--- the hints of the tokens up to where they end, before the bytes behind them
+-- the hints of the tokens up to where they end, before the bytes after them
 pub record AreFrontHints (z : Size) (flag : Bool) (content : List ℕ) (fault : Fault) (bytes : List ℕ)
     (hints : Hints) : Type 0 where
   pub end : ℕ
   pub ends : EndsHints fault bytes end
   pub hints_are : AreHintsOf z flag (take end content) (drop end content) hints
 
--- The hints of a refused content: where so many lines are enough, those of all of it on as many.
+-- The hints of a refused content: if this many lines are enough, those of all of it on that many.
 abbrev pub AreRefusalHints : List ℕ → List ℕ → Fault → List ℕ → Option ℕ → Hints → Type 0
 AreRefusalHints sauce content fault bytes lines hints = MatchOption lines
     (AreFrontHints (stated_size sauce) (is_non_blink sauce) content fault bytes hints)
@@ -123,8 +123,8 @@ pub record IsRefusal (sauce content : List ℕ) (r : Refusal) : Type 0 where
   pub known : r.known ≡ known_sequence r.fault.cause (drop r.fault.offset content)
   pub hints : AreRefusalHints sauce content r.fault r.bytes.now r.lines r.hints
 
--- So many lines are enough for the file, which lacks nothing but that number: its content is good with as many, and
--- with no fewer. The hints are those of all of it on as many lines.
+-- This many lines are enough for the file, which lacks only that number: its content is good with that many, and with
+-- no fewer. The hints are those of all of it on that many lines.
 pub record IsEnough (file : List ℕ) (e : Enough) : Type 0 where
   pub lacks : lacks_lines_alone file ≡ true
   pub least : IsLeastLines (stated_width (record_in file)) (content (body_in file)) e.lines
@@ -133,23 +133,23 @@ pub record IsEnough (file : List ℕ) (e : Enough) : Type 0 where
       (content (body_in file)) [] e.hints
   pub font : e.font.now ≡ trimmed (font_field (record_in file))
 
--- No number of lines is said of another fault, nor of a file that lacks more; and none where none is enough.
+-- No number of lines is said for another fault, nor for a file that lacks more; and none if none is enough.
 pub record IsSaidOfLines (file : List ℕ) (cause : Cause) (said : Option Enough) : Type 0 where
   pub some : IfSome said (λ e. (cause ≡ LinesUnstated) × IsEnough file e)
   pub none : IfNone said (cause ≡ LinesUnstated → lacks_lines_alone file ≡ true
       → IsNeverGood (stated_width (record_in file)) (content (body_in file)) most_lines)
 
--- what is said of a record or a layout that is refused is true of the file
+-- what is said about a record or a layout that is refused is true of the file
 pub record IsRecordRefusal (file : List ℕ) (said : RecordRefusal) : Type 0 where
   pub refused : IsRecordFault file said.fault
   pub found : IsFound file said.found said.fault.cause
   pub enough : IsSaidOfLines file said.fault.cause said.enough
 
--- what is said of a file
+-- what is said about a file
 abbrev pub Why : Type 0
 Why = Judged RecordRefusal Refusal Pass
 
--- what is said of the file is true of it
+-- what is said about the file is true
 abbrev pub IsTrueOf : List ℕ → Why → Type 0
 IsTrueOf file why = IsJudged (IsRecordRefusal file) (λ parts. IsRefusal (record_of parts) (content_of parts))
     (λ parts. IsPass (length file) (record_of parts) (content_of parts)) file why

@@ -24,7 +24,7 @@ known_form bytes =
     else if begins_with_form DOS_MODE bytes then Some DosMode
     else None
 
--- a content's bytes from the place on at which it is refused
+-- a content's bytes, from the offset at which it is refused
 abbrev pub known_sequence : Cause → List ℕ → Option Known
 known_sequence KeyReassigned bytes = Some ReassignedKey
 known_sequence _ bytes = known_form bytes
@@ -37,13 +37,13 @@ abbrev pub is_comment_block : List ℕ → Bool
 is_comment_block bytes =
     starts_with nat_eq bytes (codes "COMNT") && nat_lt 5 (length bytes) && (length bytes - 5) % 64 == 0
 
--- They begin neither as comments do nor as a record does, and print something.
+-- They begin neither like comments nor like a record, and print something.
 abbrev pub may_be_drawing : List ℕ → Bool
 may_be_drawing bytes =
     not (starts_with nat_eq bytes (codes "COMNT")) && not (starts_with nat_eq bytes (codes "SAUCE"))
     && list_any (λ b. nat_lt 0x20 b) bytes
 
--- the bytes behind the first end mark, among which a record stands or not
+-- the bytes after the first end mark, which hold a record or not
 abbrev pub known_behind_end_mark : Bool → List ℕ → Option Known
 known_behind_end_mark true bytes = Some OlderRecord
 known_behind_end_mark false bytes =

@@ -3,25 +3,28 @@ use Rattle.std.specs.Prelude.{◌≡◌, ℕ, Bool, true, false, List, [], ◌�
 use Rattle.std.specs.Prelude.{Option, Some, None, is_some, if◌then◌else◌}
 use Rattle.std.specs.List.{flat_map}
 use Rattle.ans_model.specs.declared.cell.Cell.{Cell}
+use Rattle.ans_model.specs.declared.fault.Fault.{Fault}
+use Rattle.ans_model.specs.declared.start.Start.{Start}
 use Rattle.ans_model.specs.File.Record.{font_field, trimmed}
+use Rattle.ans_model.specs.Screen.StartClass.{none_known}
 use Rattle.ans_model.specs.Text.Characters.{shown_bytes}
 use Rattle.ans_model.specs.Text.Hexadecimal.{hex_byte}
-use Rattle.ans_model.specs.Text.FaultText.{line_of, fault_line, note_line}
+use Rattle.ans_model.specs.Text.FaultText.{note_line}
 use Rattle.ans_model.specs.Text.NeedsText.{needed_parts}
-use Rattle.ans_model.specs.Text.Words.{answer_text}
 use Rattle.ans_model.specs.Text.RecordText.{named_line}
-use Rattle.ans_model.specs.Text.ReportText.{size_text, refusal_text}
+use Rattle.ans_model.specs.Text.ReportText.{size_text}
 use Rattle.ans_sauce.specs.declared.found.Found.{Found}
 use Rattle.ans_sauce.specs.declared.found.Found.TheVariants as found
 use Rattle.ans_sauce.specs.declared.parts.Parts.{Parts}
 use Rattle.ans_sauce.specs.Parts.{notes_of, record_of, size_of}
 pub use Rattle.ans_report.specs.Counted.{counted_text}
+use Rattle.ans_report.specs.FaultTold.{fault_told}
 pub use Rattle.ans_report.specs.Quoted.{quoted, quoted_byte}
 use Rattle.ans_hints.specs.Hints.{are_torn}
 use Rattle.ans_hints.specs.declared.hints.Hints.{Hints}
 use Rattle.ans_why.specs.HintsText.{hints_text}
 use Rattle.ans_why.specs.Known.{known_behind_end_mark, known_text}
-use Rattle.ans_why.specs.PlayersText.{players_lines}
+use Rattle.ans_why.specs.PlayersText.{is_same_class, players_lines}
 use Rattle.ans_sauce.specs.Judged.{is_pass}
 use Rattle.ans_sauce.specs.declared.judged.Judged.TheVariants.{NoContent, Refused, Passes}
 use Rattle.ans_why.specs.Explained.{IsTrueOf, Why}
@@ -34,10 +37,19 @@ use Rattle.ans_why.specs.declared.why.Reliance.{Reliance}
 use Rattle.ans_why.specs.declared.why.Shown.{Shown}
 use Rattle.ans_why.specs.declared.why.Shown.TheVariants.{Cursors, Cells}
 
--- the line of the bytes to blame, where there are some
-abbrev pub bytes_line : List ℕ → List ℕ
-bytes_line [] = []
-bytes_line (byte ∷ more) = named_line (codes "bytes") (quoted (byte ∷ more))
+-- the bytes to blame, after a fault; nothing if there are none
+abbrev pub blamed_text : List ℕ → List ℕ
+blamed_text [] = []
+blamed_text (byte ∷ more) = codes ": " ++ quoted (byte ∷ more)
+
+-- a line of this name: a fault, and the bytes to blame for it
+abbrev pub blamed_line : List ℕ → Fault → List ℕ → List ℕ
+blamed_line name fault bytes = named_line name (fault_told fault ++ blamed_text bytes)
+
+-- the verdict of a refusal, its fault, and the bytes to blame
+abbrev pub fault_lines : Fault → List ℕ → List ℕ
+fault_lines fault bytes =
+    named_line (codes "verdict") (codes "refused") ++ blamed_line (codes "fault") fault bytes
 
 -- a row and a column
 abbrev pub place_text : Place → List ℕ
@@ -47,45 +59,58 @@ place_text p = codes "row " ++ (decimal p.row ++ (codes ", column " ++ decimal p
 abbrev pub cell_text : Cell → List ℕ
 cell_text c = codes "byte " ++ (hex_byte c.byte ++ (codes ", attribute " ++ hex_byte c.attribute))
 
--- the lines of what the two plays show
+-- The lines of what the two plays show. They are those from the low and the high one of all starts, which begin with
+-- the cursor at the top left, and at the bottom right in the row below the last line.
 abbrev pub shown_lines : Shown → List ℕ
 shown_lines (Cursors low high) =
-    named_line (codes "low start") (place_text low) ++ named_line (codes "high start") (place_text high)
+    named_line (codes "from the top left") (place_text low)
+    ++ named_line (codes "from the bottom right") (place_text high)
 shown_lines (Cells low high) =
-    named_line (codes "low start") (cell_text low) ++ named_line (codes "high start") (cell_text high)
-
--- the bytes that mend a drawing
-abbrev pub mend_line : Bool → List ℕ
-mend_line true = named_line (codes "mend") (codes "begin with ESC[?7h ESC[0;37;40m ESC[2J ESC[H ESC[s")
-mend_line false = []
+    named_line (codes "from the top left") (cell_text low)
+    ++ named_line (codes "from the bottom right") (cell_text high)
 
 -- the lines of what a content relies on
 abbrev pub reliance_lines : Option Reliance → List ℕ
 reliance_lines None = []
-reliance_lines (Some r) = fault_line r.fault ++ (bytes_line r.bytes.now ++ (shown_lines r.shown ++ mend_line r.mends))
+reliance_lines (Some r) = blamed_line (codes "because") r.fault r.bytes.now ++ shown_lines r.shown
+
+-- the command that makes it rely on nothing
+abbrev pub fix_line : Bool → List ℕ
+fix_line true = named_line (codes "fix") (codes "anscheck mend")
+fix_line false = []
+
+-- something is relied on, and the file has room for the bytes that mend it
+abbrev pub is_fixed : Option Reliance → Bool
+is_fixed None = false
+is_fixed (Some r) = r.mends
 
 -- what the bytes are known as
 abbrev pub known_line : Option Known → List ℕ
 known_line None = []
 known_line (Some known) = named_line (codes "is") (known_text known)
 
--- the number of lines that is enough; where the rows are torn, for the drawing as it is
+-- what comes after the number of lines if the rows are torn
+abbrev pub torn_text : Bool → List ℕ
+torn_text true = codes ", but the rows look broken"
+torn_text false = []
+
+-- the number of lines that is enough
 abbrev pub lines_line : Option ℕ → Bool → List ℕ
 lines_line None torn = []
-lines_line (Some n) torn = named_line (codes "lines") (decimal n ++ (if torn then codes " as it is" else []))
+lines_line (Some n) torn = named_line (codes "lines") (decimal n ++ torn_text torn)
 
 -- what follows the end mark
 abbrev pub after_end_mark_text : Bool → List ℕ
 after_end_mark_text true = codes " after the end mark, with an older record"
 after_end_mark_text false = codes " after the end mark, without a record"
 
--- the line of what is found where a record or a layout is refused
+-- the line of what is found if a record or a layout is refused
 abbrev pub found_line : Found → List ℕ
 found_line found.NoRecord = []
-found_line (found.Record offset behind) =
+found_line (found.Record offset after) =
     named_line (codes "found")
     (codes "a record at "
-    ++ (decimal offset ++ (codes ", and " ++ (counted_text behind (codes "byte") ++ codes " behind it"))))
+    ++ (decimal offset ++ (codes ", and " ++ (counted_text after (codes "byte") ++ codes " after it"))))
 found_line (found.Version bytes) = named_line (codes "found") (codes "version " ++ shown_bytes bytes.now)
 found_line (found.Kind kind subkind) =
     named_line (codes "found")
@@ -114,25 +139,35 @@ size_line parts = named_line (codes "size") (size_text (size_of parts))
 abbrev pub font_of : Parts → List ℕ
 font_of parts = trimmed (font_field (record_of parts))
 
+-- the verdict on a content that passes from the cleared start, by the parts that it needs to be known
+abbrev pub verdict_words : Start → List ℕ
+verdict_words needs =
+    if is_same_class needs none_known then codes "pass" else codes "pass on a cleared screen"
+
+-- on taller screens nothing changes; it is not said if something may
+abbrev pub taller_line : Bool → List ℕ
+taller_line true = named_line (codes "taller screens") (codes "same")
+taller_line false = []
+
 abbrev pub pass_lines : Parts → Pass → List ℕ
 pass_lines parts pass =
-    line_of (codes "verdict: pass")
-    ++ (line_of (codes "needs: " ++ needed_parts pass.needs)
+    named_line (codes "verdict") (verdict_words pass.needs)
+    ++ (named_line (codes "needs") (needed_parts pass.needs)
+    ++ (reliance_lines pass.reliance
     ++ (players_lines pass.needs pass.players
-    ++ (named_line (codes "taller") (answer_text pass.taller)
-    ++ (reliance_lines pass.reliance ++ hints_text pass.hints (font_of parts)))))
+    ++ (taller_line pass.taller
+    ++ (fix_line (is_fixed pass.reliance) ++ hints_text pass.hints (font_of parts))))))
 
--- The rows at the end are none to speak of where not all is played.
+-- Empty rows at the end are not spoken of if not all is played.
 abbrev pub told_hints : Refusal → Hints
 told_hints r = if is_some r.lines then r.hints else record r.hints { empty_rows = 0 }
 
 abbrev pub refusal_lines : Parts → Refusal → List ℕ
 refusal_lines parts r =
-    refusal_text r.fault
-    ++ (bytes_line r.bytes.now
+    fault_lines r.fault r.bytes.now
     ++ (known_line r.known
-    ++ (named_line (codes "cleared start") (place_text r.cursor)
-    ++ (hints_text (told_hints r) (font_of parts) ++ lines_line r.lines (are_torn r.hints)))))
+    ++ (named_line (codes "cursor") (place_text r.cursor)
+    ++ (hints_text (told_hints r) (font_of parts) ++ lines_line r.lines (are_torn r.hints))))
 
 -- the size, and what is odd about the record
 abbrev pub heading_lines : Parts → List ℕ
@@ -141,12 +176,12 @@ heading_lines parts = size_line parts ++ flat_map note_line (notes_of parts)
 -- the text
 abbrev pub why_text : Why → List ℕ
 why_text (NoContent said) =
-    refusal_text said.fault
+    fault_lines said.fault []
     ++ (found_line said.found ++ (known_line (known_found said.found) ++ enough_lines said.enough))
 why_text (Refused parts refusal) = heading_lines parts ++ refusal_lines parts refusal
 why_text (Passes parts pass) = heading_lines parts ++ pass_lines parts pass
 
--- What is said is true of the file, and the text says it. The file passes where it passes from the cleared start.
+-- What is said is true of the file, and the text says it. The file passes if it passes from the cleared start.
 pub record ReportsWhy (file : List ℕ) (passed : Bool) (text : List ℕ) : Type 0 where
   pub said : Why
   pub is_true : IsTrueOf file said

@@ -9,7 +9,7 @@ use ans_model::size::Size;
 use ans_model::start::Start;
 use ans_tokens::Scanner;
 
-/// The text that is read first in the bytes.
+/// The text that is read first.
 fn read_first(bytes: &[u8]) -> &[u8]
     requires { length bytes.now ≤ longest_file }
     ensures { IsReadFirst bytes.now result.now }
@@ -27,7 +27,7 @@ fn read_first(bytes: &[u8]) -> &[u8]
 
 /// The bytes to blame for a fault that the content has from the class: those of the token, or those of
 /// the refused sequence up to the byte that decides, or those of the sequence in which the content
-/// ends. F25, a cell that stays unknown, has none.
+/// ends. There are none for F25, a cell that stays unknown.
 pub fn bytes_to_blame(content: &[u8], size: Size, start: Start, fault: Fault) -> &[u8]
     requires length { length content.now ≤ longest_file }
     requires deserved { IsDeserved size start content.now fault }

@@ -72,7 +72,7 @@ fn reliance(size: Size, file_length: usize, content: &[u8], fault: Fault) -> Rel
     }
 }
 
-/// The same, where there is a fault.
+/// The same, if there is a fault.
 fn reliance_of(
     size: Size,
     file_length: usize,
@@ -144,7 +144,7 @@ fn hints_on(width: usize, lines: u16, non_blink: bool, content: &[u8]) -> Hints
     Hints::of(size, non_blink, content, content.len())
 }
 
-/// The number of lines that is enough for a file that lacks nothing but that.
+/// The number of lines that is enough, for a file that lacks only that.
 fn enough(file: &[u8]) -> Option<Enough<'_>>
     requires { length file.now ≤ longest_file }
     ensures some { IfSome result (IsEnough file.now) }
@@ -164,7 +164,7 @@ fn enough(file: &[u8]) -> Option<Enough<'_>>
 }
 
 impl<'a> RecordRefusal<'a> {
-    /// Of a file that is refused for its record or its layout. It takes no memory.
+    /// For a file whose record or layout is refused. It takes no memory.
     pub fn of(file: &'a [u8], fault: Fault) -> RecordRefusal<'a>
         requires length { length file.now ≤ longest_file }
         requires refused { IsRecordFault file.now fault }
@@ -181,7 +181,7 @@ impl<'a> RecordRefusal<'a> {
     }
 }
 
-/// The hints of a refused content: of all of it, where so many lines are enough, and else of its tokens
+/// The hints of a refused content: of all of it, if this many lines are enough, and else of its tokens
 /// up to the one to blame.
 fn refusal_hints(parts: &Parts<'_>, fault: &Fault, bytes: &[u8], lines: Option<u16>) -> Hints
     requires length { length (content_of parts.now) ≤ longest_file }
@@ -199,7 +199,7 @@ fn refusal_hints(parts: &Parts<'_>, fault: &Fault, bytes: &[u8], lines: Option<u
 }
 
 impl<'a> Refusal<'a> {
-    /// Of a content that is refused from the cleared start, for this fault. It takes no memory.
+    /// For a content that is refused from the cleared start, with this fault. It takes no memory.
     pub fn of(parts: &Parts<'a>, fault: Fault) -> Refusal<'a>
         requires length { length (content_of parts.now) ≤ longest_file }
         requires deserved { IsDeserved (size_of parts.now) all_known (content_of parts.now) fault }
@@ -222,8 +222,8 @@ impl<'a> Refusal<'a> {
 }
 
 impl<'a> Pass<'a> {
-    /// Of the content of a file of this length, which passes from the cleared start: it needs this
-    /// class, and where that is not the class of all starts, it has this fault from all starts. It takes
+    /// For the content of a file of this length, which passes from the cleared start: it needs this
+    /// class, and if that is not the class of all starts, it has this fault from all starts. It takes
     /// no memory.
     pub fn of(parts: &Parts<'a>, file_length: usize, needs: Start, fault: Option<Fault>) -> Pass<'a>
         requires length { length (content_of parts.now) ≤ longest_file }

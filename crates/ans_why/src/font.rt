@@ -44,8 +44,8 @@ fn is_of_437(name: &[u8]) -> bool
         || is(name, b"IBM EGA43 437")
 }
 
-/// Whether a font is named, and it is none whose code page is 437. Those are the IBM PC's fonts, alone
-/// or followed by ` 437` (SAUCE 00.5, font names).
+/// Whether a font is named whose code page is not 437. Those of code page 437 are the IBM PC's fonts, by
+/// themselves or followed by ` 437` (SAUCE 00.5, font names).
 pub fn has_other_code_page(name: &[u8]) -> bool
     ensures { result ≡ has_other_code_page name.now }
 {

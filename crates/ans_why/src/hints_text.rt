@@ -1,32 +1,47 @@
 //! The lines of hints.
 
 ghost use Rattle.ans_why.specs.HintsText.{colour_hints, empty_rows_line, font_line, foreign_hints, hints_text};
-ghost use Rattle.ans_why.specs.HintsText.{row_hints, hint_times_line, wider_line};
+ghost use Rattle.ans_why.specs.HintsText.{counted_line, counted_words, row_hints, wider_line};
+ghost use Rattle.ans_why.specs.HintRows.{hint_of, words_of};
 ghost use Rattle.ans_write.specs.Puts.{Puts};
 
 use crate::font::{font_name, has_other_code_page};
+use crate::hint_rows::{
+    BARE_LINE_FEEDS, BLINKING, BOARD_CODES, DARK_GREY, ENDED_ROWS, HintRow, LATIN_LETTERS,
+    MODERN_COLOURS, OVERPRINTS, ROWS_OVER, TWO_BYTE_LETTERS, WIDE_CHARACTERS, Wording,
+};
 use ans_hints::{Hints, WiderRows};
 use ans_pens::Times;
-use ans_report::put_times;
 use ans_write::{Outbox, put_characters};
 use std::io::Write;
 
-fn put_times_line<W: Write>(
-    out: &mut Outbox<'_, W>,
-    what: &[u8],
-    times: Option<Times>,
-    advice: &[u8],
-)
-    ensures { Puts W.contents out.old out.new (hint_times_line what.now times advice.now) }
+/// What comes between the words and the offset of the first.
+const FIRST_AT: Wording = Wording {
+    one: b", at ",
+    more: b", first at ",
+};
+
+/// Puts how many there are, and where the first is.
+fn put_counted_words<W: Write>(out: &mut Outbox<'_, W>, what: Wording, times: Times)
+    ensures { Puts W.contents out.old out.new (counted_words (words_of what) times) }
+{
+    out.put_decimal(times.count as u64);
+    out.put(b" ");
+    out.put(what.of(times.count));
+    out.put(FIRST_AT.of(times.count));
+    out.put_decimal(times.first as u64);
+}
+
+fn put_counted_line<W: Write>(out: &mut Outbox<'_, W>, row: &HintRow, times: Option<Times>)
+    ensures { Puts W.contents out.old out.new (counted_line (hint_of row.now) times) }
 {
     let Some(times) = times else {
         return;
     };
     out.put(b"hint: ");
-    out.put(what);
-    out.put(b", ");
-    put_times(out, times.count, times.first);
-    out.put(advice);
+    out.put(row.before);
+    put_counted_words(out, row.what, times);
+    out.put(row.advice.of(times.count));
     out.put(b"\n");
 }
 
@@ -37,7 +52,7 @@ fn put_font_line<W: Write>(out: &mut Outbox<'_, W>, field: &[u8])
     if has_other_code_page(name) {
         out.put(b"hint: the font ");
         put_characters(out, name);
-        out.put(b" is not one of code page 437, so other characters may show\n");
+        out.put(b" is not a code page 437 font; some characters may look different\n");
     }
 }
 
@@ -48,12 +63,12 @@ fn put_empty_rows_line<W: Write>(out: &mut Outbox<'_, W>, rows: usize)
         return;
     }
     if rows == 1 {
-        out.put(b"hint: nothing is printed in the last line\n");
+        out.put(b"hint: the last line is empty\n");
         return;
     }
-    out.put(b"hint: nothing is printed in the last ");
+    out.put(b"hint: the last ");
     out.put_decimal(rows as u64);
-    out.put(b" lines\n");
+    out.put(b" lines are empty\n");
 }
 
 fn put_wider_line<W: Write>(out: &mut Outbox<'_, W>, rows: Option<WiderRows>)
@@ -62,9 +77,9 @@ fn put_wider_line<W: Write>(out: &mut Outbox<'_, W>, rows: Option<WiderRows>)
     let Some(rows) = rows else {
         return;
     };
-    out.put(b"hint: a row runs over the edge and then ends, ");
-    put_times(out, rows.times.count, rows.times.first);
-    out.put(b": the widest has ");
+    out.put(b"hint: ");
+    put_counted_words(out, ROWS_OVER, rows.times);
+    out.put(b"; the widest has ");
     out.put_decimal(rows.columns as u64);
     out.put(b" columns\n");
 }
@@ -72,81 +87,32 @@ fn put_wider_line<W: Write>(out: &mut Outbox<'_, W>, rows: Option<WiderRows>)
 fn put_row_hints<W: Write>(out: &mut Outbox<'_, W>, hints: &Hints)
     ensures { Puts W.contents out.old out.new (row_hints hints.now) }
 {
-    put_times_line(
-        out,
-        b"a line feed with no return beside it goes straight down",
-        hints.loose_line_feeds,
-        b"",
-    );
-    put_times_line(
-        out,
-        b"a full row and a line end take two rows",
-        hints.row_ends.ended,
-        b"",
-    );
+    put_counted_line(out, &BARE_LINE_FEEDS, hints.loose_line_feeds);
+    put_counted_line(out, &ENDED_ROWS, hints.row_ends.ended);
     put_wider_line(out, hints.row_ends.wider_rows());
-    put_times_line(
-        out,
-        b"with wrap off a character is printed over another in the last column",
-        hints.row_ends.overprints,
-        b"",
-    );
+    put_counted_line(out, &OVERPRINTS, hints.row_ends.overprints);
 }
-
-/// What to do with the text of another system.
-const CONVERT: &[u8] = b": convert the text to code page 437";
 
 fn put_foreign_hints<W: Write>(out: &mut Outbox<'_, W>, hints: &Hints)
     ensures { Puts W.contents out.old out.new (foreign_hints hints.now) }
 {
-    put_times_line(
-        out,
-        b"a character is in UTF-8",
-        hints.wide_characters,
-        CONVERT,
-    );
-    put_times_line(
-        out,
-        b"a letter is in UTF-8",
-        hints.two_byte_letters,
-        CONVERT,
-    );
-    put_times_line(out, b"a letter is in Latin-1", hints.latin_letters, CONVERT);
-    put_times_line(
-        out,
-        b"a colour code of a bulletin board (|07, @X1F) is printed as text",
-        hints.board_codes,
-        b"",
-    );
+    put_counted_line(out, &WIDE_CHARACTERS, hints.wide_characters);
+    put_counted_line(out, &TWO_BYTE_LETTERS, hints.two_byte_letters);
+    put_counted_line(out, &LATIN_LETTERS, hints.latin_letters);
+    put_counted_line(out, &BOARD_CODES, hints.board_codes);
 }
 
 fn put_colour_hints<W: Write>(out: &mut Outbox<'_, W>, hints: &Hints)
     ensures { Puts W.contents out.old out.new (colour_hints hints.now) }
 {
-    put_times_line(
-        out,
-        b"a sequence has a colour of later terminals (38, 48, 90 to 97 or 100 to 107)",
-        hints.later_colours,
-        b"",
-    );
-    put_times_line(
-        out,
-        b"a character blinks",
-        hints.blinking_glyphs,
-        b": for bright backgrounds set the non-blink flag",
-    );
-    put_times_line(
-        out,
-        b"a character is dark grey on black",
-        hints.much_dark(),
-        b": some terminals show it as black",
-    );
+    put_counted_line(out, &MODERN_COLOURS, hints.later_colours);
+    put_counted_line(out, &BLINKING, hints.blinking_glyphs);
+    put_counted_line(out, &DARK_GREY, hints.much_dark());
 }
 
-/// Puts the lines of the hints: `hint: `, what it is about, how many times it comes, and the offset of
-/// the first time in bytes from the content's start; each where there is something to say. Lines without
-/// a count tell of empty rows at the end, and of the font, where the record's field names one that is
-/// not of code page 437.
+/// Puts a line for each hint that there is: `hint: `, how many there are, what it is, the offset of the first
+/// in bytes from the content's start, and what to do about it. Two lines have no count: on the font, if the
+/// record's field names one that is not of code page 437, and on empty lines at the end.
 pub fn put_hints<W: Write>(out: &mut Outbox<'_, W>, hints: &Hints, font_field: &[u8])
     ensures { Puts W.contents out.old out.new (hints_text hints.now font_field.now) }
 {

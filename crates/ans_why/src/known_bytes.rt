@@ -13,7 +13,7 @@ use ans_forms::{
 use ans_model::fault::Cause;
 use ans_sauce::fields::END_MARK;
 
-/// What bytes are that are refused: things that artists and their programs are known to write.
+/// What refused bytes are: things that artists and their programs are known to write.
 #[derive(Debug, Clone, Copy, PartialEq, Eq)]
 pub enum Known {
     /// Notes of a melody for programs of bulletin boards: `ESC[M`, `ESC[N` or `ESC[|`, up to the byte 0Eh.
@@ -30,16 +30,16 @@ pub enum Known {
     DosMode,
     /// A sequence that ends in `p`.
     ReassignedKey,
-    /// A block of comments behind the end mark.
+    /// A block of comments after the end mark.
     UncountedComments,
-    /// A record behind the end mark.
+    /// A record after the end mark.
     OlderRecord,
-    /// The byte 1Ah, an arrow to the right in code page 437, with more of the drawing behind it.
+    /// The byte 1Ah, an arrow to the right in code page 437, with more of the drawing after it.
     Arrow,
 }
 
 impl Known {
-    /// What they are, as the line `is:` says it.
+    /// What they are, as the line `is:` says.
     pub fn text(self) -> &'static str
         ensures { result.now ≡ known_text self }
     {
@@ -79,8 +79,8 @@ fn known_form(bytes: &[u8]) -> Option<Known>
     }
 }
 
-/// What a content's bytes are known as from the place on at which it is refused: a reassigned key, by
-/// the fault, or the first form that they begin with.
+/// What a content's bytes are known as, from the offset at which it is refused: a reassigned key, by the
+/// fault, or the first form that they begin with.
 pub fn known_sequence(bytes: &[u8], cause: &Cause) -> Option<Known>
     ensures { result ≡ known_sequence cause.now bytes.now }
 {
@@ -96,7 +96,7 @@ fn first_no_end_mark(bytes: &[u8]) -> Option<usize>
     bytes.iter().position(|byte| *byte != END_MARK)
 }
 
-/// The bytes behind the end marks that they begin with.
+/// The bytes after the end marks that they begin with.
 fn behind_end_marks(bytes: &[u8]) -> &[u8]
     ensures { result.now ≡ behind_end_marks bytes.now }
 {
@@ -111,24 +111,24 @@ fn is_comment_block(bytes: &[u8]) -> bool
     bytes.starts_with(b"COMNT") && bytes.len() > 5 && (bytes.len() - 5) % 64 == 0
 }
 
-/// Whether a byte stands among them that is no control byte and no blank.
+/// Whether one of them is neither a control byte nor a blank.
 fn prints_something(bytes: &[u8]) -> bool
     ensures { result ≡ list_any (λ b. nat_lt 0x20 b) bytes.now }
 {
     bytes.iter().any(|byte| *byte > b' ')
 }
 
-/// Whether the bytes may be more of a drawing: they begin neither as comments do nor as a record does,
-/// and print something.
+/// Whether the bytes may be more of a drawing: they begin neither like comments nor like a record, and
+/// print something.
 fn may_be_drawing(bytes: &[u8]) -> bool
     ensures { result ≡ may_be_drawing bytes.now }
 {
     !bytes.starts_with(b"COMNT") && !bytes.starts_with(b"SAUCE") && prints_something(bytes)
 }
 
-/// What the bytes behind the first end mark are known as, among which a record stands or not: an older
-/// record where one does, else comments that the record does not count, else an arrow where more of a
-/// drawing may stand there; and nothing where none of these fits.
+/// What the bytes after the first end mark are known as: an older record, if they hold one; else comments
+/// that the record does not count; else an arrow, if they may be more of a drawing. They are known as nothing
+/// if none of these fits.
 pub fn known_behind_end_mark(bytes: &[u8], holds_record: bool) -> Option<Known>
     ensures { result ≡ known_behind_end_mark holds_record bytes.now }
 {

@@ -1,17 +1,19 @@
-//! What `why` says of a file, and its text.
+//! What `why` says about a file, and its text.
 //!
-//! [`RecordRefusal::of`], [`Refusal::of`] and [`Pass::of`] say it: of a file whose record or layout is
-//! refused, of a content that is refused from the cleared start, and of one that passes from there.
+//! [`RecordRefusal::of`], [`Refusal::of`] and [`Pass::of`] find what to say: about a file whose record or layout is
+//! refused, about a content that is refused from the cleared start, and about one that passes from there.
 //! [`put_why`] puts the text in an outbox. [`bytes_to_blame`] gives the bytes at which a content fails.
-//! [`known_sequence`], [`known_behind_end_mark`] and [`known_found`] know what bytes are that artists and their
-//! programs write. [`put_hints`] puts the lines of the hints; [`font_name`] reads a font's name in the record's
-//! field, and [`has_other_code_page`] knows it. What is said is true by `specs/Explained.antt`; the text stands in
-//! `specs/WhyText.antt`, `specs/PlayersText.antt` and `specs/HintsText.antt`.
+//! [`known_sequence`], [`known_behind_end_mark`] and [`known_found`] recognise what artists and their programs write.
+//! [`put_hints`] puts the lines of the hints. [`font_name`] reads a font's name in the record's field, and
+//! [`has_other_code_page`] says whether its code page is another one than 437. What is said is true by
+//! `specs/Explained.antt`; the text is in `specs/WhyText.antt`, `specs/PlayersText.antt` and `specs/HintsText.antt`,
+//! and what the hints say in `specs/HintRows.antt`.
 #![tactic(auto)]
 
 mod blamed;
 mod explain;
 mod font;
+mod hint_rows;
 mod hints_text;
 mod known_bytes;
 mod players_text;

@@ -2,7 +2,7 @@
 
 ghost use Rattle.std.specs.Prelude.{◌≡◌};
 ghost use Rattle.ans_why.specs.PlayersText.{agreeing_lines, everywhere_line, is_same_class, kind_line};
-ghost use Rattle.ans_why.specs.PlayersText.{kind_lines, more_times, players_lines};
+ghost use Rattle.ans_why.specs.PlayersText.{kind_lines, players_lines};
 ghost use Rattle.ans_kinds.specs.declared.players.Players.TheVariants.{Any, InNamedColours};
 ghost use Rattle.ans_write.specs.Puts.{Puts};
 
@@ -10,20 +10,9 @@ use ans_kinds::{KindsUsed, Players};
 use ans_model::start::Start;
 use ans_pens::Times;
 use ans_players::difference::Difference;
-use ans_report::{put_needed_parts, put_words};
+use ans_report::{put_needed_parts, put_times, put_words};
 use ans_write::Outbox;
 use std::io::Write;
-
-fn put_more_times<W: Write>(out: &mut Outbox<'_, W>, count: usize)
-    ensures { Puts W.contents out.old out.new (more_times count) }
-{
-    if count == 1 {
-        return;
-    }
-    out.put(b", ");
-    out.put_decimal(count as u64);
-    out.put(b" times");
-}
 
 fn put_kind_line<W: Write>(out: &mut Outbox<'_, W>, kind: Difference, times: Option<Times>)
     ensures { Puts W.contents out.old out.new (kind_line kind times) }
@@ -31,11 +20,10 @@ fn put_kind_line<W: Write>(out: &mut Outbox<'_, W>, kind: Difference, times: Opt
     let Some(times) = times else {
         return;
     };
-    out.put(b"at ");
-    out.put_decimal(times.first as u64);
-    out.put(b": ");
+    out.put(b"players differ: ");
     out.put(kind.word().as_bytes());
-    put_more_times(out, times.count);
+    out.put(b", ");
+    put_times(out, times.count, times.first);
     out.put(b"\n");
 }
 
@@ -47,7 +35,7 @@ fn put_kind_lines<W: Write>(out: &mut Outbox<'_, W>, used: &KindsUsed)
     }
 }
 
-fn is_same_class(class: Start, other: Start) -> bool
+pub(crate) fn is_same_class(class: Start, other: Start) -> bool
     ensures { result ≡ is_same_class class other }
 {
     class.screen == other.screen
@@ -63,7 +51,7 @@ fn put_everywhere_line<W: Write>(out: &mut Outbox<'_, W>, needs: Start, class: S
     if is_same_class(needs, class) {
         return;
     }
-    out.put(b"on every player: ");
+    out.put(b"needs on all players: ");
     put_needed_parts(out, class);
     out.put(b"\n");
 }
@@ -71,7 +59,7 @@ fn put_everywhere_line<W: Write>(out: &mut Outbox<'_, W>, needs: Start, class: S
 fn put_any<W: Write>(out: &mut Outbox<'_, W>, needs: Start, class: Start)
     ensures { Puts W.contents out.old out.new (players_lines needs (Any class)) }
 {
-    out.put(b"players: any\n");
+    out.put(b"players: all\n");
     put_everywhere_line(out, needs, class);
 }
 
@@ -92,9 +80,9 @@ fn put_named_colours<W: Write>(out: &mut Outbox<'_, W>, needs: Start, class: Sta
     put_everywhere_line(out, needs, class);
 }
 
-/// Puts on which players a content shows its picture that needs this class: `any`, and the class from
-/// which it does, if that is another; or the kinds, and a line of each, with the offset of the first
-/// in bytes from the content's start, and how often it arises. If own colours are the only kind, the class
+/// Puts on which players a content that needs this class shows its picture: `all`, and the class from which
+/// it does, if that is another. Or else the kinds of difference, and a line for each: how often it arises, and
+/// the offset of the first in bytes from the content's start. If own colours are the only kind, the class
 /// follows them, of the players whose own white and black are the named ones.
 pub(crate) fn put_players<W: Write>(out: &mut Outbox<'_, W>, needs: Start, players: &Players)
     ensures { Puts W.contents out.old out.new (players_lines needs players.now) }

@@ -1,4 +1,4 @@
-//! What `why` says of a file.
+//! What `why` says about a file.
 
 use crate::known_bytes::Known;
 use ans_hints::Hints;
@@ -15,12 +15,13 @@ pub struct Place {
     pub column: usize,
 }
 
-/// What the plays from the low and the high start of a class show of a fault.
+/// What two plays show of a fault: those from the low and the high one of all starts. The low one begins with
+/// the cursor at the top left, the high one at the bottom right, in the row below the last line.
 #[derive(Debug, Clone, Copy, PartialEq, Eq)]
 pub enum Shown {
-    /// Where their cursors stand before it.
+    /// Where their cursors are before it.
     Cursors { low: Place, high: Place },
-    /// For F25 the cells that they have in the end, where it names one.
+    /// For F25 what the cell that it names holds in the end.
     Cells { low: Cell, high: Cell },
 }
 
@@ -31,11 +32,11 @@ pub struct Reliance<'a> {
     /// The bytes to blame: none for F25.
     pub bytes: &'a [u8],
     pub shown: Shown,
-    /// Whether the file has room for the 25 bytes that mend it.
+    /// Whether the file has room for the 25 bytes of the safe beginning, with which it relies on nothing.
     pub mends: bool,
 }
 
-/// What there is to say of a content that passes from the cleared start.
+/// What there is to say about a content that passes from the cleared start.
 #[derive(Debug, Clone, Copy)]
 pub struct Pass<'a> {
     /// The least class of starts from which it passes.
@@ -44,12 +45,12 @@ pub struct Pass<'a> {
     pub players: Players,
     /// Whether its moves are free, so that it plays on taller screens as on the stated one.
     pub taller: bool,
-    /// What it relies on, where it does not pass from every start.
+    /// What it relies on, if it does not pass from every start.
     pub reliance: Option<Reliance<'a>>,
     pub hints: Hints,
 }
 
-/// What there is to say of a content that is refused from the cleared start.
+/// What there is to say about a content that is refused from the cleared start.
 #[derive(Debug, Clone, Copy)]
 pub struct Refusal<'a> {
     pub fault: Fault,
@@ -57,12 +58,12 @@ pub struct Refusal<'a> {
     pub bytes: &'a [u8],
     /// What they are known as.
     pub known: Option<Known>,
-    /// Where the cursor stands before the fault.
+    /// Where the cursor is before the fault.
     pub cursor: Place,
-    /// For F19 to F21 the least number of lines with which it passes, where there is one.
+    /// For F19 to F21 the least number of lines with which it passes, if there is one.
     pub lines: Option<u16>,
-    /// Those of all of the content on so many lines; and where there is no such number, those of its tokens
-    /// up to the one to blame.
+    /// Those of all of the content on that many lines; or if there is no such number, those of its tokens up to
+    /// the one to blame.
     pub hints: Hints,
 }
 
@@ -71,21 +72,21 @@ pub struct Refusal<'a> {
 pub struct Enough<'a> {
     /// The least number of lines with which it passes from the cleared start.
     pub lines: u16,
-    /// Those of all of the content on so many lines.
+    /// Those of all of the content on that many lines.
     pub hints: Hints,
     /// The record's field of the font, without its trailing blanks and zero bytes.
     pub font: &'a [u8],
 }
 
-/// What there is to say of a record or a layout that is refused: what stands there.
+/// What there is to say about a record or a layout that is refused: what is found there.
 #[derive(Debug, Clone, Copy, PartialEq, Eq)]
 pub struct RecordRefusal<'a> {
     pub fault: Fault,
     pub found: Found<'a>,
-    /// For F5, where neither F6 nor F8 would follow: the number of lines, where one is enough.
+    /// For F5, if neither F6 nor F8 would follow: the number of lines, if one is enough.
     pub enough: Option<Enough<'a>>,
 }
 
-/// What `why` says of a file: of its record or its layout, of a content that is refused even from the
-/// cleared start, or of one that passes from there.
+/// What `why` says about a file: about its record or its layout, about a content that is refused even from the
+/// cleared start, or about one that passes from there.
 pub type Why<'a> = Judged<'a, RecordRefusal<'a>, Refusal<'a>, Pass<'a>>;

@@ -1,44 +1,62 @@
 //! The text of `why`.
-ghost use Rattle.std.specs.Prelude.{◌≡◌, ◌++◌, [], codes, decimal, if◌then◌else◌};
+ghost use Rattle.std.specs.Prelude.{◌≡◌, ◌++◌, codes, decimal};
 ghost use Rattle.ans_model.specs.Text.Characters.{shown_bytes};
 ghost use Rattle.ans_model.specs.Text.RecordText.{named_line};
 ghost use Rattle.ans_sauce.specs.declared.found.Found.TheVariants as found;
 ghost use Rattle.ans_sauce.specs.declared.judged.Judged.TheVariants.{NoContent};
 ghost use Rattle.ans_write.specs.Puts.{Puts};
 ghost use Rattle.ans_report.specs.Counted.{counted_text};
-ghost use Rattle.ans_why.specs.WhyText.{bytes_line, place_text, cell_text, shown_lines};
-ghost use Rattle.ans_why.specs.WhyText.{mend_line, reliance_lines, lines_line, after_end_mark_text, enough_lines};
-ghost use Rattle.ans_why.specs.WhyText.{heading_lines, known_found, known_line, told_hints};
+ghost use Rattle.ans_why.specs.WhyText.{blamed_text, blamed_line, fault_lines, place_text, cell_text, shown_lines};
+ghost use Rattle.ans_why.specs.WhyText.{reliance_lines, verdict_words, taller_line, is_fixed, fix_line, lines_line};
+ghost use Rattle.ans_why.specs.WhyText.{after_end_mark_text, enough_lines, heading_lines, known_found, known_line};
 ghost use Rattle.ans_hints.specs.Hints.{are_torn};
-ghost use Rattle.ans_model.specs.Text.Words.{answer_text};
-ghost use Rattle.ans_why.specs.WhyText.{found_line, pass_lines, refusal_lines, why_text};
+ghost use Rattle.ans_why.specs.WhyText.{found_line, pass_lines, refusal_lines, told_hints, torn_text, why_text};
 
 use crate::hints_text::put_hints;
 use crate::known_bytes::{Known, known_behind_end_mark};
-use crate::players_text::put_players;
+use crate::players_text::{is_same_class, put_players};
 use crate::why::{Enough, Pass, Place, RecordRefusal, Refusal, Reliance, Shown, Why};
 use ans_hints::Hints;
 use ans_model::cell::Cell;
+use ans_model::fault::Fault;
+use ans_model::start::Start;
 use ans_report::{
-    answer_text, put_counted, put_fault_line, put_named_line, put_needed_parts, put_notes,
-    put_quoted, put_refusal, put_size_line,
+    put_counted, put_fault, put_named_line, put_needed_parts, put_notes, put_quoted, put_size_line,
 };
 use ans_sauce::{Found, Judged, Parts};
 use ans_write::{Outbox, hex_byte, put_characters};
 use std::io::Write;
 
-fn put_bytes_line<W: Write>(out: &mut Outbox<'_, W>, bytes: &[u8])
-    ensures { Puts W.contents out.old out.new (bytes_line bytes.now) }
+/// Puts the bytes to blame, after a fault.
+fn put_blamed<W: Write>(out: &mut Outbox<'_, W>, bytes: &[u8])
+    ensures { Puts W.contents out.old out.new (blamed_text bytes.now) }
 {
     if bytes.is_empty() {
         return;
     }
-    out.put(b"bytes: ");
+    out.put(b": ");
     put_quoted(out, bytes);
+}
+
+fn put_blamed_line<W: Write>(out: &mut Outbox<'_, W>, name: &[u8], fault: &Fault, bytes: &[u8])
+    ensures { Puts W.contents out.old out.new (blamed_line name.now fault.now bytes.now) }
+{
+    out.put(name);
+    out.put(b": ");
+    put_fault(out, fault);
+    put_blamed(out, bytes);
     out.put(b"\n");
 }
 
-/// Puts two numbers, each behind a text.
+/// Puts the verdict of a refusal, its fault, and the bytes to blame.
+fn put_fault_lines<W: Write>(out: &mut Outbox<'_, W>, fault: &Fault, bytes: &[u8])
+    ensures { Puts W.contents out.old out.new (fault_lines fault.now bytes.now) }
+{
+    out.put(b"verdict: refused\n");
+    put_blamed_line(out, b"fault", fault, bytes);
+}
+
+/// Puts two numbers, each after a text.
 fn put_numbers<W: Write>(
     out: &mut Outbox<'_, W>,
     before: &[u8],
@@ -93,21 +111,13 @@ fn put_shown<W: Write>(out: &mut Outbox<'_, W>, shown: Shown)
 {
     match shown {
         Shown::Cursors { low, high } => {
-            put_place_line(out, b"low start", low);
-            put_place_line(out, b"high start", high);
+            put_place_line(out, b"from the top left", low);
+            put_place_line(out, b"from the bottom right", high);
         }
         Shown::Cells { low, high } => {
-            put_cell_line(out, b"low start", low);
-            put_cell_line(out, b"high start", high);
+            put_cell_line(out, b"from the top left", low);
+            put_cell_line(out, b"from the bottom right", high);
         }
-    }
-}
-
-fn put_mend_line<W: Write>(out: &mut Outbox<'_, W>, mends: bool)
-    ensures { Puts W.contents out.old out.new (mend_line mends) }
-{
-    if mends {
-        out.put(b"mend: begin with ESC[?7h ESC[0;37;40m ESC[2J ESC[H ESC[s\n");
     }
 }
 
@@ -117,22 +127,58 @@ fn put_reliance<W: Write>(out: &mut Outbox<'_, W>, reliance: Option<Reliance<'_>
     let Some(reliance) = reliance else {
         return;
     };
-    put_fault_line(out, &reliance.fault);
-    put_bytes_line(out, reliance.bytes);
+    put_blamed_line(out, b"because", &reliance.fault, reliance.bytes);
     put_shown(out, reliance.shown);
-    put_mend_line(out, reliance.mends);
+}
+
+/// The verdict on a content that passes from the cleared start, by the class that it needs.
+fn verdict_words(needs: Start) -> &'static [u8]
+    ensures { result.now ≡ verdict_words needs }
+{
+    if is_same_class(needs, Start::ANY) {
+        b"pass"
+    } else {
+        b"pass on a cleared screen"
+    }
+}
+
+fn put_taller_line<W: Write>(out: &mut Outbox<'_, W>, taller: bool)
+    ensures { Puts W.contents out.old out.new (taller_line taller) }
+{
+    if taller {
+        out.put(b"taller screens: same\n");
+    }
+}
+
+/// Whether something is relied on, and the file has room for the bytes that mend it.
+fn is_fixed(reliance: Option<Reliance<'_>>) -> bool
+    ensures { result ≡ is_fixed reliance.entry }
+{
+    match reliance {
+        Some(reliance) => reliance.mends,
+        None => false,
+    }
+}
+
+fn put_fix_line<W: Write>(out: &mut Outbox<'_, W>, fixed: bool)
+    ensures { Puts W.contents out.old out.new (fix_line fixed) }
+{
+    if fixed {
+        out.put(b"fix: anscheck mend\n");
+    }
 }
 
 fn put_pass<W: Write>(out: &mut Outbox<'_, W>, parts: &Parts<'_>, pass: &Pass<'_>)
     ensures { Puts W.contents out.old out.new (pass_lines parts.now pass.now) }
 {
-    out.put(b"verdict: pass\n");
+    put_named_line(out, b"verdict", verdict_words(pass.needs));
     out.put(b"needs: ");
     put_needed_parts(out, pass.needs);
     out.put(b"\n");
-    put_players(out, pass.needs, &pass.players);
-    put_named_line(out, b"taller", answer_text(pass.taller));
     put_reliance(out, pass.reliance);
+    put_players(out, pass.needs, &pass.players);
+    put_taller_line(out, pass.taller);
+    put_fix_line(out, is_fixed(pass.reliance));
     put_hints(out, &pass.hints, parts.sauce().font());
 }
 
@@ -144,10 +190,14 @@ fn put_known_line<W: Write>(out: &mut Outbox<'_, W>, known: Option<Known>)
     }
 }
 
-fn as_it_is(torn: bool) -> &'static [u8]
-    ensures { result.now ≡ (if torn then codes " as it is" else []) }
+fn torn_text(torn: bool) -> &'static [u8]
+    ensures { result.now ≡ torn_text torn }
 {
-    if torn { b" as it is" } else { b"" }
+    if torn {
+        b", but the rows look broken"
+    } else {
+        b""
+    }
 }
 
 fn put_lines_line<W: Write>(out: &mut Outbox<'_, W>, lines: Option<u16>, hints: &Hints)
@@ -158,11 +208,11 @@ fn put_lines_line<W: Write>(out: &mut Outbox<'_, W>, lines: Option<u16>, hints: 
     };
     out.put(b"lines: ");
     out.put_decimal(lines as u64);
-    out.put(as_it_is(hints.are_torn()));
+    out.put(torn_text(hints.are_torn()));
     out.put(b"\n");
 }
 
-/// The hints of a refusal that are told: none of empty rows where not all of the content is played.
+/// The hints of a refusal that are printed: none on empty rows, unless all of the content is played.
 fn told_hints(refusal: &Refusal<'_>) -> Hints
     ensures { result ≡ told_hints refusal.now }
 {
@@ -178,10 +228,9 @@ fn told_hints(refusal: &Refusal<'_>) -> Hints
 fn put_refused<W: Write>(out: &mut Outbox<'_, W>, parts: &Parts<'_>, refusal: &Refusal<'_>)
     ensures { Puts W.contents out.old out.new (refusal_lines parts.now refusal.now) }
 {
-    put_refusal(out, &refusal.fault);
-    put_bytes_line(out, refusal.bytes);
+    put_fault_lines(out, &refusal.fault, refusal.bytes);
     put_known_line(out, refusal.known);
-    put_place_line(out, b"cleared start", refusal.cursor);
+    put_place_line(out, b"cursor", refusal.cursor);
     put_hints(out, &told_hints(refusal), parts.sauce().font());
     put_lines_line(out, refusal.lines, &refusal.hints);
 }
@@ -196,14 +245,14 @@ fn put_count<W: Write>(out: &mut Outbox<'_, W>, count: u64, thing: &[u8], what: 
     out.put(b"\n");
 }
 
-fn put_record_found<W: Write>(out: &mut Outbox<'_, W>, offset: usize, behind: usize)
-    ensures { Puts W.contents out.old out.new (found_line (found.Record offset behind)) }
+fn put_record_found<W: Write>(out: &mut Outbox<'_, W>, offset: usize, after: usize)
+    ensures { Puts W.contents out.old out.new (found_line (found.Record offset after)) }
 {
     out.put(b"found: a record at ");
     out.put_decimal(offset as u64);
     out.put(b", and ");
-    put_counted(out, behind as u64, b"byte");
-    out.put(b" behind it\n");
+    put_counted(out, after as u64, b"byte");
+    out.put(b" after it\n");
 }
 
 fn put_kind_found<W: Write>(out: &mut Outbox<'_, W>, data_type: u8, file_type: u8)
@@ -260,8 +309,8 @@ fn put_found<W: Write>(out: &mut Outbox<'_, W>, found: &Found<'_>)
     }
 }
 
-/// What is known of what is found where a record or a layout is refused: of the bytes behind the end mark, and
-/// of nothing else.
+/// What the bytes that are found are known as, if a record or a layout is refused. Only bytes after the end mark
+/// are known as something.
 pub fn known_found(found: &Found<'_>) -> Option<Known>
     ensures { result ≡ known_found found.now }
 {
@@ -284,7 +333,7 @@ fn put_enough<W: Write>(out: &mut Outbox<'_, W>, enough: Option<Enough<'_>>)
 fn put_record_refusal<W: Write>(out: &mut Outbox<'_, W>, said: &RecordRefusal<'_>)
     ensures { Puts W.contents out.old out.new (why_text (NoContent said.now)) }
 {
-    put_refusal(out, &said.fault);
+    put_fault_lines(out, &said.fault, b"");
     put_found(out, &said.found);
     put_known_line(out, known_found(&said.found));
     put_enough(out, said.enough);
@@ -298,12 +347,18 @@ fn put_heading<W: Write>(out: &mut Outbox<'_, W>, parts: &Parts<'_>)
     put_notes(out, parts.notes().as_slice());
 }
 
-/// Puts what `why` says of a file: lines of a key, a colon and a value. After the size, the notes and the
-/// verdict come, of a pass, what it needs, on which players it shows its picture, whether it plays on
-/// taller screens, what it relies on, and the hints; of a refusal the fault, the bytes to blame, what they
-/// are known as, where the cursor stands before them, the hints, and the number of lines that is enough.
-/// Of a record or a layout that is refused come the fault, what stands there, and what that is known as;
-/// and where it lacks nothing but the number of lines, the hints on as many as are enough, and that number.
+/// Puts what `why` says of a file: lines of a key, a colon and a value. The size, the notes and the verdict come
+/// first.
+///
+/// If the file passes: what it needs, where and why, on which players it shows its picture, whether it plays
+/// the same on taller screens, the command that fixes it, and the hints.
+///
+/// If its content is refused: the fault with the bytes to blame, what they are known as, where the cursor is
+/// before them, the hints, and the number of lines that is enough.
+///
+/// If its record or its layout is refused, there are no size and no notes. The fault comes, what is found there,
+/// and what that is known as; and if nothing but the number of lines is missing, the hints on as many as are
+/// enough, and that number.
 pub fn put_why<W: Write>(out: &mut Outbox<'_, W>, why: &Why<'_>)
     ensures { Puts W.contents out.old out.new (why_text why.now) }
 {

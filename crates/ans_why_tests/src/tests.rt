@@ -20,63 +20,119 @@ struct Row {
     text: &'static str,
 }
 
-/// The lines of hints, each with how often it comes and where, or with the lines that it speaks of.
+/// The lines of hints, each with how many there are and where the first is, or with the lines that it speaks of.
 macro_rules! text {
     (nothing) => { "" };
-    (loose $at:literal) => { concat!("hint: a line feed with no return beside it goes straight down, ", $at, "\n") };
-    (full $at:literal) => { concat!("hint: a full row and a line end take two rows, ", $at, "\n") };
-    (wider $at:literal $columns:literal) => {
-        concat!("hint: a row runs over the edge and then ends, ", $at, ": the widest has ", $columns, " columns\n")
+    (loose 1 $at:tt) => { concat!("hint: 1 bare line feed makes a staircase, at ", $at, ": --crlf\n") };
+    (loose $n:tt $at:tt) => {
+        concat!("hint: ", $n, " bare line feeds make a staircase, first at ", $at, ": --crlf\n")
     };
-    (over $at:literal) => {
-        concat!("hint: with wrap off a character is printed over another in the last column, ", $at, "\n")
-    };
-    (letter $at:literal) => { concat!("hint: a letter is in UTF-8, ", $at, ": convert the text to code page 437\n") };
-    (latin $at:literal) => {
-        concat!("hint: a letter is in Latin-1, ", $at, ": convert the text to code page 437\n")
-    };
-    (board $at:literal) => {
-        concat!("hint: a colour code of a bulletin board (|07, @X1F) is printed as text, ", $at, "\n")
-    };
-    (wide $at:literal) => { concat!("hint: a character is in UTF-8, ", $at, ": convert the text to code page 437\n") };
-    (later $at:literal) => {
-        concat!("hint: a sequence has a colour of later terminals (38, 48, 90 to 97 or 100 to 107), ", $at, "\n")
-    };
-    (blinks $at:literal) => {
-        concat!("hint: a character blinks, ", $at, ": for bright backgrounds set the non-blink flag\n")
-    };
-    (dark $at:literal) => {
-        concat!("hint: a character is dark grey on black, ", $at, ": some terminals show it as black\n")
-    };
-    (later $first:literal blinks $second:literal) => {
+    (full 1 $at:tt) => {
         concat!(
-            "hint: a sequence has a colour of later terminals (38, 48, 90 to 97 or 100 to 107), ", $first, "\n\
-            hint: a character blinks, ", $second, ": for bright backgrounds set the non-blink flag\n"
+            "hint: 1 full row is followed by a line end and leaves a blank row, at ", $at, ": --join-rows\n"
         )
     };
-    (full $first:literal wider $at:literal $columns:literal) => {
+    (full $n:tt $at:tt) => {
         concat!(
-            "hint: a full row and a line end take two rows, ", $first, "\n\
-            hint: a row runs over the edge and then ends, ", $at, ": the widest has ", $columns, " columns\n"
+            "hint: ", $n, " full rows are followed by a line end and leave a blank row, first at ", $at,
+            ": --join-rows\n"
         )
     };
-    (full $at:literal empty $lines:literal) => {
+    (wider $n:tt $at:tt $columns:tt) => {
         concat!(
-            "hint: a full row and a line end take two rows, ", $at, "\n\
-            hint: nothing is printed in the ", $lines, "\n"
+            "hint: ", $n, " rows are wider than the screen, first at ", $at, "; the widest has ", $columns,
+            " columns\n"
         )
     };
-    (over $at:literal empty $lines:literal) => {
+    (over 1 $at:tt) => {
+        concat!("hint: wrap is off, and 1 character overprints the last column, at ", $at, "\n")
+    };
+    (over $n:tt $at:tt) => {
+        concat!("hint: wrap is off, and ", $n, " characters overprint the last column, first at ", $at, "\n")
+    };
+    (letter 1 $at:tt) => {
+        concat!("hint: 1 letter looks like UTF-8, at ", $at, ": convert the text to code page 437\n")
+    };
+    (letter $n:tt $at:tt) => {
+        concat!("hint: ", $n, " letters look like UTF-8, first at ", $at, ": convert the text to code page 437\n")
+    };
+    (latin 1 $at:tt) => {
+        concat!("hint: 1 letter looks like Latin-1, at ", $at, ": convert the text to code page 437\n")
+    };
+    (latin $n:tt $at:tt) => {
+        concat!("hint: ", $n, " letters look like Latin-1, first at ", $at, ": convert the text to code page 437\n")
+    };
+    (board 1 $at:tt) => {
+        concat!("hint: 1 bulletin-board colour code (|07, @X1F) is printed as text, at ", $at, "\n")
+    };
+    (board $n:tt $at:tt) => {
+        concat!("hint: ", $n, " bulletin-board colour codes (|07, @X1F) are printed as text, first at ", $at, "\n")
+    };
+    (wide 1 $at:tt) => {
+        concat!("hint: 1 character looks like UTF-8, at ", $at, ": convert the text to code page 437\n")
+    };
+    (wide $n:tt $at:tt) => {
+        concat!("hint: ", $n, " characters look like UTF-8, first at ", $at, ": convert the text to code page 437\n")
+    };
+    (modern 1 $at:tt) => {
+        concat!("hint: 1 sequence uses modern colours (38, 48, 90 to 97, 100 to 107), at ", $at, "\n")
+    };
+    (modern $n:tt $at:tt) => {
+        concat!("hint: ", $n, " sequences use modern colours (38, 48, 90 to 97, 100 to 107), first at ", $at, "\n")
+    };
+    (blinks 1 $at:tt) => {
         concat!(
-            "hint: with wrap off a character is printed over another in the last column, ", $at, "\n\
-            hint: nothing is printed in the ", $lines, "\n"
+            "hint: 1 character blinks, at ", $at, "; if it should have a bright background, set the non-blink flag\n"
         )
     };
-    (empty $lines:literal) => { concat!("hint: nothing is printed in the ", $lines, "\n") };
+    (blinks $n:tt $at:tt) => {
+        concat!(
+            "hint: ", $n, " characters blink, first at ", $at,
+            "; if they should have bright backgrounds, set the non-blink flag\n"
+        )
+    };
+    (dark 1 $at:tt) => {
+        concat!("hint: 1 character is dark grey on black, at ", $at, "; some terminals show it as black\n")
+    };
+    (dark $n:tt $at:tt) => {
+        concat!(
+            "hint: ", $n, " characters are dark grey on black, first at ", $at,
+            "; some terminals show them as black\n"
+        )
+    };
+    (empty 1) => { "hint: the last line is empty\n" };
+    (empty $lines:tt) => { concat!("hint: the last ", $lines, " lines are empty\n") };
+    (modern 1 $at:tt blinks 1 $first:tt) => {
+        concat!(
+            "hint: 1 sequence uses modern colours (38, 48, 90 to 97, 100 to 107), at ", $at, "\n\
+            hint: 1 character blinks, at ", $first,
+            "; if it should have a bright background, set the non-blink flag\n"
+        )
+    };
+    (full $n:tt $at:tt wider $m:tt $first:tt $columns:tt) => {
+        concat!(
+            "hint: ", $n, " full rows are followed by a line end and leave a blank row, first at ", $at,
+            ": --join-rows\n\
+            hint: ", $m, " rows are wider than the screen, first at ", $first, "; the widest has ", $columns,
+            " columns\n"
+        )
+    };
+    (full 1 $at:tt empty 1) => {
+        concat!(
+            "hint: 1 full row is followed by a line end and leaves a blank row, at ", $at, ": --join-rows\n\
+            hint: the last line is empty\n"
+        )
+    };
+    (over $n:tt $at:tt empty $lines:tt) => {
+        concat!(
+            "hint: wrap is off, and ", $n, " characters overprint the last column, first at ", $at, "\n\
+            hint: the last ", $lines, " lines are empty\n"
+        )
+    };
 }
 
 macro_rules! rows {
-    ($(screen($width:literal x $lines:literal, $content:literal) => $($hint:ident $(($($said:literal),+))?)+;)*) => {
+    ($(screen($width:literal x $lines:literal, $content:literal) => $($hint:ident $(($($said:tt),+))?)+;)*) => {
         [$(Row {
             width: $width,
             lines: $lines,
@@ -91,86 +147,87 @@ static LINE_FEEDS: [Row; 8] = rows! {
     screen(4 x 2, b"ab\r\ncd") => nothing;
     screen(4 x 2, b"ab\n\rcd") => nothing;
     screen(4 x 2, b"\nab") => nothing;
-    screen(4 x 2, b"ab\ncd") => loose("once, at 2");
-    screen(4 x 1, b"ab\n") => loose("once, at 2");
-    screen(9 x 3, b"a\nb\nc") => loose("2 times, first at 1");
-    screen(9 x 3, b"a\r\nb\n\x1b[D\nc") => loose("once, at 4");
+    screen(4 x 2, b"ab\ncd") => loose(1, 2);
+    screen(4 x 1, b"ab\n") => loose(1, 2);
+    screen(9 x 3, b"a\nb\nc") => loose(2, 1);
+    screen(9 x 3, b"a\r\nb\n\x1b[D\nc") => loose(1, 4);
 };
 
 static FULL_ROWS: [Row; 19] = rows! {
-    screen(4 x 3, b"abcd\r\nab") => full("once, at 4");
-    screen(4 x 3, b"abcd\nab") => full("once, at 4");
-    screen(4 x 3, b"abcd\r\nabcd") => full("once, at 4");
-    screen(4 x 5, b"abcd\r\nabcd\na\x1b[5;1Ha") => full("2 times, first at 4");
+    screen(4 x 3, b"abcd\r\nab") => full(1, 4);
+    screen(4 x 3, b"abcd\nab") => full(1, 4);
+    screen(4 x 3, b"abcd\r\nabcd") => full(1, 4);
+    screen(4 x 5, b"abcd\r\nabcd\na\x1b[5;1Ha") => full(2, 4);
     screen(4 x 2, b"abcd\rab") => nothing;
     screen(4 x 2, b"abc\r\nab") => nothing;
     screen(4 x 2, b"\x1b[?7labcd\r\nab") => nothing;
-    screen(4 x 1, b"\x1b[1;4Hd\n") => full("once, at 7");
-    screen(4 x 3, b"abcd\x1b[0m\r\nab") => full("once, at 8");
-    screen(4 x 3, b"abcd\r\x1b[0m\nab") => full("once, at 4");
-    screen(4 x 3, b"abcd\x07\x1b[s\x1b[?7l\r\x1b[m\x07\nab") => full("once, at 13");
-    screen(4 x 3, b"abcd\x1b[0m\nab") => full("once, at 8");
+    screen(4 x 1, b"\x1b[1;4Hd\n") => full(1, 7);
+    screen(4 x 3, b"abcd\x1b[0m\r\nab") => full(1, 8);
+    screen(4 x 3, b"abcd\r\x1b[0m\nab") => full(1, 4);
+    screen(4 x 3, b"abcd\x07\x1b[s\x1b[?7l\r\x1b[m\x07\nab") => full(1, 13);
+    screen(4 x 3, b"abcd\x1b[0m\nab") => full(1, 8);
     screen(4 x 3, b"abcd\x1b[C\r\nab") => nothing;
-    screen(4 x 3, b"abcd\x1b[K\r\nab") => full("once, at 7");
+    screen(4 x 3, b"abcd\x1b[K\r\nab") => full(1, 7);
     screen(4 x 3, b"abcd\x08\r\nab") => nothing;
     screen(4 x 3, b"abcd\r\r\nab") => nothing;
     screen(4 x 3, b"abcd\r\x1b[C\n\ra") => nothing;
     screen(4 x 3, b"abcd\x1b[2;1H\r\nab") => nothing;
-    screen(4 x 3, b"abcdefgh\r\nab") => full("once, at 8");
+    screen(4 x 3, b"abcdefgh\r\nab") => full(1, 8);
 };
 
 /// Three rows of one number of columns, or most of them, run over the edge, none of them twice.
 static WIDER_ROWS: [Row; 14] = rows! {
-    screen(4 x 6, b"abcde\r\nabcde\r\nabcde\r\n") => wider("3 times, first at 5", "5");
-    screen(4 x 6, b"abcde\nabcde\nabcde") => loose("2 times, first at 5");
+    screen(4 x 6, b"abcde\r\nabcde\r\nabcde\r\n") => wider(3, 5, 5);
+    screen(4 x 6, b"abcde\nabcde\nabcde") => loose(2, 5);
     screen(4 x 6, b"abcde\r\nabcde\r\nabcde") => nothing;
-    screen(4 x 8, b"abcde\r\nabcdef\r\nabcdef\r\nabcde\r\n") => wider("4 times, first at 5", "6");
-    screen(4 x 8, b"abcde\r\nabcdef\r\nabcde\r\n") => empty("last 2 lines");
+    screen(4 x 8, b"abcde\r\nabcdef\r\nabcdef\r\nabcde\r\n") => wider(4, 5, 6);
+    screen(4 x 8, b"abcde\r\nabcdef\r\nabcde\r\n") => empty(2);
     screen(4 x 9, b"abcde\r\nabcde\r\nabcde\r\nabcdefghi\r\n") => nothing;
     screen(4 x 8, b"abcdefgh\r\nabcdefgh\r\nabcdefgh\r\n")
-        => full("3 times, first at 8") wider("3 times, first at 8", "8");
-    screen(4 x 6, b"abc\x1b[C\x1b[De\r\nabcde\r\nabcde\r\n") => empty("last line");
-    screen(4 x 6, b"\x1b[Cbcde\r\nabcd\x1b[0me\r\nabcde\r\x07\n") => wider("3 times, first at 7", "5");
-    screen(4 x 7, b"abcde\x1b[2;2Hb\r\nabcde\r\nabcde\r\n") => empty("last line");
-    screen(4 x 7, b"\x1b[?7labcde\r\nabcde\r\nabcde\r\n") => over("3 times, first at 9") empty("last 4 lines");
-    screen(4 x 7, b"abcd\r\nabcde\r\nabcde\r\n") => full("once, at 4") empty("last line");
-    screen(4 x 9, b"a\r\na\r\na\r\nabcde\r\nabcde\r\nabcde\r\n") => wider("3 times, first at 14", "5");
+        => full(3, 8) wider(3, 8, 8);
+    screen(4 x 6, b"abc\x1b[C\x1b[De\r\nabcde\r\nabcde\r\n") => empty(1);
+    screen(4 x 6, b"\x1b[Cbcde\r\nabcd\x1b[0me\r\nabcde\r\x07\n") => wider(3, 7, 5);
+    screen(4 x 7, b"abcde\x1b[2;2Hb\r\nabcde\r\nabcde\r\n") => empty(1);
+    screen(4 x 7, b"\x1b[?7labcde\r\nabcde\r\nabcde\r\n") => over(3, 9) empty(4);
+    screen(4 x 7, b"abcd\r\nabcde\r\nabcde\r\n") => full(1, 4) empty(1);
+    screen(4 x 9, b"a\r\na\r\na\r\nabcde\r\nabcde\r\nabcde\r\n") => wider(3, 14, 5);
     screen(4 x 10, b"a\r\na\r\na\r\na\r\nabcde\r\nabcde\r\nabcde\r\n") => nothing;
 };
 
 static OVERPRINTS: [Row; 8] = rows! {
     screen(4 x 1, b"\x1b[?7labcd") => nothing;
-    screen(4 x 1, b"\x1b[?7labcdef") => over("2 times, first at 9");
-    screen(4 x 1, b"\x1b[?7labcd\x1b[0me") => over("once, at 13");
-    screen(4 x 1, b"\x1b[?7labcd\x1b[?7he") => over("once, at 14");
+    screen(4 x 1, b"\x1b[?7labcdef") => over(2, 9);
+    screen(4 x 1, b"\x1b[?7labcd\x1b[0me") => over(1, 13);
+    screen(4 x 1, b"\x1b[?7labcd\x1b[?7he") => over(1, 14);
     screen(4 x 1, b"\x1b[?7labcd\x1b[De") => nothing;
     screen(4 x 2, b"\x1b[?7labcd\r\nabcd") => nothing;
     screen(4 x 1, b"abcd\x1b[?7l") => nothing;
     screen(4 x 1, b"\x1b[?7labcd\tx") => nothing;
 };
 
-static FOREIGN_TEXT: [Row; 25] = rows! {
-    screen(9 x 1, b"Caf\xc3\xa9") => letter("once, at 3");
-    screen(9 x 1, b"\xc3\x89l\xc3\xa8ve") => letter("once, at 3");
+static FOREIGN_TEXT: [Row; 26] = rows! {
+    screen(9 x 1, b"Caf\xc3\xa9") => letter(1, 3);
+    screen(9 x 1, b"\xc3\x89l\xc3\xa8ve") => letter(1, 3);
     screen(9 x 1, b"a\xc3\x97\xc3\xb7b") => nothing;
     screen(9 x 1, b"a\xc3\x7fb\xc3\xc0c\xc2\xa9") => nothing;
-    screen(9 x 1, b"a\xc3\x80b\xc3\xbf") => letter("once, at 1");
-    screen(9 x 1, b"gr\xc3\xbcn\xc3\xaf") => letter("2 times, first at 2");
+    screen(9 x 1, b"a\xc3\x80b\xc3\xbf") => letter(1, 1);
+    screen(9 x 1, b"gr\xc3\xbcn\xc3\xaf") => letter(2, 2);
     screen(9 x 1, b"e\xc3\xbf\xc4\xb4") => nothing;
     screen(9 x 1, b"[\xc3\xa9]") => nothing;
-    screen(9 x 1, b"d\xe9j\xe0 vu") => latin("once, at 1");
+    screen(9 x 1, b"d\xe9j\xe0 vu") => latin(1, 1);
     screen(9 x 1, b"\xfcber") => nothing;
     screen(9 x 1, b"D\xe9J") => nothing;
     screen(9 x 1, b"stra\xe1e w\xe0r") => nothing;
-    screen(9 x 1, b"a\xe4b\xf6c\xfcd") => latin("3 times, first at 1");
+    screen(9 x 1, b"a\xe4b\xf6c\xfcd") => latin(3, 1);
     screen(9 x 1, b"a\xe7b\xf0c\xf5d") => nothing;
     screen(9 x 1, b"a\xe4\xf6b") => nothing;
     screen(9 x 1, b"\x82t\x82") => nothing;
-    screen(9 x 1, b"|07Hi") => board("once, at 0");
-    screen(9 x 1, b"|23a|24b") => board("once, at 0");
+    screen(9 x 1, b"|07Hi") => board(1, 0);
+    screen(9 x 1, b"|23a|24b") => board(1, 0);
     screen(9 x 1, b"|1|12|7a|") => nothing;
-    screen(9 x 1, b"|1aH||15b") => board("once, at 5");
-    screen(9 x 1, b"@X1FHi") => board("once, at 0");
+    screen(9 x 1, b"|1aH||15b") => board(1, 5);
+    screen(9 x 1, b"@X1FHi") => board(1, 0);
+    screen(12 x 1, b"a|07b@X1Fc") => board(2, 1);
     screen(9 x 1, b"@X1fHi") => nothing;
     screen(9 x 1, b"@X0G@x1F@") => nothing;
     screen(9 x 1, b"a@Xactor") => nothing;
@@ -178,10 +235,10 @@ static FOREIGN_TEXT: [Row; 25] = rows! {
 };
 
 static WIDE_CHARACTERS: [Row; 15] = rows! {
-    screen(9 x 1, b"\xe2\x96\x88") => wide("once, at 0");
-    screen(9 x 1, b"a\xf0\x9f\x98\x80\xe2\x96\x88") => wide("2 times, first at 1");
-    screen(9 x 1, b"\xed\x9f\xbf\xee\x80\x80\xf4\x8f") => wide("2 times, first at 0");
-    screen(4 x 2, b"abc\xe2\x96\x88") => wide("once, at 3");
+    screen(9 x 1, b"\xe2\x96\x88") => wide(1, 0);
+    screen(9 x 1, b"a\xf0\x9f\x98\x80\xe2\x96\x88") => wide(2, 1);
+    screen(9 x 1, b"\xed\x9f\xbf\xee\x80\x80\xf4\x8f") => wide(2, 0);
+    screen(4 x 2, b"abc\xe2\x96\x88") => wide(1, 3);
     screen(9 x 1, b"\xc3\xa9") => nothing;
     screen(9 x 1, b"\xe0\x80\x80") => nothing;
     screen(9 x 1, b"\xed\xa0\x80") => nothing;
@@ -196,33 +253,33 @@ static WIDE_CHARACTERS: [Row; 15] = rows! {
 };
 
 static COLOURS: [Row; 13] = rows! {
-    screen(9 x 1, b"\x1b[37;90mA\x1b[48m\x1b[107;38m") => later("3 times, first at 0");
-    screen(9 x 1, b"A\x1b[97;100m") => later("once, at 1");
+    screen(9 x 1, b"\x1b[37;90mA\x1b[48m\x1b[107;38m") => modern(3, 0);
+    screen(9 x 1, b"A\x1b[97;100m") => modern(1, 1);
     screen(9 x 1, b"A\x1b[37;39;47;49;89;98;99;108m") => nothing;
-    screen(9 x 1, b"\x1b[5mab\x1b[0mc") => blinks("2 times, first at 4");
-    screen(3 x 3, b"\x1b[5mabcdefg") => blinks("7 times, first at 4");
+    screen(9 x 1, b"\x1b[5mab\x1b[0mc") => blinks(2, 4);
+    screen(3 x 3, b"\x1b[5mabcdefg") => blinks(7, 4);
     screen(9 x 1, b"a\x1b[5m\t\x1b[K\x1b[0m") => nothing;
-    screen(9 x 1, b"\x1b[5ma") => blinks("once, at 4");
-    screen(9 x 1, b"\x1b[38;5;208mA") => later("once, at 0") blinks("once, at 11");
-    screen(9 x 1, b"\x1b[1;30mab\x1b[0mcdefghi") => dark("2 times, first at 7");
+    screen(9 x 1, b"\x1b[5ma") => blinks(1, 4);
+    screen(9 x 1, b"\x1b[38;5;208mA") => modern(1, 0) blinks(1, 11);
+    screen(9 x 1, b"\x1b[1;30mab\x1b[0mcdefghi") => dark(2, 7);
     screen(14 x 1, b"\x1b[1;30ma\x1b[0mbcdefghij \x00\xff") => nothing;
-    screen(12 x 1, b"\x1b[1;30ma\x1b[0mbcdefghi \x00") => dark("once, at 7");
+    screen(12 x 1, b"\x1b[1;30ma\x1b[0mbcdefghi \x00") => dark(1, 7);
     screen(9 x 1, b"\x1b[1;30m \x00\xff") => nothing;
     screen(9 x 1, b"\x1b[1;30;44ma\x1b[40m \x1b[30;47mb") => nothing;
 };
 
 static EMPTY_ROWS: [Row; 11] = rows! {
-    screen(4 x 3, b"") => empty("last 3 lines");
-    screen(4 x 3, b"a") => empty("last 2 lines");
-    screen(4 x 3, b"abcde") => empty("last line");
+    screen(4 x 3, b"") => empty(3);
+    screen(4 x 3, b"a") => empty(2);
+    screen(4 x 3, b"abcde") => empty(1);
     screen(4 x 3, b"\x1b[3;1Ha") => nothing;
     screen(4 x 3, b"\x1b[3;1Ha\x1b[2J") => nothing;
-    screen(4 x 3, b"a\x1b[3;1H\x1b[K") => empty("last 2 lines");
-    screen(9 x 3, b"\t") => empty("last 2 lines");
-    screen(4 x 3, b"\t") => empty("last line");
+    screen(4 x 3, b"a\x1b[3;1H\x1b[K") => empty(2);
+    screen(9 x 3, b"\t") => empty(2);
+    screen(4 x 3, b"\t") => empty(1);
     screen(3 x 3, b"\t") => nothing;
-    screen(9 x 3, b"\x1b[2;3H\x1b[s\x1b[1;1H\x1b[ua") => empty("last line");
-    screen(9 x 9, b"\x1b[4B\x1b[2A\x1b[3C\x1b[D\x08a") => empty("last 6 lines");
+    screen(9 x 3, b"\x1b[2;3H\x1b[s\x1b[1;1H\x1b[ua") => empty(1);
+    screen(9 x 9, b"\x1b[4B\x1b[2A\x1b[3C\x1b[D\x08a") => empty(6);
 };
 
 /// Asserts the lines of hints, and of a font.
@@ -274,7 +331,8 @@ fn full_rows_of_a_screen(rt: HostRuntime) {
         content[end] = b'\r';
         content[end + 1] = b'\n';
     }
-    let text = "hint: a full row and a line end take two rows, 3 times, first at 84\n";
+    let text =
+        "hint: 3 full rows are followed by a line end and leave a blank row, first at 84: --join-rows\n";
     expect_content(&rt, (80, 5), &content, b"", text);
 }
 
@@ -286,32 +344,32 @@ fn all_hints_have_an_order(rt: HostRuntime) {
         (10, 6),
         content,
         b"IBM VGA 866",
-        "hint: a line feed with no return beside it goes straight down, once, at 2\n\
-            hint: a full row and a line end take two rows, once, at 25\n\
-            hint: a character is in UTF-8, once, at 9: convert the text to code page 437\n\
-            hint: a sequence has a colour of later terminals (38, 48, 90 to 97 or 100 to 107), once, at 3\n\
-            hint: a character blinks, 2 times, first at 16: for bright backgrounds set the non-blink flag\n\
-            hint: the font IBM VGA 866 is not one of code page 437, so other characters may show\n\
-            hint: nothing is printed in the last 3 lines\n",
+        "hint: 1 bare line feed makes a staircase, at 2: --crlf\n\
+            hint: 1 full row is followed by a line end and leaves a blank row, at 25: --join-rows\n\
+            hint: 1 character looks like UTF-8, at 9: convert the text to code page 437\n\
+            hint: 1 sequence uses modern colours (38, 48, 90 to 97, 100 to 107), at 3\n\
+            hint: 2 characters blink, first at 16; if they should have bright backgrounds, set the non-blink flag\n\
+            hint: the font IBM VGA 866 is not a code page 437 font; some characters may look different\n\
+            hint: the last 3 lines are empty\n",
     );
 }
 
 macro_rules! fronts {
-    ($(front($end:literal, $content:literal) => $($hint:ident $(($said:literal))?)+;)*) => {
-        [$(($content, $end, text!($($hint $($said)?)+))),*]
+    ($(front($end:literal, $content:literal) => $($hint:ident $(($($said:tt),+))?)+;)*) => {
+        [$(($content, $end, text!($($hint $($($said)+)?)+))),*]
     };
 }
 
 /// Contents of which only the first bytes count, so many, and what is said of these.
 static FRONTS: [(&[u8], usize, &str); 8] = fronts! {
-    front(3, b"ab\ncd\n") => loose("once, at 2");
+    front(3, b"ab\ncd\n") => loose(1, 2);
     front(3, b"ab\n\rcd") => nothing;
-    front(6, b"abcd\r\n") => full("once, at 4");
+    front(6, b"abcd\r\n") => full(1, 4);
     front(5, b"abcd\r\n") => nothing;
-    front(3, b"Caf\xc3\xa9") => letter("once, at 3");
-    front(1, b"\xe2\x96\x88") => wide("once, at 0");
+    front(3, b"Caf\xc3\xa9") => letter(1, 3);
+    front(1, b"\xe2\x96\x88") => wide(1, 0);
     front(2, b"a\xe2\x96") => nothing;
-    front(4, b"a\xe2\x96\x88\xe2\x96\x88") => wide("once, at 1");
+    front(4, b"a\xe2\x96\x88\xe2\x96\x88") => wide(1, 1);
 };
 
 #[test]
@@ -373,7 +431,7 @@ fn fonts_have_their_names_and_code_pages(rt: HostRuntime) {
         assert!(rt; font_name(field) == name, "{field:?}");
     }
     let text =
-        "hint: the font \u{2665} Topaz is not one of code page 437, so other characters may show\n";
+        "hint: the font \u{2665} Topaz is not a code page 437 font; some characters may look different\n";
     expect_content(&rt, (2, 1), b"Hi", b"\x03 Topaz", text);
     expect_content(&rt, (2, 1), b"Hi", b"\x03 Topaz\0rubbish", text);
     expect_content(&rt, (2, 1), b"Hi", b"IBM VGA\0rubbish", "");

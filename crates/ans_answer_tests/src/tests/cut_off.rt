@@ -1,7 +1,7 @@
 //! Devices that take a part of what the program prints and says, or hand nothing on.
 
 use super::shelf::{Answered, Drawings, Shelf, Stored, answer_in, answer_on};
-use ans_check::{Ending, RunError, answer};
+use ans_check::{Ending, RunError, Unopened, answer};
 use ans_report::Tried;
 use ans_samples::{FailingOnce, Failure, Narrow};
 use std::alloc::AllocError;
@@ -13,9 +13,10 @@ const UNWRITTEN: &[u8] = b"anscheck: cannot write the report\n";
 
 /// Words that print something, over the files of [`Drawings`] and the names of [`NAMES`]. What they print is in the
 /// rows of `anscheck_rows`.
-static PRINTING: [&[&str]; 10] = [
+static PRINTING: [&[&str]; 11] = [
     &["anscheck", "check", "--cleared", "hi.ans"],
     &["anscheck", "why", "low.ans"],
+    &["anscheck", "hi.ans", "gone"],
     &["anscheck", "sauce", "abc"],
     &["anscheck", "help", "F17"],
     &["anscheck", "mend", "hi.ans"],
@@ -27,8 +28,12 @@ static PRINTING: [&[&str]; 10] = [
 ];
 
 /// Words that say something on standard error, over the same.
-static SAYING: [&[&str]; 6] = [
+static SAYING: [&[&str]; 10] = [
     &["anscheck", "tokens", "ho.ans"],
+    &["anscheck", "ho.ans"],
+    &["anscheck", "needs", "ho.ans"],
+    &["anscheck", "hi.ans", "ho.ans"],
+    &["anscheck", "hi.ans", "-"],
     &["anscheck", "mend", "hi.ans"],
     &["anscheck", "mend", "low.ans"],
     &["anscheck", "redraw", "hi.ans"],
@@ -136,7 +141,8 @@ fn what_is_said_may_be_cut_off(rt: HostRuntime) -> Result<(), AllocError> {
 fn rejected_words_end_alike_where_nothing_can_be_said(rt: HostRuntime) -> Result<(), AllocError> {
     for words in [
         ["anscheck", "check", "--bogus"].as_slice(),
-        &["anscheck", "other"],
+        &["anscheck", "--bogus"],
+        &["anscheck", "help", "other"],
         &["anscheck", "check", "f", "g"],
     ] {
         let answered = answer_in(&rt, words, Shelf::new(&[], NAMES), (4096, 0))?;
@@ -156,6 +162,6 @@ fn errors_that_take_nothing_change_no_ending(rt: HostRuntime) -> Result<(), Allo
     if ending == Ending::UnreadableWords {
         return Err(AllocError);
     }
-    assert!(rt; ending == Ending::UnopenedFile);
+    assert!(rt; ending == Ending::UnopenedFile(Unopened::Missing));
     Ok(())
 }

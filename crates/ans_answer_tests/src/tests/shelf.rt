@@ -127,14 +127,15 @@ impl Drawings {
     }
 }
 
-/// Whether a line is the row, or the object, of a file for which memory ran out.
+/// Whether a line is the row, the object, or the line of `why`, of a file for which memory ran out.
 fn is_of_memory(line: &[u8]) -> bool {
     line.starts_with(b"error\t\t\t\t\tout of memory\t")
         || line.starts_with(b"{\"fault\":\"out of memory\"")
+        || line.starts_with(b"error: out of memory")
 }
 
-/// A device that is offered a table. It notes whether it was offered a row of a file for which memory
-/// ran out, be the row taken or not.
+/// A device that is offered the texts of files. It notes whether it was offered one of a file for which memory
+/// ran out, whether it took it or not.
 #[derive(Drop)]
 struct Noting<W> {
     device: W,

@@ -3,7 +3,7 @@ use super::{
     CLEARED, COMMANDS, HI_RECORD, HI_REPORT, NEEDS, SAUCE, SHOW, TOKENS, WHY, expect_memory,
     expect_run, plain_file, run_on,
 };
-use ans_check::{Options, RunError, run};
+use ans_check::{Command, Options, RunError, run};
 use ans_report::Tried;
 use ans_samples::{FailingOnce, Failure, Narrow};
 use std::alloc::AllocError;
@@ -17,16 +17,15 @@ const HI_TOKENS: &[u8] = b"0 1 glyph 48\n1 1 glyph 69\n";
 const HI_NEEDS: &[u8] = b"size: 2 x 1\ncontent: 2 bytes\nneeds: cursor colours\n";
 
 const HI_WHY: &[u8] = b"size: 2 x 1\n\
-    verdict: pass\n\
+    verdict: pass on a cleared screen\n\
     needs: cursor colours\n\
+    because: at 0, F22 print at an unknown place: H\n\
+    from the top left: row 1, column 1\n\
+    from the bottom right: row 2, column 2\n\
     players: own-colours\n\
-    at 0: own-colours, 2 times\n\
-    taller: yes\n\
-    at 0: F22 print at an unknown place\n\
-    bytes: H\n\
-    low start: row 1, column 1\n\
-    high start: row 2, column 2\n\
-    mend: begin with ESC[?7h ESC[0;37;40m ESC[2J ESC[H ESC[s\n";
+    players differ: own-colours, 2 times, first at 0\n\
+    taller screens: same\n\
+    fix: anscheck mend\n";
 
 /// Gives one byte a read, and fails at one of the reads alone.
 #[derive(Clone, Copy)]
@@ -108,11 +107,18 @@ fn a_writer_that_fails_has_a_prefix(rt: HostRuntime) -> Result<(), AllocError> {
     Ok(())
 }
 
+/// What a command writes of a file without a record.
+fn refusal_by(command: Command) -> &'static [u8] {
+    match command {
+        Command::Why => b"verdict: refused\nfault: at 127, F1 no SAUCE record\n",
+        _ => b"verdict: refused\nat 127: F1 no SAUCE record\n",
+    }
+}
+
 #[test]
 fn a_writer_that_fails_has_a_prefix_of_a_refusal(rt: HostRuntime) -> Result<(), AllocError> {
-    let text = b"verdict: refused\nat 127: F1 no SAUCE record\n";
     for asked in &COMMANDS {
-        expect_prefixes(&rt, &[b'S'; 127], asked, text)?;
+        expect_prefixes(&rt, &[b'S'; 127], asked, refusal_by(asked.command))?;
     }
     Ok(())
 }

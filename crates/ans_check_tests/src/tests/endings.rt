@@ -1,6 +1,8 @@
 //! How the program ends.
 use super::{CLEARED, expect_memory, plain_file};
-use ans_check::{Ending, Mended, RunError, Unmended, WordsError, options, serve, status};
+use ans_check::{
+    Counts, Ending, Mended, RunError, Unmended, Unopened, WordsError, options, serve, status,
+};
 use ans_mend::{Edits, NonBlink, Reset, Told};
 use ans_options::Mends;
 use ans_pens::Times;
@@ -10,7 +12,7 @@ use std::alloc::AllocError;
 use std::io::{self, Read, Write};
 use std::process::Abort;
 
-/// Of a file that is mended a byte was cut off behind the record, and nothing else was changed.
+/// Of a file that is mended a byte was cut off after the record, and nothing else was changed.
 const CUT: Mended = Mended {
     tail: Some(Times {
         count: 1,
@@ -37,11 +39,28 @@ const CUT: Mended = Mended {
     file_size: Reset { was: 2, is: 2 },
 };
 
+/// One file of two passes, and the other is refused.
+const SOME_REFUSED: Counts = Counts {
+    files: 2,
+    pass: 1,
+    refused: 1,
+    ..Counts::NONE
+};
+
+/// One file of two passes on a cleared screen, and the other was not read.
+const SOME_UNREAD: Counts = Counts {
+    files: 2,
+    cleared: 1,
+    unread: 1,
+    ..Counts::NONE
+};
+
 /// The endings that are looked at.
-fn endings() -> [Ending; 12] {
+fn endings() -> [Ending; 22] {
     [
         Ending::Run(Ok(true)),
         Ending::Run(Ok(false)),
+        Ending::MayPassCleared,
         Ending::Run(Err(RunError::Read)),
         Ending::Run(Err(RunError::TooLong)),
         Ending::Run(Err(RunError::Memory)),
@@ -49,16 +68,26 @@ fn endings() -> [Ending; 12] {
         Ending::Help,
         Ending::Usage,
         Ending::UnreadableWords,
-        Ending::UnopenedFile,
+        Ending::UnopenedFile(Unopened::Missing),
+        Ending::UnopenedFile(Unopened::Denied),
+        Ending::UnopenedFile(Unopened::Folder),
+        Ending::UnopenedFile(Unopened::Other),
+        Ending::Explained(SOME_REFUSED),
+        Ending::Explained(SOME_UNREAD),
+        Ending::InputAmong,
+        Ending::Table(SOME_REFUSED),
+        Ending::NamedInput,
+        Ending::UnreadNames,
         Ending::Mended(CUT),
         Ending::NotMended(Mends::NONE, Unmended::Torn),
     ]
 }
 
 /// The exit status of each, and what it says.
-static ENDS: [(u8, Option<&str>); 12] = [
+static ENDS: [(u8, Option<&str>); 22] = [
     (0, None),
     (1, None),
+    (1, Some("it may pass on a cleared screen: see anscheck why")),
     (2, Some("cannot read the file")),
     (2, Some("file above 16777216 bytes")),
     (2, Some("out of memory")),
@@ -67,9 +96,39 @@ static ENDS: [(u8, Option<&str>); 12] = [
     (2, None),
     (2, Some("cannot read the command line")),
     (2, Some("cannot open the file")),
+    (2, Some("cannot open the file")),
+    (2, Some("cannot read the file")),
+    (2, Some("cannot open the file")),
+    (1, None),
+    (2, None),
+    (
+        2,
+        Some("'-' is standard input, and cannot be one of several files"),
+    ),
+    (1, None),
+    (
+        2,
+        Some("table takes no '-': without FILE it reads file names from standard input"),
+    ),
+    (2, Some("cannot read the names")),
     (0, None),
     (1, None),
 ];
+
+/// What is said of a file that was not opened, after its name.
+static REASONS: [(Unopened, &str); 4] = [
+    (Unopened::Missing, "no such file"),
+    (Unopened::Denied, "permission denied"),
+    (Unopened::Folder, "is a folder"),
+    (Unopened::Other, "cannot open the file"),
+];
+
+#[test]
+fn files_that_are_not_opened_have_their_reasons(rt: HostRuntime) {
+    for (reason, text) in &REASONS {
+        assert_eq!(rt; reason.reason(), *text);
+    }
+}
 
 #[test]
 fn endings_have_their_statuses_and_texts(rt: HostRuntime) -> Result<(), AllocError> {

@@ -22,8 +22,8 @@ macro_rules! shown {
     };
 }
 
-/// Words, their options, and the file.
-static TAKEN: [(&[&str], Options, Option<&str>); 22] = rows! {
+/// Words, their options, and the file. Of `why` no file comes.
+static TAKEN: [(&[&str], Options, Option<&str>); 23] = rows! {
     "anscheck" "check" => asked!(Check any), None;
     "anscheck" "check" "f" => asked!(Check any), Some("f");
     "anscheck" "check" "--cleared" => asked!(Check cleared), None;
@@ -43,7 +43,8 @@ static TAKEN: [(&[&str], Options, Option<&str>); 22] = rows! {
     "anscheck" "sauce" => asked!(Sauce any), None;
     "anscheck" "tokens" => asked!(Tokens any), None;
     "anscheck" "why" => asked!(Why any), None;
-    "anscheck" "why" "f" => asked!(Why any), Some("f");
+    "anscheck" "why" "f" => asked!(Why any), None;
+    "anscheck" "why" "f" "g" "-" => asked!(Why any), None;
     "anscheck" "needs" => asked!(Needs any), None;
     "anscheck" "needs" "f" => asked!(Needs any), Some("f");
     "anscheck" "needs" "--" "--cleared" => asked!(Needs any), Some("--cleared");

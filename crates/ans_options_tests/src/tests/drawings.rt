@@ -1,59 +1,67 @@
-//! A drawing's name in the place of a command.
+//! The names of the files of `why`, with the command and without it.
 use super::faults::Row;
-use ans_options::{Asked, Command, Options, WordsError, asked};
-use ans_samples::start;
+use ans_options::{Asked, WordsError, asked, near_command};
 use clap::error::ErrorKind::{
     self, DisplayHelp, InvalidSubcommand, MissingSubcommand, UnknownArgument,
 };
 use std::alloc::AllocError;
 use std::process::Abort;
 
-/// Words that ask why of a file, and the file.
-static DRAWINGS: [(&[&str], Option<&str>); 22] = words! {
-    "drawing.ans" => Some("drawing.ans");
-    "a.ans" => Some("a.ans");
-    "a/b" => Some("a/b");
-    "/a" => Some("/a");
-    "a." => Some("a.");
-    "." => Some(".");
-    ".." => Some("..");
-    "./check" => Some("./check");
-    "./help" => Some("./help");
-    "./-" => Some("./-");
-    "check.ans" => Some("check.ans");
-    "check/" => Some("check/");
-    "help.me" => Some("help.me");
-    " -.ans" => Some(" -.ans");
-    "a-.ans" => Some("a-.ans");
-    "a.ans" "--" => Some("a.ans");
-    "why" => None;
-    "why" "a.ans" => Some("a.ans");
-    "why" "drawing" => Some("drawing");
-    "why" "why" => Some("why");
-    "why" "check" => Some("check");
-    "why" "--" "--cleared" => Some("--cleared");
+/// Words that ask why of files, and the files.
+static DRAWINGS: [(&[&str], &[&str]); 42] = words! {
+    "drawing.ans" => &["drawing.ans"];
+    "a/b" => &["a/b"];
+    "/a" => &["/a"];
+    "." => &["."];
+    ".." => &[".."];
+    "./check" => &["./check"];
+    "./help" => &["./help"];
+    "./-" => &["./-"];
+    "check.ans" => &["check.ans"];
+    "check/" => &["check/"];
+    "help.me" => &["help.me"];
+    " -.ans" => &[" -.ans"];
+    "a-.ans" => &["a-.ans"];
+    "" => &[""];
+    "chek" => &["chek"];
+    "Check" => &["Check"];
+    "checks" => &["checks"];
+    "Help" => &["Help"];
+    "F20" => &["F20"];
+    "drawing" => &["drawing"];
+    "chek" "f.ans" => &["chek", "f.ans"];
+    "a.ans" "b.ans" => &["a.ans", "b.ans"];
+    "a.ans" "b.ans" "a.ans" => &["a.ans", "b.ans", "a.ans"];
+    "a.ans" "check" => &["a.ans", "check"];
+    "a.ans" "help" => &["a.ans", "help"];
+    "a.ans" "why" => &["a.ans", "why"];
+    "a.ans" "-" => &["a.ans", "-"];
+    "a.ans" "" => &["a.ans", ""];
+    "a.ans" "--" => &["a.ans"];
+    "a.ans" "--" "--cleared" => &["a.ans", "--cleared"];
+    "why" => &[];
+    "why" "--" => &[];
+    "why" "-" => &["-"];
+    "why" "a.ans" => &["a.ans"];
+    "why" "drawing" => &["drawing"];
+    "why" "why" => &["why"];
+    "why" "check" => &["check"];
+    "why" "help" => &["help"];
+    "why" "a.ans" "b.ans" => &["a.ans", "b.ans"];
+    "why" "-" "a.ans" => &["-", "a.ans"];
+    "why" "--" "--cleared" => &["--cleared"];
+    "why" "a.ans" "--" "-b" => &["a.ans", "-b"];
 };
 
 /// Words that ask for nothing, and of which kind `clap` says they are.
-static OTHERS: [Row; 29] = words! {
-    "" => InvalidSubcommand;
-    "chek" => InvalidSubcommand;
-    "chek" "f.ans" => InvalidSubcommand;
-    "chek" "--cleared" => InvalidSubcommand;
-    "Check" => InvalidSubcommand;
-    "checks" => InvalidSubcommand;
-    "Help" => InvalidSubcommand;
-    "F20" => InvalidSubcommand;
-    "drawing" => InvalidSubcommand;
-    "drawing-ans" => InvalidSubcommand;
-    "drawing,ans" => InvalidSubcommand;
-    "drawing0ans" => InvalidSubcommand;
-    "a.ans" "b.ans" => UnknownArgument;
-    "a.ans" "check" => UnknownArgument;
-    "a.ans" "help" => UnknownArgument;
+static OTHERS: [Row; 17] = words! {
+    "chek" "--cleared" => UnknownArgument;
     "a.ans" "--flag" => UnknownArgument;
     "a.ans" "--cleared" => UnknownArgument;
+    "a.ans" "b.ans" "--cells" => UnknownArgument;
     "a.ans" "--help" => DisplayHelp;
+    "a.ans" "b.ans" "-h" => DisplayHelp;
+    "a.ans" "--version" => UnknownArgument;
     "help" "a.ans" => InvalidSubcommand;
     "help" "F20" "F21" => InvalidSubcommand;
     "--" "a.ans" => InvalidSubcommand;
@@ -64,27 +72,22 @@ static OTHERS: [Row; 29] = words! {
     "--flag=a.ans" => UnknownArgument;
     "help" => DisplayHelp;
     "check" "a.ans" "b.ans" => UnknownArgument;
-    "why" "a.ans" "b.ans" => UnknownArgument;
 };
 
-/// The file of which words ask why, or what `clap` says of them. It fails where memory runs out.
-fn file_of(
+/// The files of which words ask why, or what `clap` says of them. It fails where memory runs out.
+fn files_of(
     rt: &(impl Abort + AllocGlobal),
     words: &[&str],
-) -> Result<Result<Option<String>, ErrorKind>, AllocError> {
+) -> Result<Result<Vec<String>, ErrorKind>, AllocError> {
     match asked(rt.alloc(), words) {
-        Ok(Asked::One(options, file)) => {
-            let why = Options {
-                command: Command::Why,
-                start: start!(any),
-                cells: false,
-            };
-            assert!(rt; options == why);
-            Ok(Ok(file))
-        }
-        Ok(Asked::Table(_, _) | Asked::Mend(_, _) | Asked::Redraw(_) | Asked::Meaning(_)) => {
-            panic!(rt; "something else is asked for")
-        }
+        Ok(Asked::Why(files)) => Ok(Ok(files)),
+        Ok(
+            Asked::One(_, _)
+            | Asked::Table(_, _)
+            | Asked::Mend(_, _)
+            | Asked::Redraw(_)
+            | Asked::Meaning(_),
+        ) => { panic!(rt; "something else is asked for") }
         Err(WordsError::Memory) => Err(AllocError),
         Err(WordsError::Clap(error)) => match error.kind() {
             ErrorKind::OutOfMemory => Err(AllocError),
@@ -93,15 +96,29 @@ fn file_of(
     }
 }
 
-#[test]
-fn a_first_word_with_a_dot_or_a_slash_names_a_file(rt: HostRuntime) -> Result<(), AllocError> {
-    for (words, file) in &DRAWINGS {
-        match file_of(&rt, words)? {
-            Ok(name) => assert!(rt; name.as_ref().map(|f| f.as_str()) == *file),
-            Err(_) => panic!(rt; "no file"),
-        }
+/// Asserts of which files words ask why.
+fn expect_files(
+    rt: &(impl Abort + AllocGlobal),
+    words: &[&str],
+    files: &[&str],
+) -> Result<(), AllocError> {
+    let Ok(names) = files_of(rt, words)? else {
+        panic!(rt; "no files")
+    };
+    assert_eq!(rt; names.len(), files.len());
+    for (name, file) in names.iter().zip(files.iter()) {
+        assert_eq!(rt; name.as_str(), *file);
     }
     Ok(())
+}
+
+#[test]
+fn a_first_word_that_is_no_command_names_a_file(rt: HostRuntime) -> Result<(), AllocError> {
+    for (words, files) in &DRAWINGS {
+        expect_files(&rt, words, files)?;
+    }
+    expect_files(&rt, &["anscheck.exe", "chek"], &["chek"])?;
+    expect_files(&rt, &["", "a", "b"], &["a", "b"])
 }
 
 /// Asserts that words ask for nothing, and of which kind `clap` says they are.
@@ -110,8 +127,8 @@ fn expect_nothing(
     words: &[&str],
     kind: ErrorKind,
 ) -> Result<(), AllocError> {
-    match file_of(rt, words)? {
-        Ok(_) => panic!(rt; "a file"),
+    match files_of(rt, words)? {
+        Ok(_) => panic!(rt; "files"),
         Err(found) => assert_eq!(rt; found, kind),
     }
     Ok(())
@@ -123,6 +140,42 @@ fn other_words_stay_as_they_are(rt: HostRuntime) -> Result<(), AllocError> {
         expect_nothing(&rt, words, *kind)?;
     }
     expect_nothing(&rt, &[], MissingSubcommand)?;
-    expect_nothing(&rt, &["anscheck"], MissingSubcommand)?;
-    expect_nothing(&rt, &["anscheck.exe", "chek"], InvalidSubcommand)
+    expect_nothing(&rt, &["anscheck"], MissingSubcommand)
+}
+
+/// Words, and the command that may have been meant: one that is one edit away, or else the first that is two.
+static NEAR: [(&str, Option<&str>); 25] = [
+    ("chekc", Some("check")),
+    ("chek", Some("check")),
+    ("checks", Some("check")),
+    ("Check", Some("check")),
+    ("chew", Some("check")),
+    ("shew", Some("show")),
+    ("whow", Some("show")),
+    ("shwo", Some("show")),
+    ("w", Some("why")),
+    ("wéé", Some("why")),
+    ("men", Some("mend")),
+    ("amend", Some("mend")),
+    ("redrow", Some("redraw")),
+    ("nedes", Some("needs")),
+    ("souce", Some("sauce")),
+    ("token", Some("tokens")),
+    ("tabel", Some("table")),
+    ("tables", Some("table")),
+    ("", None),
+    ("x", None),
+    ("F20", None),
+    ("CHECK", None),
+    ("help", None),
+    ("checking", None),
+    ("drawing", None),
+];
+
+/// Where memory runs out no command is named.
+#[test]
+fn a_misspelt_command_is_recognised(rt: HostRuntime) {
+    for (word, command) in &NEAR {
+        assert_eq!(rt; near_command(rt.alloc(), word), *command);
+    }
 }

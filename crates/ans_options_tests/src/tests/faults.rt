@@ -107,8 +107,9 @@ macro_rules! after_help {
     };
 }
 
-/// What may not follow `help`, and of which kind that mistake is. To `clap` the name of a fault is one.
-static HELP_MISTAKES: [Row; 18] = after_help! {
+/// What may not follow `help`, and of which kind that mistake is. To `clap` the name of a fault is one. After a
+/// command that takes files its first word is taken as a command that there is not.
+static HELP_MISTAKES: [Row; 21] = after_help! {
     "nonsense" => InvalidSubcommand;
     "need" => InvalidSubcommand;
     "help" => InvalidSubcommand;
@@ -127,6 +128,9 @@ static HELP_MISTAKES: [Row; 18] = after_help! {
     "n3" => InvalidSubcommand;
     "F20" "F21" => InvalidSubcommand;
     "check" "F20" => UnknownArgument;
+    "why" "more" => InvalidSubcommand;
+    "why" "why" "more" => UnknownArgument;
+    "table" "more" => InvalidSubcommand;
 };
 
 /// Asserts so of each row.

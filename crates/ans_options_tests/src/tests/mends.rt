@@ -18,10 +18,10 @@ macro_rules! mends {
 
 /// All that may be changed.
 const EVERYTHING: Mends = Mends {
-    width: Some(80),
-    line_ends: true,
+    add_record: Some(80),
+    crlf: true,
     take_out: true,
-    full_rows: true,
+    join_rows: true,
     name_colours: true,
     least_lines: true,
     lines: Some(25),
@@ -34,8 +34,8 @@ static MENDED: [(&[&str], Mends, Option<&str>); 27] = words! {
     "mend" "-" => mends!(), Some("-");
     "mend" "help" => mends!(), Some("help");
     "mend" "--take-out" => mends!(take_out: true), None;
-    "mend" "--line-ends" => mends!(line_ends: true), None;
-    "mend" "--full-rows" => mends!(full_rows: true), None;
+    "mend" "--crlf" => mends!(crlf: true), None;
+    "mend" "--join-rows" => mends!(join_rows: true), None;
     "mend" "--name-colours" => mends!(name_colours: true), None;
     "mend" "--least-lines" => mends!(least_lines: true), None;
     "mend" "--lines" "1" => mends!(lines: Some(1)), None;
@@ -43,21 +43,21 @@ static MENDED: [(&[&str], Mends, Option<&str>); 27] = words! {
     "mend" "--lines=25" "f" => mends!(lines: Some(25)), Some("f");
     "mend" "--lines" "0025" "f" => mends!(lines: Some(25)), Some("f");
     "mend" "--lines" "1025" => mends!(lines: Some(1025)), None;
-    "mend" "--width" "1" => mends!(width: Some(1)), None;
-    "mend" "--width" "1024" => mends!(width: Some(1024)), None;
-    "mend" "f" "--width=80" => mends!(width: Some(80)), Some("f");
-    "mend" "--width" "+80" "f" => mends!(width: Some(80)), Some("f");
-    "mend" "--width" "132" "--lines" "50" => mends!(width: Some(132), lines: Some(50)), None;
-    "mend" "--lines" "50" "f" "--width" "132" => mends!(width: Some(132), lines: Some(50)), Some("f");
-    "mend" "--take-out" "f" "--full-rows" => mends!(take_out: true, full_rows: true), Some("f");
-    "mend" "--line-ends" "--least-lines" => mends!(line_ends: true, least_lines: true), None;
-    "mend" "--take-out" "--line-ends" "--full-rows" "--name-colours" "--least-lines" "--lines" "25" "--width" "80" "f"
+    "mend" "--add-record" "1" => mends!(add_record: Some(1)), None;
+    "mend" "--add-record" "1024" => mends!(add_record: Some(1024)), None;
+    "mend" "f" "--add-record=80" => mends!(add_record: Some(80)), Some("f");
+    "mend" "--add-record" "+80" "f" => mends!(add_record: Some(80)), Some("f");
+    "mend" "--add-record" "132" "--lines" "50" => mends!(add_record: Some(132), lines: Some(50)), None;
+    "mend" "--lines" "50" "f" "--add-record" "132" => mends!(add_record: Some(132), lines: Some(50)), Some("f");
+    "mend" "--take-out" "f" "--join-rows" => mends!(take_out: true, join_rows: true), Some("f");
+    "mend" "--crlf" "--least-lines" => mends!(crlf: true, least_lines: true), None;
+    "mend" "--take-out" "--crlf" "--join-rows" "--name-colours" "--least-lines" "--lines" "25" "--add-record" "80" "f"
         => EVERYTHING, Some("f");
-    "mend" "f" "--width" "80" "--lines" "25" "--least-lines" "--name-colours" "--full-rows" "--line-ends" "--take-out"
+    "mend" "f" "--add-record" "80" "--lines" "25" "--least-lines" "--name-colours" "--join-rows" "--crlf" "--take-out"
         => EVERYTHING, Some("f");
     "mend" "--" "--take-out" => mends!(), Some("--take-out");
     "mend" "--" "--lines" => mends!(), Some("--lines");
-    "mend" "--width" "80" "--" "25" => mends!(width: Some(80)), Some("25");
+    "mend" "--add-record" "80" "--" "25" => mends!(add_record: Some(80)), Some("25");
 };
 
 /// Words that are wrong, and the kind of the mistake.
@@ -75,28 +75,28 @@ static FAULTS: [Row; 37] = words! {
     "mend" "f" "--lines" => InvalidValue;
     "mend" "--lines" "--take-out" => InvalidValue;
     "mend" "--lines" "--" "25" => InvalidValue;
-    "mend" "--width" "0" => ValueValidation;
-    "mend" "--width" "1025" => ValueValidation;
-    "mend" "--width" "8192" => ValueValidation;
-    "mend" "--width" "65616" => ValueValidation;
-    "mend" "--width" "18446744073709551696" => ValueValidation;
-    "mend" "--width" "x" => ValueValidation;
-    "mend" "--width" "80x" => ValueValidation;
-    "mend" "--width" " 80" => ValueValidation;
-    "mend" "--width" "50h" => ValueValidation;
-    "mend" "--width" => InvalidValue;
-    "mend" "--width" "80" "--width" "80" => ArgumentConflict;
+    "mend" "--add-record" "0" => ValueValidation;
+    "mend" "--add-record" "1025" => ValueValidation;
+    "mend" "--add-record" "8192" => ValueValidation;
+    "mend" "--add-record" "65616" => ValueValidation;
+    "mend" "--add-record" "18446744073709551696" => ValueValidation;
+    "mend" "--add-record" "x" => ValueValidation;
+    "mend" "--add-record" "80x" => ValueValidation;
+    "mend" "--add-record" " 80" => ValueValidation;
+    "mend" "--add-record" "50h" => ValueValidation;
+    "mend" "--add-record" => InvalidValue;
+    "mend" "--add-record" "80" "--add-record" "80" => ArgumentConflict;
     "mend" "--lines" "25" "--lines" "50" => ArgumentConflict;
     "mend" "--take-out" "--take-out" => ArgumentConflict;
-    "mend" "--line-ends=yes" => TooManyValues;
-    "mend" "--width" "80" "f" "g" => UnknownArgument;
+    "mend" "--crlf=yes" => TooManyValues;
+    "mend" "--add-record" "80" "f" "g" => UnknownArgument;
     "mend" "f" "g" => UnknownArgument;
     "mend" "--cleared" => UnknownArgument;
     "mend" "--cells" => UnknownArgument;
     "mend" "--known-wrap" => UnknownArgument;
     "why" "--take-out" => UnknownArgument;
-    "redraw" "--width" "80" => UnknownArgument;
-    "check" "--width" "80" => UnknownArgument;
+    "redraw" "--add-record" "80" => UnknownArgument;
+    "check" "--add-record" "80" => UnknownArgument;
     "show" "--lines=25" => UnknownArgument;
     "table" "--least-lines" => UnknownArgument;
 };
@@ -108,9 +108,13 @@ fn mends_of(
 ) -> Result<(Mends, Option<String>), AllocError> {
     match asked(rt.alloc(), words) {
         Ok(Asked::Mend(mends, file)) => Ok((mends, file)),
-        Ok(Asked::One(_, _) | Asked::Table(_, _) | Asked::Redraw(_) | Asked::Meaning(_)) => {
-            panic!(rt; "nothing to mend")
-        }
+        Ok(
+            Asked::One(_, _)
+            | Asked::Why(_)
+            | Asked::Table(_, _)
+            | Asked::Redraw(_)
+            | Asked::Meaning(_),
+        ) => { panic!(rt; "nothing to mend") }
         Err(WordsError::Memory) => Err(AllocError),
         Err(WordsError::Clap(error)) => {
             assert_eq!(rt; error.kind(), OutOfMemory);

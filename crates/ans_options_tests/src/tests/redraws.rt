@@ -20,9 +20,13 @@ static REDRAWN: [(&[&str], Option<&str>); 6] = words! {
 fn file_of(rt: &(impl Abort + AllocGlobal), words: &[&str]) -> Result<Option<String>, AllocError> {
     match asked(rt.alloc(), words) {
         Ok(Asked::Redraw(file)) => Ok(file),
-        Ok(Asked::One(_, _) | Asked::Table(_, _) | Asked::Mend(_, _) | Asked::Meaning(_)) => {
-            panic!(rt; "nothing to redraw")
-        }
+        Ok(
+            Asked::One(_, _)
+            | Asked::Why(_)
+            | Asked::Table(_, _)
+            | Asked::Mend(_, _)
+            | Asked::Meaning(_),
+        ) => { panic!(rt; "nothing to redraw") }
         Err(WordsError::Memory) => Err(AllocError),
         Err(WordsError::Clap(error)) => {
             assert_eq!(rt; error.kind(), OutOfMemory);

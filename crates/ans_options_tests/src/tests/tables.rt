@@ -44,9 +44,13 @@ static FAULTS: [Row; 6] = words! {
 fn names_of(rt: &(impl Abort + AllocGlobal), words: &[&str]) -> Result<Vec<String>, AllocError> {
     match asked(rt.alloc(), words) {
         Ok(Asked::Table(_, names)) => Ok(names),
-        Ok(Asked::One(_, _) | Asked::Mend(_, _) | Asked::Redraw(_) | Asked::Meaning(_)) => {
-            panic!(rt; "no table")
-        }
+        Ok(
+            Asked::One(_, _)
+            | Asked::Why(_)
+            | Asked::Mend(_, _)
+            | Asked::Redraw(_)
+            | Asked::Meaning(_),
+        ) => { panic!(rt; "no table") }
         Err(WordsError::Memory) => Err(AllocError),
         Err(WordsError::Clap(error)) => {
             assert_eq!(rt; error.kind(), OutOfMemory);

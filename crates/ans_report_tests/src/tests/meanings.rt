@@ -1,64 +1,54 @@
 //! What each fault and each note means.
-use ans_report::{fault_meaning, note_meaning};
-use ans_sauce::{Cause, Note};
+use ans_report::{fault_meaning, fault_text, note_meaning, note_text};
+use ans_sauce::{Cause, Fault, Note};
 use std::process::Abort;
 
 /// Some faults, and the whole text of each.
-static FAULTS: [(Cause, &str); 6] = [
+static FAULTS: [(Cause, &str); 4] = [
     (
         Cause::LinesTooLarge,
-        "The record states more than 8192 lines. If the drawing is not that long, the\n\
-        field is damaged.\n\
+        "F7 lines above 8192\n\
         \n\
-        To mend it, state the lines that the drawing has. A longer one has to be split\n\
-        into several files.\n",
+        The record says that the drawing has more than 8192 lines. If it is not that\n\
+        long, the field is damaged.\n\
+        \n\
+        Set the right number, the two bytes at the offset, low byte first. Split a\n\
+        drawing that really is longer. No command does that.\n",
     ),
     (
         Cause::PrintBelow,
-        "Something is printed below the lines that the record states. Either the drawing\n\
-        is torn, or it is longer than its record says.\n\
+        "F20 print below the stated lines\n\
         \n\
-        To mend it, look at the hints of 'anscheck why' first: full rows with line\n\
-        ends, bare line feeds, rows over the edge and UTF-8 tear a drawing. Only if the\n\
-        picture is right, state as many lines as the line 'lines:' says.\n",
+        Something is printed below the last line. Usually the rows are broken; only\n\
+        sometimes is the record wrong. The hints of 'anscheck why' say which:\n\
+        \n\
+        \x20 bare line feeds (a staircase)    anscheck mend --crlf FILE > FIXED\n\
+        \x20 line ends after full rows        anscheck mend --join-rows FILE > FIXED\n\
+        \x20 rows wider than the screen       set the width that it was made for\n\
+        \x20 UTF-8                            convert it to code page 437\n\
+        \x20 too few lines, picture right     anscheck mend --least-lines FILE > FIXED\n",
     ),
     (
         Cause::PrintUnknownPlace,
-        "Something is printed before the drawing has said where the cursor stands. On a\n\
-        screen where it stands elsewhere, the drawing is moved. The place is also\n\
-        unknown behind a full row if wrap was not switched on, and behind ESC[u if\n\
-        nothing was saved.\n\
+        "F22 print at an unknown place\n\
         \n\
-        To mend it, put the safe beginning in front:\n\
-        ESC[?7h ESC[0;37;40m ESC[2J ESC[H ESC[s, without the blanks.\n",
-    ),
-    (
-        Cause::EraseUnknownPlace,
-        "ESC[K blanks the rest of the cursor's row, and the drawing has not yet said\n\
-        where the cursor stands. It would blank another row on another screen.\n\
+        Something is printed before the drawing has said where the cursor is. With the\n\
+        cursor elsewhere the picture moves. (This also happens after a full row if wrap\n\
+        was never switched on, and after ESC[u without ESC[s.)\n\
         \n\
-        To mend it, put the safe beginning in front:\n\
-        ESC[?7h ESC[0;37;40m ESC[2J ESC[H ESC[s, without the blanks. If the rest of\n\
-        the screen is to stay, place the cursor first: ESC[1;1H.\n",
-    ),
-    (
-        Cause::MayScroll,
-        "A line feed comes where the cursor may stand below the stated lines. From some\n\
-        starts the screen scrolls and loses its top row.\n\
-        \n\
-        To mend it, put the safe beginning in front:\n\
-        ESC[?7h ESC[0;37;40m ESC[2J ESC[H ESC[s, without the blanks. If the line feed\n\
-        then scrolls from every start, it is F21: take it out.\n",
+        This starts the drawing with ESC[?7h ESC[0;37;40m ESC[2J ESC[H ESC[s:\n\
+        \x20 anscheck mend FILE > FIXED\n",
     ),
     (
         Cause::UnknownCell { row: 3, col: 7 },
-        "At the end there is a cell in which nothing was printed, or something in\n\
-        colours that the drawing never set. What was on the screen before shows\n\
-        through, or its colours do.\n\
+        "F25 cell stays unknown\n\
         \n\
-        To mend it, put the safe beginning in front:\n\
-        ESC[?7h ESC[0;37;40m ESC[2J ESC[H ESC[s, without the blanks. The colours have\n\
-        to come before the clearing, which fills the screen with them.\n",
+        At the end some cell depends on what was on the screen before: nothing was\n\
+        printed there, or in colours that the drawing never set.\n\
+        \n\
+        This starts the drawing with ESC[?7h ESC[0;37;40m ESC[2J ESC[H ESC[s:\n\
+        \x20 anscheck mend FILE > FIXED\n\
+        By hand, set the colours before you clear: clearing fills the screen with them.\n",
     ),
 ];
 
@@ -69,33 +59,36 @@ fn faults_and_notes_mean_something(rt: HostRuntime) {
     }
     assert_eq!(rt;
         note_meaning(Note::WidthAssumed),
-        "The record states no width, and 80 columns are assumed. If the drawing was made\n\
-        for another width, it is checked on the wrong screen.\n\
+        "N1 width 0 taken as 80\n\
         \n\
-        To mend it, state the width: bytes 96 and 97 of the record, the lower one\n\
-        first.\n"
+        The record does not say how wide the drawing is, and 80 columns are assumed.\n\
+        \n\
+        If that is wrong, set the width, bytes 96 and 97 of the record, low byte first.\n\
+        No command does that.\n"
     );
 }
 
-/// Asserts of a text what holds of each: two parts with an empty line between them, of which the second says how
-/// it is mended, in lines of at most 79 characters of ASCII.
-fn expect_two_parts(rt: &impl Abort, text: &str) {
-    assert!(rt; text.is_ascii() && text.ends_with(".\n"));
-    assert_eq!(rt; text.split("\n\n").count(), 2);
-    for (i, part) in text.split("\n\n").enumerate() {
-        assert_eq!(rt; part.starts_with("To mend it, "), i == 1);
-    }
+/// Asserts of a text what holds of each: an empty line and at least two parts after the title, in lines of at most 79
+/// characters of ASCII, with a command of the program or the words that there is none.
+fn expect_parts_after(rt: &impl Abort, title: &str, text: &str) {
+    assert!(rt; text.is_ascii() && text.ends_with("\n") && text.contains(title));
+    assert!(rt; text.split("\n\n").count() >= 3);
+    assert!(rt; text.contains("anscheck mend ") || text.contains("command does"));
     for line in text.split('\n') {
         assert!(rt; line.len() <= 79);
     }
 }
 
 #[test]
-fn each_text_says_what_it_is_and_how_it_is_mended(rt: HostRuntime) {
+fn each_text_says_what_it_is_and_how_it_is_fixed(rt: HostRuntime) {
     for cause in &Cause::EACH {
-        expect_two_parts(&rt, fault_meaning(cause));
+        let fault = Fault {
+            offset: 0,
+            cause: *cause,
+        };
+        expect_parts_after(&rt, fault_text(&fault), fault_meaning(cause));
     }
     for note in Note::EACH {
-        expect_two_parts(&rt, note_meaning(note));
+        expect_parts_after(&rt, note_text(&note), note_meaning(note));
     }
 }

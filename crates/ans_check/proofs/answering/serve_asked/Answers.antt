@@ -1,14 +1,19 @@
 use Rattle.ans_check.proofs.answering.serve_asked.Goals as goal
 
 pub returns-in-One-clause-ends : goal.returns-in-One-clause-ends
-returns-in-One-clause-ends g c = rw c.in-One.is c.serve_one.ensures.ends
+returns-in-One-clause-ends g c = rw c.in-One.is (rw c.name_of.ensures at c.serve_command.ensures.ends)
+
+pub returns-in-Why-clause-ends : goal.returns-in-Why-clause-ends
+returns-in-Why-clause-ends g c = rw c.in-Why.is (rw c.as_slice.ensures.value at c.serve_why.ensures.ends)
 
 pub returns-in-Table-clause-ends : goal.returns-in-Table-clause-ends
 returns-in-Table-clause-ends g c =
-    rw c.in-Table.is (rw c.as_slice.ensures.value at c.serve_table.ensures.ends)
+    rw c.in-Table.is (rw c.as_slice-in-Table.ensures.value at c.serve_table.ensures.ends)
 
 pub returns-in-Mend-clause-ends : goal.returns-in-Mend-clause-ends
-returns-in-Mend-clause-ends g c = rw c.in-Mend.is c.serve_one-in-Mend.ensures.ends
+returns-in-Mend-clause-ends g c =
+    rw c.in-Mend.is (rw c.name_of-in-Mend.ensures at c.serve_one.ensures.ends)
 
 pub returns-in-Redraw-clause-ends : goal.returns-in-Redraw-clause-ends
-returns-in-Redraw-clause-ends g c = rw c.in-Redraw.is c.serve_one-in-Redraw.ensures.ends
+returns-in-Redraw-clause-ends g c =
+    rw c.in-Redraw.is (rw c.name_of-in-Redraw.ensures at c.serve_one-in-Redraw.ensures.ends)

@@ -1,15 +1,15 @@
-use Rattle.std.proofs.Common.{subst, sym}
-use Rattle.ans_report.specs.ReportBytes.{report_bytes}
-use Rattle.ans_check.specs.CommandText.{ReportsCheck}
-use Rattle.ans_check.proofs.ReportLemmas.{verdict_reported}
-use Rattle.ans_check.proofs.ReportedLemmas.{is_put}
+use Rattle.std.proofs.Common.{◌∙◌, ap}
+use Rattle.ans_check.specs.CommandText.{is_passed}
+use Rattle.ans_check.proofs.ReportLemmas.{passed_by}
 use Rattle.ans_check.proofs.pipeline.tell_verdict.Goals as goal
 
 pub returns : goal.returns
 returns g c =
-    let text = report_bytes c.report_of.result in
-    is_put c.is_pass.result text
-    (subst (λ passed. ReportsCheck c.args.file.now c.args.start c.args.cells passed text) (sym c.is_pass.ensures)
-    (verdict_reported c.args.file.now c.args.start c.args.cells c.in_ok-verdict.verdict c.report_of.result
-    c.report_of.ensures c.in_ok-verdict.ensures.verdict c.in_ok-verdict.ensures.exact))
-    c.put_report.ensures.text
+    let put = c.in_ok-checked.ensures in
+    record {
+      told = is_passed put.told;
+      text = put.text;
+      right = passed_by c.args.file.now c.args.start c.args.cells put.told put.text put.right;
+      puts = put.puts;
+      answers = λ works. c.is_pass.ensures ∙ ap is_passed (put.answers works);
+    }

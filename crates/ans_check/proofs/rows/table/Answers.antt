@@ -3,8 +3,9 @@ use Rattle.std.proofs.lemmas.Result.{err_from_is_err_and}
 use Rattle.ans_model.specs.Text.Words.{texts_of}
 use Rattle.ans_table.specs.declared.counts.Counts.{Counts}
 use Rattle.ans_write.specs.Puts.{device_of}
-use Rattle.ans_check.specs.Table.{header, IsFoundByName}
-use Rattle.ans_check.proofs.TableLemmas.{ends_err, rows_behind, text_cut_off}
+use Rattle.ans_check.specs.FileRows.{TellsNamed}
+use Rattle.ans_check.specs.Table.{TellsFinding, header}
+use Rattle.ans_check.proofs.RowsLemmas.{ends_err, rows_behind, text_cut_off}
 use Rattle.ans_check.proofs.rows.table.Goals as goal
 
 pub returns-in_err-tell_header-clause-device : goal.returns-in_err-tell_header-clause-device
@@ -18,8 +19,8 @@ returns-in_err-tell_header-clause-table g c =
     let (e, at, same) = err_from_is_err_and c.from_residual.result c.from_residual.ensures.1 in
     let table =
     text_cut_off g.W.Write.contents
-    (IsFoundByName g.I.Reader.Read.remaining (g.I.Inputs.is_file c.args.inputs) (g.I.Inputs.is_missing c.args.inputs))
-    c.args.form (header c.args.form) (texts_of c.args.names.now) c.args.output.now c.args.output.now
+    (TellsNamed g.I.Reader.Read.remaining (g.I.Inputs.is_file c.args.inputs) (g.I.Inputs.is_missing c.args.inputs)
+    (TellsFinding c.args.form)) (header c.args.form) (texts_of c.args.names.now) c.args.output.now c.args.output.now
     (device_of c.tell_header.new.out) c.in_err-tell_header.field-0.0
     (rw c.new-out.ensures.unchanged at c.in_err-tell_header.ensures.written) in
     rw (at, same) (search (rules, table))
@@ -28,13 +29,13 @@ pub returns-clause-table : goal.returns-clause-table
 returns-clause-table g c =
     let table =
     rows_behind g.W.Write.contents
-    (IsFoundByName g.I.Reader.Read.remaining (g.I.Inputs.is_file c.args.inputs) (g.I.Inputs.is_missing c.args.inputs))
-    c.args.form (header c.args.form) (texts_of c.args.names.now) c.args.output.now (device_of c.tell_header.new.out)
-    (device_of c.tell_files.new.out) c.tell_files.result
-    (rw c.new-out.ensures.unchanged at c.in_ok-tell_header.ensures.written) c.tell_files.ensures.rows in
+    (TellsNamed g.I.Reader.Read.remaining (g.I.Inputs.is_file c.args.inputs) (g.I.Inputs.is_missing c.args.inputs)
+    (TellsFinding c.args.form)) (header c.args.form) (texts_of c.args.names.now) c.args.output.now (device_of c.tell_header.new.out)
+    (device_of c.tell_rows.new.out) c.tell_rows.result
+    (rw c.new-out.ensures.unchanged at c.in_ok-tell_header.ensures.written) c.tell_rows.ensures.rows in
     search (rules, table)
 
 pub returns-clause-device : goal.returns-clause-device
 returns-clause-device g c =
-    let device = c.tell_files.ensures.ends.device in
+    let device = c.tell_rows.ensures.ends.device in
     search (rules, device)

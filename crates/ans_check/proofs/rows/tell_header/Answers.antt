@@ -1,5 +1,5 @@
 use Rattle.std.proofs.Common.{inl, refl}
-use Rattle.ans_check.proofs.TableLemmas.{out_in_part, out_whole}
+use Rattle.ans_check.proofs.RowsLemmas.{out_in_part, out_whole}
 use Rattle.ans_check.proofs.rows.tell_header.Goals as goal
 
 pub returns-in-Ok : goal.returns-in-Ok

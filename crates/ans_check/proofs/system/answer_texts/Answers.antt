@@ -7,8 +7,7 @@ use Rattle.ans_check.proofs.system.answer_texts.Goals as goal
 pub returns-in_default : goal.returns-in_default
 returns-in_default g c = (
   UnreadableWords,
-  inr (refl, refl),
-  c.say.ensures,
+  inr (refl, refl, c.say.ensures),
   c.status.ensures,
 )
 
@@ -16,4 +15,4 @@ pub returns : goal.returns
 returns g c = subst (λ words. AnswersOnSystem g.W.Write.contents g.E.Write.contents words c.args.output.now
     c.answer.new.output c.args.errors.now c.answer.new.errors c.status-2.result)
     (ap texts_of c.as_slice.ensures.value ∙ c.in-Ok.ensures)
-    (c.answer.result, inl c.answer.ensures.ends, c.answer.ensures.says, c.status-2.ensures)
+    (c.answer.result, inl c.answer.ensures.ends, c.status-2.ensures)

@@ -1,5 +1,5 @@
 use Rattle.ans_options.proofs.HelpWords.{help_alone, help_of_command, help_of_more, help_of_other}
-use Rattle.ans_options.proofs.HelpWords.{help_of_table_and_more}
+use Rattle.ans_options.proofs.HelpWords.{help_of_files_and_more}
 use Rattle.ans_check_laws.proofs.command_line_laws.help_takes_one_command.Goals as goal
 
 pub returns : goal.returns
@@ -8,5 +8,5 @@ returns c = record {
   command = help_of_command;
   other = help_of_other;
   more = help_of_more;
-  more_of_table = help_of_table_and_more;
+  more_of_files = help_of_files_and_more;
 }

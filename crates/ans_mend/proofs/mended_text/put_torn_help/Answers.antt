@@ -4,4 +4,5 @@ use Rattle.ans_mend.proofs.mended_text.put_torn_help.Goals as goal
 pub returns : goal.returns
 returns g c =
     Puts-then c.put.ensures
-    (Puts-then c.put_offered.ensures (Puts-then c.put_offered-2.ensures c.put-2.ensures))
+    (Puts-then c.put_offered.ensures
+    (Puts-then c.put_offered-2.ensures (Puts-then c.put-2.ensures c.put-3.ensures)))

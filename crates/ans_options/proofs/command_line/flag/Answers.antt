@@ -5,5 +5,5 @@ use Rattle.ans_options.proofs.command_line.flag.Goals as goal
 
 pub returns-clause-rule : goal.returns-clause-rule
 returns-clause-rule c =
-    rw (c.help.ensures, c.action.ensures, c.long.ensures)
+    rw (c.hide.ensures, c.help.ensures, c.action.ensures, c.long.ensures)
     (ap (λ (r : Rule). record r { long = Some c.args.name.now; action = Some SetTrue }) c.new.ensures.rule)

@@ -3,7 +3,7 @@ use Rattle.std.specs.Prelude.{string_bytes}
 use Rattle.ans_model.specs.Text.Words.{texts_of}
 use Rattle.ans_options.specs.CommandLine.{AreOptionsOf}
 use Rattle.ans_options.proofs.FlagLemmas.{flagless, mend_asked, no_cells, no_topic, one_asked, redraw_asked}
-use Rattle.ans_options.proofs.FlagLemmas.{table_asked}
+use Rattle.ans_options.proofs.FlagLemmas.{table_asked, why_asked}
 use Rattle.ans_options.proofs.command_line.options.Goals as goal
 
 one : (c : goal.In-One) → AreOptionsOf (texts_of c.args.words.now) c.in-One.options
@@ -18,6 +18,10 @@ returns-in-One-clause-flagless c = flagless (texts_of c.args.words.now) _ _ (one
 
 pub returns-in-One-clause-cells : goal.returns-in-One-clause-cells
 returns-in-One-clause-cells c = no_cells (texts_of c.args.words.now) _ _ (one c)
+
+pub returns-in-Why-clause-ok : goal.returns-in-Why-clause-ok
+returns-in-Why-clause-ok c =
+    why_asked (texts_of c.args.words.now) c.in_ok-options.field-0 _ c.in_ok-options.ensures.ok c.in-Why.is
 
 pub returns-in-Table-clause-ok : goal.returns-in-Table-clause-ok
 returns-in-Table-clause-ok c =

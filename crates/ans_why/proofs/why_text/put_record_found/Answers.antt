@@ -6,7 +6,7 @@ use Rattle.ans_why.proofs.why_text.put_record_found.Goals as goal
 
 pub returns : goal.returns
 returns g c =
-    Puts-same (found_record (decimal c.args.offset) (counted_text c.args.behind (codes "byte")))
+    Puts-same (found_record (decimal c.args.offset) (counted_text c.args.after (codes "byte")))
     (Puts-then c.put.ensures
     (Puts-then c.put_decimal.ensures
     (Puts-then c.put-2.ensures (Puts-then c.put_counted.ensures c.put-3.ensures))))

@@ -5,6 +5,6 @@ use Rattle.ans_why.proofs.why_text.put_record_refusal.Goals as goal
 
 pub returns : goal.returns
 returns g c =
-    Puts-then c.put_refusal.ensures
+    Puts-then c.put_fault_lines.ensures
     (Puts-then c.put_found.ensures
     (Puts-then (Puts-same (ap known_line c.known_found.ensures) c.put_known_line.ensures) c.put_enough.ensures))

@@ -7,9 +7,8 @@ use Rattle.ans_why.proofs.why_text.put_refused.Goals as goal
 pub returns : goal.returns
 returns g c =
     let font : c.font.result.now ≡ font_of c.args.parts.now = search rules in
-    Puts-then c.put_refusal.ensures
-    (Puts-then c.put_bytes_line.ensures
+    Puts-then c.put_fault_lines.ensures
     (Puts-then c.put_known_line.ensures
     (Puts-then c.put_place_line.ensures
     (Puts-then (Puts-same (ap₂ hints_text c.told_hints.ensures font) c.put_hints.ensures)
-    c.put_lines_line.ensures))))
+    c.put_lines_line.ensures)))

@@ -5,6 +5,4 @@ use Rattle.ans_why.proofs.why_text.put_reliance.Goals as goal
 
 pub returns : goal.returns
 returns g c =
-    Puts-same (sym (ap reliance_lines c.in-Some.is))
-    (Puts-then c.put_fault_line.ensures
-    (Puts-then c.put_bytes_line.ensures (Puts-then c.put_shown.ensures c.put_mend_line.ensures)))
+    Puts-same (sym (ap reliance_lines c.in-Some.is)) (Puts-then c.put_blamed_line.ensures c.put_shown.ensures)

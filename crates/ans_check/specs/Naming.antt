@@ -1,0 +1,126 @@
+-- What standard error calls the input, and how an input that cannot be opened is told.
+use Rattle.std.specs.Prelude.{◌≡◌, ℕ, Bool, true, false, not, ◌&&◌, ◌||◌, ◌==◌, List, [], ◌∷◌, ◌++◌, Option, Some, None}
+use Rattle.std.specs.Prelude.{IfSome, IsSomeAnd, codes, if◌then◌else◌, is_some, map, option_map, string_bytes}
+use Rattle.std.specs.List.{list_any}
+use Rattle.std.specs.Option.{option_map_or}
+use Rattle.std.specs.Str.{bytes_eq}
+use Rattle.std.specs.declared.io.ErrorKind.{ErrorKind}
+use Rattle.std.specs.declared.io.ErrorKind.TheVariants as kind
+use Rattle.clap.specs.Words.{Text}
+use Rattle.ans_options.specs.CommandLine.{IsNear, command_name}
+use Rattle.ans_options.specs.Topics.{topic_named}
+use Rattle.ans_options.specs.declared.command.Asked.{Asked}
+use Rattle.ans_options.specs.declared.command.Asked.TheVariants as asked
+use Rattle.ans_options.specs.declared.command.Command.{Command}
+use Rattle.ans_options.specs.declared.command.Command.TheVariants.{Check, Sauce, Tokens, Why}
+use Rattle.ans_table.specs.NameText.{name_text}
+use Rattle.ans_check.specs.declared.naming.Naming.{Naming}
+use Rattle.ans_check.specs.declared.unopened.Unopened.{Unopened}
+use Rattle.ans_check.specs.declared.unopened.Unopened.TheVariants.{Missing, Denied, Folder, Other}
+
+-- `-` names standard input
+abbrev pub names_standard : Text → Bool
+names_standard name = bytes_eq name (codes "-")
+
+-- whether a command's messages tell the name of its file and the system's reason
+abbrev pub tells_reason : Command → Bool
+tells_reason Check = false
+tells_reason Sauce = false
+tells_reason Tokens = false
+tells_reason _ = true
+
+-- the name of an input that is a file
+abbrev pub file_called : Option Text → Option Text
+file_called None = None
+file_called (Some name) = if names_standard name then None else Some name
+
+-- the first of these names
+abbrev pub first_called : List Text → Option Text
+first_called [] = None
+first_called (name ∷ more) = Some name
+
+-- the name that is told of what is asked for
+abbrev pub name_called : Asked → Option Text
+name_called (asked.One options file) =
+    if tells_reason options.command then file_called (option_map string_bytes file) else None
+name_called (asked.Why names) = file_called (first_called (map string_bytes names.items))
+name_called (asked.Mend mends file) = file_called (option_map string_bytes file)
+name_called (asked.Redraw file) = file_called (option_map string_bytes file)
+name_called (asked.Table form names) = None
+name_called (asked.Meaning topic) = None
+
+abbrev pub is_why : Asked → Bool
+is_why (asked.Why names) = true
+is_why _ = false
+
+-- whether the words after the program's name do not begin with `why`
+abbrev pub is_left_out : List Text → Bool
+is_left_out (program ∷ word ∷ more) = not (bytes_eq word (command_name Why))
+is_left_out _ = false
+
+abbrev pub is_dot_or_slash : ℕ → Bool
+is_dot_or_slash byte = byte == 0x2E || byte == 0x2F
+
+-- whether a name may have been meant as a command: it has neither a dot nor a slash
+abbrev pub is_word : Option Text → Bool
+is_word name = option_map_or (λ n. not (list_any is_dot_or_slash n)) name false
+
+-- What the messages call the input of what these words ask for. A name in a command's place, without a dot or a slash,
+-- may have been meant as a command, or as a word that help explains.
+pub record IsNaming (words : List Text) (a : Asked) (n : Naming) : Type 0 where
+  pub name : option_map (λ name. name.now) n.name ≡ name_called a
+  pub word : n.is_word ≡ (is_why a && (is_left_out words && is_word (name_called a)))
+  pub topic : n.is_topic ≡ true → IsSomeAnd (name_called a) (λ name. is_some (topic_named name) ≡ true)
+  pub near : IfSome n.near (λ command. IsSomeAnd (name_called a) (λ name. IsNear name command.now))
+
+-- nothing is told
+abbrev pub unnamed : Naming
+unnamed = record { name = None; is_word = false; is_topic = false; near = None }
+
+-- ---- an input that cannot be opened
+
+-- the reason, by the kind of the system's error
+abbrev pub unopened_of : ErrorKind → Unopened
+unopened_of kind.NotFound = Missing
+unopened_of kind.PermissionDenied = Denied
+unopened_of kind.IsADirectory = Folder
+unopened_of _ = Other
+
+-- the reason in words
+abbrev pub reason_text : Unopened → List ℕ
+reason_text Missing = codes "no such file"
+reason_text Denied = codes "permission denied"
+reason_text Folder = codes "is a folder"
+reason_text Other = codes "cannot open the file"
+
+-- the same without the reason
+abbrev pub plain_text : Unopened → List ℕ
+plain_text Folder = codes "cannot read the file"
+plain_text _ = codes "cannot open the file"
+
+-- a file's name, before what is said of it
+abbrev pub front_text : Naming → List ℕ
+front_text n = option_map_or (λ name. name_text name.now ++ codes ": ") n.name []
+
+-- what may have been meant by a word that is neither a file nor a command
+abbrev pub meant_text : Naming → List ℕ
+meant_text n =
+    option_map_or (λ command. codes "; did you mean " ++ (command.now ++ codes "?")) n.near
+    (if n.is_topic then codes "; did you mean anscheck help " ++ (option_map_or (λ name. name.now) n.name [] ++ codes "?")
+    else [])
+
+-- a word that is neither a file nor a command
+abbrev pub missing_text : Naming → List ℕ
+missing_text n = codes "no such file, and no such command" ++ meant_text n
+
+abbrev pub is_missing : Unopened → Bool
+is_missing Missing = true
+is_missing _ = false
+
+-- why an input of this name was not opened
+abbrev pub reason_told : Naming → Unopened → List ℕ
+reason_told n reason = if n.is_word && is_missing reason then missing_text n else reason_text reason
+
+-- why an input was not opened, after its name if that is told
+abbrev pub unopened_text : Naming → Unopened → List ℕ
+unopened_text n reason = if is_some n.name then front_text n ++ reason_told n reason else plain_text reason

@@ -1,0 +1,146 @@
+//! What standard error calls the input.
+
+ghost use Rattle.std.specs.Prelude.{◌≡◌, map, option_map, string_bytes};
+ghost use Rattle.std.specs.List.{list_any};
+ghost use Rattle.ans_model.specs.Text.Words.{texts_of};
+ghost use Rattle.ans_check.specs.Naming.{IsNaming, file_called, first_called, is_dot_or_slash, is_left_out};
+ghost use Rattle.ans_check.specs.Naming.{is_word, name_called, tells_reason, unnamed};
+
+use crate::exit_status::Ending;
+use crate::unopened::Unopened;
+use ans_options::{Asked, Command, explains, near_command};
+use std::alloc::Global;
+
+/// What standard error calls the input.
+#[derive(Debug, Clone, Copy)]
+pub struct Naming<'a> {
+    /// The name of the file, if it is told.
+    pub name: Option<&'a str>,
+    /// Whether the name is a word that may have been meant as a command.
+    pub is_word: bool,
+    /// Whether help explains the word.
+    pub is_topic: bool,
+    /// The command that may have been meant.
+    pub near: Option<&'static str>,
+}
+
+/// No name is told.
+pub(crate) fn unnamed() -> Naming<'static>
+    ensures { result ≡ unnamed }
+{
+    Naming {
+        name: None,
+        is_word: false,
+        is_topic: false,
+        near: None,
+    }
+}
+
+/// Whether a command's messages tell the name and the reason: those of `check`, `sauce` and `tokens` do not.
+fn tells_reason(command: Command) -> bool
+    ensures { result ≡ tells_reason command }
+{
+    !matches!(command, Command::Check | Command::Sauce | Command::Tokens)
+}
+
+/// The name of an input, unless it is standard input.
+fn file_called(name: Option<&str>) -> Option<&str>
+    ensures { option_map (λ n. n.now) result ≡ file_called (option_map (λ n. n.now) name.entry) }
+{
+    match name {
+        Some("-") | None => None,
+        Some(name) => Some(name),
+    }
+}
+
+/// A view of a name.
+pub(crate) fn name_of(name: &Option<String>) -> Option<&str>
+    ensures { option_map (λ n. n.now) result ≡ option_map string_bytes name.now }
+{
+    match name {
+        Some(name) => Some(name.as_str()),
+        None => None,
+    }
+}
+
+/// A view of the first name.
+pub(crate) fn first_of(names: &[String]) -> Option<&str>
+    ensures { option_map (λ n. n.now) result ≡ first_called (map string_bytes names.now) }
+{
+    match names {
+        [name, ..] => Some(name.as_str()),
+        [] => None,
+    }
+}
+
+/// The name that is told of what is asked for.
+fn name_called(asked: &Asked) -> Option<&str>
+    ensures { option_map (λ n. n.now) result ≡ name_called asked.now }
+{
+    match asked {
+        Asked::One(options, name) => {
+            if tells_reason(options.command) {
+                file_called(name_of(name))
+            } else {
+                None
+            }
+        }
+        Asked::Why(names) => file_called(first_of(names.as_slice())),
+        Asked::Mend(_, name) | Asked::Redraw(name) => file_called(name_of(name)),
+        Asked::Table(..) | Asked::Meaning(_) => None,
+    }
+}
+
+/// Whether the words have no command, so that the first of them is a file's name: `why` was put before it.
+pub(crate) fn is_left_out(words: &[&str]) -> bool
+    ensures { result ≡ is_left_out (texts_of words.now) }
+{
+    match words {
+        [_, word, ..] => *word != "why",
+        _ => false,
+    }
+}
+
+fn has_dot_or_slash(bytes: &[u8]) -> bool
+    ensures { result ≡ list_any is_dot_or_slash bytes.now }
+{
+    bytes.iter().any(|byte| *byte == b'.' || *byte == b'/')
+}
+
+/// Whether a name may have been meant as a command: it has neither a dot nor a slash.
+pub(crate) fn is_word(name: Option<&str>) -> bool
+    ensures { result ≡ is_word (option_map (λ n. n.now) name.entry) }
+{
+    match name {
+        Some(name) => !has_dot_or_slash(name.as_bytes()),
+        None => false,
+    }
+}
+
+/// What an ending calls the input of what the words ask for.
+pub(crate) fn naming_of<'a>(
+    alloc: Global,
+    words: &[&str],
+    asked: &'a Asked,
+    ending: &Ending,
+) -> Naming<'a>
+    ensures { IsNaming (texts_of words.now) asked.now result }
+{
+    let name = name_called(asked);
+    let is_why = matches!(asked, Asked::Why(_));
+    let is_word = is_why && is_left_out(words) && is_word(name);
+    let plain = Naming {
+        name,
+        is_word,
+        is_topic: false,
+        near: None,
+    };
+    match (name, ending) {
+        (Some(word), Ending::UnopenedFile(Unopened::Missing)) if is_word => Naming {
+            is_topic: explains(word),
+            near: near_command(alloc, word),
+            ..plain
+        },
+        _ => plain,
+    }
+}
