@@ -1,17 +1,17 @@
 /* ans.h: the proved checker of ANSI art files (.ANS), for C and C++. Version 0.2.0.
  *
- * Link libans_c, which wants memcpy, memmove and memset and nothing else. No call asks for memory, keeps anything,
+ * Link libans_c, which needs memcpy, memmove and memset and nothing else. No call asks for memory, keeps anything,
  * or calls back; calls share nothing, so threads may call at the same time. A call takes up to 100 KiB of stack.
  * ans_easy.h has the same calls with memory from malloc.
  *
- * What the checker promises of an answer holds where the caller keeps this:
- * - A pointer and the length after it are one array, which is there during the call, and may be read; an array that
- *   is not const may be written too. A null pointer goes with the length 0 alone.
+ * What the checker promises of an answer is true if the caller keeps this:
+ * - A pointer and the length after it are one array, which exists during the call, and may be read; an array that
+ *   is not const may be written too. Only with the length 0 may a pointer be null.
  * - No array, structure or number that is written overlaps another argument.
  *
- * Of what a call may write, all that its answer does not say to be set holds anything afterwards. Lengths, sizes and
- * offsets are in bytes, and offsets count from the file's start. Texts are in UTF-8, and no zero byte ends them, but
- * for those that come as const char *.
+ * Whatever a call may write, and its answer does not say to be set, has any content afterwards. Lengths, sizes and
+ * offsets are in bytes, and offsets count from the file's start. Texts are in UTF-8. No zero byte ends them, except
+ * those that come as const char *.
  */
 #ifndef ANS_H
 #define ANS_H
@@ -23,7 +23,7 @@
 extern "C" {
 #endif
 
-/* The version of this header, as a text and as a number to compare: 200 for 0.2.0. ans_copy_version tells the
+/* The version of this header, as a text and as a number to compare: 200 for 0.2.0. ans_copy_version gives the
  * library's. */
 #define ANS_VERSION_MAJOR 0
 #define ANS_VERSION_MINOR 2
@@ -37,24 +37,24 @@ extern "C" {
 /* Room for any text of ans_why, ans_record, ans_mend and ans_redraw. */
 #define ANS_LONGEST_TEXT 65536
 
-/* How scratch is best aligned, as malloc gives it. Of scratch that is aligned less well the first bytes, up to 7, are
- * passed over; lend so many more then. */
+/* How scratch is best aligned, as malloc gives it. If scratch is aligned less well, up to 7 bytes at its start are
+ * not used; lend that many more then. */
 #define ANS_SCRATCH_ALIGNMENT 8
 
 /* Scratch for any call and any file: for 8192 lines of 1024 columns. */
 #define ANS_MOST_SCRATCH 33755160
 
-/* How many bytes more than the file has ans_mend may want, besides what ANS_LINE_ENDS and ANS_NAME_COLOURS add. */
+/* How many bytes more than the file has ans_mend may need, besides what ANS_CRLF and ANS_NAME_COLOURS add. */
 #define ANS_MENDING_ROOM 155
 
 /* What a call answers. */
 enum ans_answer {
     ANS_PASS = 0,
     ANS_REFUSED = 1,
-    ANS_NO_MEMORY = 2,   /* of ans_easy.h alone: malloc gave none */
+    ANS_NO_MEMORY = 2,   /* only in ans_easy.h: malloc gave none */
     ANS_TOO_LONG = 3,    /* the file has more than ANS_LONGEST_FILE bytes */
     ANS_NO_ROOM = 4,     /* an array is too small */
-    ANS_WRONG_NUMBER = 5 /* of ans_mend alone: a number is above its largest */
+    ANS_WRONG_NUMBER = 5 /* only from ans_mend: a number is above its largest */
 };
 
 /* The library returns a uint32_t. GCC and clang take unsigned int for an enum without negative values, which is the
@@ -72,81 +72,83 @@ enum {
     ANS_CLEARED = 31
 };
 
-/* What ans_mend may change besides what is mended by itself, added up. */
+/* What ans_mend may change besides what it changes without being asked, added up: the flags of `anscheck mend`. */
 enum {
-    ANS_TAKE_OUT = 1,   /* sequences that are refused are taken out, and as few line ends at the very end as must go */
-    ANS_LINE_ENDS = 2,  /* a return is put before each line feed, where there is no return */
-    ANS_FULL_ROWS = 4,  /* the line ends behind full rows are taken out, where each full row has one */
-    ANS_LEAST_LINES = 8, /* the least number of lines is stated, where those that are stated are too few, or none are */
-    ANS_NAME_COLOURS = 16 /* after each 0 of a sequence of colours the colours are named in which something is printed */
+    ANS_TAKE_OUT = 1,    /* remove refused sequences, such as screen modes, and line ends at the end that scroll */
+    ANS_CRLF = 2,        /* turn line feeds into CR LF, if the drawing has no CR */
+    ANS_JOIN_ROWS = 4,   /* remove the line ends after full rows, if each full row has one */
+    ANS_LEAST_LINES = 8, /* set the smallest number of lines that works, if the record has too few, or none */
+    ANS_NAME_COLOURS = 16 /* add 37 and 40 after a 0 that something is printed in */
 };
 
 /* Why a file is refused: n for the fault Fn, and its offset. For F25 the row and the column of the cell, counted
- * from 1, and else 0. */
+ * from 1; otherwise both are 0. */
 struct ans_fault {
     uint32_t number, row, column;
     size_t offset;
 };
 
-/* The size of a file's picture, its cells, columns * lines, and how many bytes of scratch a call wants for it. */
+/* The size of a file's picture, its cells, columns * lines, and how many bytes of scratch a call needs for it. */
 struct ans_size {
     uint32_t columns, lines;
     size_t cells, scratch;
 };
 
-/* Bytes of the file: so many, from this offset on. The length is 0 where there are none. */
+/* Bytes of the file: that many, from this offset on. The length is 0 if there are none. */
 struct ans_piece {
     size_t start, length;
 };
 
-/* A place on the screen, counted from 1; the row may be the spare one, lines + 1. 0 and 0 where there is none. */
+/* A position on the screen, counted from 1; the row may be lines + 1. 0 and 0 if there is none. */
 struct ans_place {
     size_t row, column;
 };
 
-/* Of a file that passes from the cleared start; else all is 0. */
+/* For a file that passes from the cleared start; for any other all is 0. */
 struct ans_passing {
-    uint32_t needs;           /* the parts of the start that it relies on, as ans_needs tells them */
-    uint32_t players;         /* the kinds in which players part that it makes use of, ANS_PLAYERS_.., added up */
-    uint32_t on_every_player; /* if players is 0, or ANS_PLAYERS_OWN_COLOURS alone, the parts that it relies on for
-                               * every player to show the same; with own colours, every one of named colours */
-    uint32_t taller;          /* 1: it shows its picture on every taller screen too; 0 does not say that it differs */
+    uint32_t needs;                /* the parts of the start that it relies on, as ans_needs gives them; 0: none, and
+                                    * `anscheck table` says `pass`; other parts: it says `cleared` */
+    uint32_t players;              /* the ways in which players differ that it runs into, ANS_PLAYERS_.., added up */
+    uint32_t needs_on_all_players; /* if players is 0, or only ANS_PLAYERS_OWN_COLOURS, the parts that it relies on to
+                                    * look the same on all players; with own colours, on all in named colours */
+    uint32_t taller_screens;       /* 1: its picture is the same on every taller screen; 0: that was not shown */
 };
 
-/* Of a file that is refused from the cleared start: its fault. Of one that passes from there and needs a part of the
- * start: the fault that it has from every start. Of one that needs nothing all is 0. */
+/* For a file that is refused from the cleared start: its fault. For one that passes from there and needs a part of the
+ * start: the fault that it has if nothing is known of the start. For one that needs nothing all is 0. */
 struct ans_blame {
     struct ans_fault fault;
-    struct ans_piece bytes;     /* the bytes to blame; of F1 to F8 and of F25 none */
-    struct ans_place low, high; /* where the cursor stands before the fault: of a refusal twice the same, from the
-                                 * cleared start; of a pass from the low and from the high start. Of F1 to F8 and of F25
-                                 * none; the cell of F25 stands in the fault. */
-    uint32_t known;             /* what the bytes are known as, ANS_KNOWN_.., or 0 */
-    uint32_t lines;             /* of F5 and F19 to F21 the least number of lines with which it passes from the cleared
-                                 * start, where there is one; else 0 */
-    uint32_t mends;             /* 1 where a pass that needs a part has room for the beginning that mends it, else 0 */
+    struct ans_piece bytes;     /* the offending bytes; none for F1 to F8 and F25 */
+    struct ans_place low, high; /* where the cursor is before the fault. Refused: twice the same, from the cleared
+                                 * start. Passes: if it began at the top left, and at the bottom right, in the row
+                                 * below the last line. None for F1 to F8 and F25; the cell of F25 is in the fault. */
+    uint32_t known;             /* what the bytes are recognised as, ANS_KNOWN_.., or 0 */
+    uint32_t lines;             /* for F5 and F19 to F21 the smallest number of lines with which it passes from the
+                                 * cleared start, if there is one, or 0 */
+    uint32_t mends;             /* 1 if a drawing that needs a part has room for the safe beginning, with which it
+                                 * needs nothing, or 0 */
 };
 
-/* Of a file whose record and layout are accepted; else all is 0. */
+/* For a file whose record and layout are accepted; for any other all is 0. */
 struct ans_parts {
     size_t content;            /* how many bytes of the file, from its start on, are the drawing */
     struct ans_piece comments; /* 64 bytes for each comment */
     uint32_t notes;            /* 1 << n for each note Nn, added up: 2 for N1, up to 64 for N6 */
 };
 
-/* Of the record in the file's last 128 bytes, accepted or not; where there is none all is 0. Texts are without trailing
+/* The record in the file's last 128 bytes, accepted or not; if there is none all is 0. Texts are without trailing
  * blanks and zero bytes, and each byte is a character of code page 437. */
 struct ans_fields {
     uint32_t is_there;   /* 1 */
     uint32_t flags;      /* the byte TFlags */
-    uint32_t ice;        /* 1 where bit 7 of an attribute is a bright background, else 0 */
-    uint32_t spacing;    /* 8 or 9, the pixels of a letter's width, or 0 where the flags do not say */
-    uint32_t aspect;     /* 1 for pixels to be stretched, 2 for square ones, 0 where the flags do not say */
-    size_t width, lines; /* as they are stated, but for a width of 0, which is told as 80 */
+    uint32_t ice;        /* 1 if bit 7 of an attribute is a bright background, or 0 */
+    uint32_t spacing;    /* 8 or 9, the width of a letter in pixels, or 0 if the flags do not say */
+    uint32_t aspect;     /* 1 for pixels to be stretched, 2 for square ones, 0 if the flags do not say */
+    size_t width, lines; /* as they are stated, except that a width of 0 is given as 80 */
     struct ans_piece font, date, title, author, group;
 };
 
-/* What `anscheck why` and `anscheck table` tell of a file, in numbers. */
+/* What `anscheck why` and `anscheck table` say of a file, in numbers. */
 struct ans_row {
     struct ans_passing passing;
     struct ans_blame blame;
@@ -156,14 +158,14 @@ struct ans_row {
 
 /* ---- What the library exports ----
  *
- * C and C++ call ans_size, ans_record and the three copies; the others, whose names end in _on, stand below under
- * names without it, with one scratch in the place of rows and bytes. Callers in other languages, and those who split
- * memory by themselves, lend both: a screen wants lines + 1 rows, and 4 * columns * (lines + 1) bytes; ANS_MOST_ROWS
+ * C and C++ call ans_size, ans_record and the three copies; the others, whose names end in _on, have calls below
+ * without that ending, with one scratch instead of rows and bytes. Callers in other languages, and those who split
+ * memory themselves, lend both: a screen needs lines + 1 rows, and 4 * columns * (lines + 1) bytes; ANS_MOST_ROWS
  * and ANS_MOST_BYTES are enough for every screen. With fewer a call answers ANS_NO_ROOM. */
 #define ANS_MOST_ROWS 8193
 #define ANS_MOST_BYTES 33558528
 
-/* A row of a screen, in memory that is lent. What it holds before and after a call does not matter. */
+/* A row of a screen, in memory that is lent. Its content before and after a call does not matter. */
 struct ans_screen_row {
     uint64_t held[3];
 };
@@ -174,13 +176,13 @@ struct ans_screen_row {
 enum ans_answer ans_size(const uint8_t *file, size_t file_len, struct ans_size *size, struct ans_fault *fault);
 
 /* The text of `anscheck sauce`: what a file's record says.
- * ANS_PASS: the record is accepted. ANS_REFUSED: it is not, and the text says why. After both the text stands at the
- * front of `text`, and `length` says how many bytes it has. ANS_TOO_LONG, and `length` is 0. ANS_NO_ROOM: `text` has
- * fewer bytes than `length` then says. */
+ * ANS_PASS: the record is accepted. ANS_REFUSED: it is not, and the text says why. After both `text` begins with the
+ * text, and `length` says how many bytes it has. ANS_TOO_LONG, and `length` is 0. ANS_NO_ROOM: `text` has fewer bytes
+ * than `length` then says. */
 enum ans_answer ans_record(const uint8_t *file, size_t file_len, char *text, size_t text_len, size_t *length);
 
-/* The library's version, and the texts of ans_fault_text and ans_note_text as the library has them. ANS_PASS: the text
- * stands at the front of `text`, and `length` says how many bytes it has. ANS_REFUSED: there is none of this number.
+/* The library's version, and the texts of ans_fault_text and ans_note_text as the library has them. ANS_PASS: `text`
+ * begins with the text, and `length` says how many bytes it has. ANS_REFUSED: there is none of this number.
  * ANS_NO_ROOM: `text` has fewer bytes than `length` then says. */
 enum ans_answer ans_copy_version(char *text, size_t text_len, size_t *length);
 enum ans_answer ans_copy_fault_text(uint32_t number, char *text, size_t text_len, size_t *length);
@@ -195,7 +197,7 @@ enum ans_answer ans_row_on(const uint8_t *file, size_t file_len, struct ans_scre
                            uint8_t *bytes, size_t bytes_len, struct ans_row *row);
 enum ans_answer ans_why_on(const uint8_t *file, size_t file_len, struct ans_screen_row *rows, size_t rows_len,
                            uint8_t *bytes, size_t bytes_len, char *text, size_t text_len, size_t *length);
-enum ans_answer ans_mend_on(const uint8_t *file, size_t file_len, uint32_t classes, uint32_t width, uint32_t lines,
+enum ans_answer ans_mend_on(const uint8_t *file, size_t file_len, uint32_t classes, uint32_t add_record, uint32_t lines,
                             struct ans_screen_row *rows, size_t rows_len, uint8_t *bytes, size_t bytes_len,
                             uint8_t *draft, size_t draft_len, uint8_t *mended, size_t mended_len, size_t *size,
                             char *text, size_t text_len, size_t *length);
@@ -212,7 +214,7 @@ struct ans_split {
     size_t bytes_len;
 };
 
-/* As many rows of so many columns, 1 to 1024, as there is scratch for, but no more than `most_rows`; the rest is
+/* As many rows of that many columns, 1 to 1024, as there is scratch for, but no more than `most_rows`; the rest is
  * bytes. */
 static inline struct ans_split ans_split_scratch(void *scratch, size_t scratch_len, size_t columns, size_t most_rows) {
     struct ans_split split = {NULL, 0, NULL, 0};
@@ -229,7 +231,7 @@ static inline struct ans_split ans_split_scratch(void *scratch, size_t scratch_l
     return split;
 }
 
-/* Scratch for a file's own screen. Where its record is refused no row and no byte is wanted, and none is given. */
+/* Scratch for a file's own screen. If its record is refused no row and no byte is needed, and none is given. */
 static inline struct ans_split ans_split_for(const uint8_t *file, size_t file_len, void *scratch, size_t scratch_len) {
     struct ans_size size;
     struct ans_fault fault;
@@ -240,14 +242,14 @@ static inline struct ans_split ans_split_for(const uint8_t *file, size_t file_le
 
 /* ---- The calls ----
  *
- * `scratch` is memory for the length of a call: as many bytes as ans_size tells, aligned to ANS_SCRATCH_ALIGNMENT. Of a
- * file for which that does not answer ANS_PASS a call wants none; NULL and 0 are enough. */
+ * `scratch` is memory for the length of a call: as many bytes as ans_size says, aligned to ANS_SCRATCH_ALIGNMENT. If
+ * that does not answer ANS_PASS, a call needs none; NULL and 0 are enough. */
 
-/* Checks a file from every start whose parts in `known` are known. Other bits than the five of ANS_CLEARED count for
- * nothing.
- * ANS_PASS: the content shows one picture from all of them. Its bytes, of code page 437, and its attributes stand at
- * the front of `glyphs` and of `attributes`, row by row. ANS_REFUSED: `fault` is set. ANS_TOO_LONG. ANS_NO_ROOM:
- * there is less scratch than ans_size tells, or fewer glyphs or attributes than it tells cells. */
+/* Checks a file from every start whose parts in `known` are known. Bits other than the five of ANS_CLEARED are
+ * ignored.
+ * ANS_PASS: the content shows the same picture from all of them. `glyphs` and `attributes` begin with its bytes, of
+ * code page 437, and its attributes, row by row. ANS_REFUSED: `fault` is set. ANS_TOO_LONG. ANS_NO_ROOM: there is less
+ * scratch than ans_size says, or fewer glyphs or attributes than it says cells. */
 static inline enum ans_answer ans_check(const uint8_t *file, size_t file_len, uint32_t known, void *scratch,
                                         size_t scratch_len, uint8_t *glyphs, size_t glyphs_len, uint8_t *attributes,
                                         size_t attributes_len, struct ans_fault *fault) {
@@ -257,52 +259,52 @@ static inline enum ans_answer ans_check(const uint8_t *file, size_t file_len, ui
 }
 
 /* What a file relies on.
- * ANS_PASS: it passes from the cleared start, and exactly where each part in `parts` is known. ANS_REFUSED: it does not
- * pass even from the cleared start, and `fault` is set. ANS_TOO_LONG. ANS_NO_ROOM: less scratch than ans_size tells. */
+ * ANS_PASS: it passes from the cleared start, and exactly if each part in `parts` is known. ANS_REFUSED: it does not
+ * pass even from the cleared start, and `fault` is set. ANS_TOO_LONG. ANS_NO_ROOM: less scratch than ans_size says. */
 static inline enum ans_answer ans_needs(const uint8_t *file, size_t file_len, void *scratch, size_t scratch_len,
                                         uint32_t *parts, struct ans_fault *fault) {
     struct ans_split split = ans_split_for(file, file_len, scratch, scratch_len);
     return ans_needs_on(file, file_len, split.rows, split.rows_len, split.bytes, split.bytes_len, parts, fault);
 }
 
-/* What `anscheck why` and `anscheck table` tell of a file, in numbers, but for hints, how often and where first a kind
- * of players matters, the two cells of F25, and what stands where a record is refused.
- * ANS_PASS: it passes from the cleared start. ANS_REFUSED: it does not. After both `row` is set. ANS_TOO_LONG.
- * ANS_NO_ROOM: less scratch than ans_size tells. */
+/* What `anscheck why` and `anscheck table` say of a file, in numbers, except hints, how often and where first players
+ * differ, the two cells of F25, and the line `found:`.
+ * ANS_PASS: it passes from the cleared start; whether from every start, row->passing.needs says. ANS_REFUSED: it does
+ * not. After both `row` is set. ANS_TOO_LONG. ANS_NO_ROOM: less scratch than ans_size says. */
 static inline enum ans_answer ans_row(const uint8_t *file, size_t file_len, void *scratch, size_t scratch_len,
                                       struct ans_row *row) {
     struct ans_split split = ans_split_for(file, file_len, scratch, scratch_len);
     return ans_row_on(file, file_len, split.rows, split.rows_len, split.bytes, split.bytes_len, row);
 }
 
-/* The text of `anscheck why`: where and why a file is refused, or what it relies on and how it is mended.
- * ANS_PASS, ANS_REFUSED: as the file passes from the cleared start; the text stands at the front of `text`, and
- * `length` says how many bytes it has. ANS_TOO_LONG, and `length` is 0. ANS_NO_ROOM: there is less scratch than
- * ans_size tells, and `length` is 0; or `text` has fewer bytes than `length` then says. */
+/* The text of `anscheck why`: where and why a file is refused, or what it relies on and how to fix it.
+ * ANS_PASS, ANS_REFUSED: whether the file passes from the cleared start; `text` begins with the text, and `length`
+ * says how many bytes it has. ANS_TOO_LONG, and `length` is 0. ANS_NO_ROOM: there is less scratch than ans_size says,
+ * and `length` is 0; or `text` has fewer bytes than `length` then says. */
 static inline enum ans_answer ans_why(const uint8_t *file, size_t file_len, void *scratch, size_t scratch_len,
                                       char *text, size_t text_len, size_t *length) {
     struct ans_split split = ans_split_for(file, file_len, scratch, scratch_len);
     return ans_why_on(file, file_len, split.rows, split.rows_len, split.bytes, split.bytes_len, text, text_len, length);
 }
 
-/* Mends a file as `anscheck mend` does, so that it passes from every start, and tells what that says.
- * `classes` is a sum of ANS_TAKE_OUT and those below it; other bits count for nothing. `width` is the columns of the
- * record that a file without one is given, 1 to 1024, or 0 for no record; `lines` the number of lines that is stated
- * where others are wanted, 1 to 8192, or 0 for none. `draft` and `mended` want file_len + ANS_MENDING_ROOM bytes,
- * with ANS_LINE_ENDS one more for each line feed of the file; and with ANS_NAME_COLOURS 9 * file_len + 8 in the place
- * of file_len, or ANS_LONGEST_FILE if that is less.
- * `scratch` is for the screen of the mended file, which may have other lines. ANS_MOST_SCRATCH is always enough.
- * Where ans_size answers ANS_PASS for the file, 8193 * (24 + 4 * columns) is enough; and without `lines` and
- * ANS_LEAST_LINES what it tells. For any other file 4120 bytes for each line of the mended one, and for one line
- * more, are enough.
- * ANS_PASS: the mended file stands at the front of `mended`, `size` says how many bytes it has, and the text says
- * what was changed, a line for each kind of change. A file that wants nothing stands there as it is, and the text is
- * empty. ANS_REFUSED: the file is not mended so, `size` is 0, and the text says why. After both the text stands at
- * the front of `text`, and `length` says how many bytes it has. ANS_TOO_LONG. ANS_WRONG_NUMBER: the file is not too
- * long, and `width` or `lines` is above its largest. ANS_NO_ROOM: `text` has fewer bytes than `length` then says,
- * and `mended` and `size` are as after ANS_PASS or ANS_REFUSED; or `length` is 0, and another array is too small.
- * Where neither a mended file nor a text is told of, `size` and `length` are 0. */
-static inline enum ans_answer ans_mend(const uint8_t *file, size_t file_len, uint32_t classes, uint32_t width,
+/* Fixes a file as `anscheck mend` does, so that it passes from every start, and gives the text of that.
+ * `classes` is a sum of ANS_TAKE_OUT and those below it; other bits are ignored. `add_record` is the columns of the
+ * record that is added to a file without one, 1 to 1024, or 0 for no record; `lines` the number of lines that is set
+ * if the record has too few or none, 1 to 8192, or 0 for none. `draft` and `mended` need file_len + ANS_MENDING_ROOM
+ * bytes, with ANS_CRLF one more for each line feed of the file; and with ANS_NAME_COLOURS 9 * file_len + 8 instead of
+ * file_len, or ANS_LONGEST_FILE if that is less.
+ * `scratch` is for the screen of the fixed file, which may have another number of lines. ANS_MOST_SCRATCH is always
+ * enough. If ans_size answers ANS_PASS for the file, 8193 * (24 + 4 * columns) is enough; and without `lines` and
+ * ANS_LEAST_LINES what it says. For any other file 4120 bytes for each line of the fixed one, and for one line more,
+ * are enough.
+ * ANS_PASS: `mended` begins with the fixed file, `size` says how many bytes it has, and the text says what was changed,
+ * a line for each kind of change. If nothing had to be changed, the fixed file is the file, and the text is empty.
+ * ANS_REFUSED: the file cannot be fixed this way, `size` is 0, and the text says why. After both `text` begins with
+ * the text, and `length` says how many bytes it has. ANS_TOO_LONG. ANS_WRONG_NUMBER: the file is not too long, and
+ * `add_record` or `lines` is above its largest. ANS_NO_ROOM: `text` has fewer bytes than `length` then says, and
+ * `mended` and `size` are as after ANS_PASS or ANS_REFUSED; or `length` is 0, and another array is too small. If there
+ * is neither a fixed file nor a text, `size` and `length` are 0. */
+static inline enum ans_answer ans_mend(const uint8_t *file, size_t file_len, uint32_t classes, uint32_t add_record,
                                        uint32_t lines, void *scratch, size_t scratch_len, uint8_t *draft,
                                        size_t draft_len, uint8_t *mended, size_t mended_len, size_t *size, char *text,
                                        size_t text_len, size_t *length) {
@@ -310,20 +312,20 @@ static inline enum ans_answer ans_mend(const uint8_t *file, size_t file_len, uin
     struct ans_fault fault;
     size_t columns = ans_size(file, file_len, &stated, &fault) == ANS_PASS ? stated.columns : 1024;
     struct ans_split split = ans_split_scratch(scratch, scratch_len, columns, ANS_MOST_ROWS);
-    return ans_mend_on(file, file_len, classes, width, lines, split.rows, split.rows_len, split.bytes, split.bytes_len,
-                       draft, draft_len, mended, mended_len, size, text, text_len, length);
+    return ans_mend_on(file, file_len, classes, add_record, lines, split.rows, split.rows_len, split.bytes,
+                       split.bytes_len, draft, draft_len, mended, mended_len, size, text, text_len, length);
 }
 
-/* Redraws a file as `anscheck redraw` does: writes the picture that it shows from the cleared start anew, in the
- * plainest form, and tells what that says. The redrawn file passes from every start. How many bytes `redrawn` wants
- * is told where it has fewer, so an empty one asks for that.
- * ANS_PASS: the redrawn file stands at the front of `redrawn`, `size` says how many bytes it has, and the text says
- * what was changed, a line for each kind of change. ANS_REFUSED: the file does not pass from the cleared start, or
- * the redrawn one would have more than ANS_LONGEST_FILE bytes; `size` is 0, and the text says why. After both the
- * text stands at the front of `text`, and `length` says how many bytes it has. ANS_TOO_LONG, and `size` and `length`
- * are 0. ANS_NO_ROOM: `redrawn` has fewer bytes than `size` then says, and `length` is 0; or `text` has fewer than
- * `length` then says, and `redrawn` and `size` are as after ANS_PASS or ANS_REFUSED; or there is less scratch than
- * ans_size tells, and both are 0. */
+/* Redraws a file as `anscheck redraw` does: writes the picture that it shows from the cleared start again from scratch,
+ * in the plainest form, and gives the text of that. The redrawn file passes from every start. If `redrawn` has too few
+ * bytes, `size` says how many it needs, so an empty one asks for that.
+ * ANS_PASS: `redrawn` begins with the redrawn file, `size` says how many bytes it has, and the text says what was
+ * changed, a line for each kind of change. ANS_REFUSED: the file does not pass from the cleared start, or the redrawn
+ * one would have more than ANS_LONGEST_FILE bytes; `size` is 0, and the text says why. After both `text` begins with
+ * the text, and `length` says how many bytes it has. ANS_TOO_LONG, and `size` and `length` are 0. ANS_NO_ROOM:
+ * `redrawn` has fewer bytes than `size` then says, and `length` is 0; or `text` has fewer than `length` then says, and
+ * `redrawn` and `size` are as after ANS_PASS or ANS_REFUSED; or there is less scratch than ans_size says, and both
+ * are 0. */
 static inline enum ans_answer ans_redraw(const uint8_t *file, size_t file_len, void *scratch, size_t scratch_len,
                                          uint8_t *redrawn, size_t redrawn_len, size_t *size, char *text,
                                          size_t text_len, size_t *length) {
@@ -335,7 +337,7 @@ static inline enum ans_answer ans_redraw(const uint8_t *file, size_t file_len, v
 /* ---- Constant texts ---- */
 
 /* The tables begin. library/tables.py writes them. */
-/* Kinds in which players part, added up. docs/PLAYERS.md explains each. */
+/* The ways in which players differ, added up. docs/PLAYERS.md explains each. */
 enum {
     ANS_PLAYERS_WRAP_AT_ONCE = 1,
     ANS_PLAYERS_LINE_ENDS = 2,
@@ -352,7 +354,7 @@ enum {
     ANS_PLAYERS_OWN_COLOURS = 4096
 };
 
-/* What blamed bytes are known as; 0 is nothing. */
+/* What offending bytes are recognised as; 0 is nothing. */
 enum {
     ANS_KNOWN_MUSIC = 1,
     ANS_KNOWN_FONT_SELECTION = 2,
@@ -366,7 +368,7 @@ enum {
     ANS_KNOWN_ARROW = 10
 };
 
-/* The text of the fault Fn, as "F21 scrolls". NULL: there is none. */
+/* The text of the fault Fn, such as "F21 scrolls". NULL: there is none. */
 static inline const char *ans_fault_text(uint32_t number) {
     static const char *const texts[] = {
         NULL,
@@ -413,7 +415,7 @@ static inline const char *ans_note_text(uint32_t number) {
     return number < sizeof texts / sizeof *texts ? texts[number] : NULL;
 }
 
-/* What blamed bytes are known as, as "ANSI music". NULL: nothing. */
+/* What offending bytes are recognised as, such as "ANSI music". NULL: nothing. */
 static inline const char *ans_known_text(uint32_t number) {
     static const char *const texts[] = {
         NULL,
@@ -431,7 +433,7 @@ static inline const char *ans_known_text(uint32_t number) {
     return number < sizeof texts / sizeof *texts ? texts[number] : NULL;
 }
 
-/* The name of one part of the start, as "screen" of ANS_SCREEN. NULL: it is no part, or several. */
+/* The name of one part of the start, such as "screen" for ANS_SCREEN. NULL: it is no part, or several. */
 static inline const char *ans_part_name(uint32_t bit) {
     static const char *const texts[] = {
         "screen",
@@ -446,7 +448,7 @@ static inline const char *ans_part_name(uint32_t bit) {
     return NULL;
 }
 
-/* The word of one kind in which players part, as "wrap-at-once". NULL: it is no kind, or several. */
+/* The word for one way in which players differ, such as "wrap-at-once". NULL: it is none, or several. */
 static inline const char *ans_player_word(uint32_t bit) {
     static const char *const texts[] = {
         "wrap-at-once",

@@ -1,9 +1,9 @@
-/* ans_easy.h: the checker with memory from malloc, for those who want one call. The functions stand here whole; they
- * are not proved, and only hand memory to those of ans.h, which are.
+/* ans_easy.h: the checker with memory from malloc, if you want one call. All its functions are in this file; they are
+ * not proved, and only hand memory to those of ans.h, which are.
  *
- * Each answers as the call of its name in ans.h, or ANS_NO_MEMORY where malloc gave none, and never ANS_NO_ROOM. A text
- * is in UTF-8, ends in a zero byte, and is freed by free. It is there after ANS_PASS and ANS_REFUSED; after all else it
- * is NULL.
+ * Each answers as the call of its name in ans.h, or ANS_NO_MEMORY if malloc gave none, and never ANS_NO_ROOM. A text
+ * is in UTF-8, ends in a zero byte, and is freed by free. There is one after ANS_PASS and ANS_REFUSED; otherwise it is
+ * NULL.
  */
 #ifndef ANS_EASY_H
 #define ANS_EASY_H
@@ -30,7 +30,7 @@ static inline void *ans_new_scratch(const uint8_t *file, size_t file_len, size_t
     return malloc(*length);
 }
 
-/* Ends a text of ANS_LONGEST_TEXT + 1 bytes where it is to be kept, and frees it where not. */
+/* Ends a text of ANS_LONGEST_TEXT + 1 bytes if it is to be kept, and frees it if not. */
 static inline enum ans_answer ans_end_text(enum ans_answer answer, char **text, size_t length) {
     char *shorter = NULL;
     if (answer == ANS_PASS || answer == ANS_REFUSED) {
@@ -71,7 +71,7 @@ static inline enum ans_answer ans_check_easily(const uint8_t *file, size_t file_
     return ANS_PASS;
 }
 
-/* What a file relies on, as ans_needs tells it. */
+/* What a file relies on, as ans_needs says it. */
 static inline enum ans_answer ans_needs_easily(const uint8_t *file, size_t file_len, uint32_t *parts,
                                                struct ans_fault *fault) {
     size_t scratch_len;
@@ -83,7 +83,7 @@ static inline enum ans_answer ans_needs_easily(const uint8_t *file, size_t file_
     return answer;
 }
 
-/* What is told of a file in numbers, as ans_row tells it. */
+/* What there is to say of a file, in numbers, as ans_row says it. */
 static inline enum ans_answer ans_row_easily(const uint8_t *file, size_t file_len, struct ans_row *row) {
     size_t scratch_len;
     void *scratch = ans_new_scratch(file, file_len, &scratch_len);
@@ -94,7 +94,7 @@ static inline enum ans_answer ans_row_easily(const uint8_t *file, size_t file_le
     return answer;
 }
 
-/* Where and why a file is refused, or what it relies on and how it is mended, as ans_why tells it. */
+/* Where and why a file is refused, or what it relies on and how to fix it, as ans_why says it. */
 static inline enum ans_answer ans_why_easily(const uint8_t *file, size_t file_len, char **text) {
     size_t scratch_len, length = 0;
     void *scratch = ans_new_scratch(file, file_len, &scratch_len);
@@ -106,7 +106,7 @@ static inline enum ans_answer ans_why_easily(const uint8_t *file, size_t file_le
     return ans_end_text(answer, text, length);
 }
 
-/* What a file's record says, as ans_record tells it. */
+/* What a file's record says, as ans_record gives it. */
 static inline enum ans_answer ans_record_easily(const uint8_t *file, size_t file_len, char **text) {
     size_t length = 0;
     enum ans_answer answer = ANS_NO_MEMORY;
@@ -116,10 +116,10 @@ static inline enum ans_answer ans_record_easily(const uint8_t *file, size_t file
     return ans_end_text(answer, text, length);
 }
 
-/* Mends a file as ans_mend does. ANS_PASS: `mended` has `size` bytes, and is freed by free. After all else it is
- * NULL. */
-static inline enum ans_answer ans_mend_easily(const uint8_t *file, size_t file_len, uint32_t classes, uint32_t width,
-                                              uint32_t lines, uint8_t **mended, size_t *size, char **text) {
+/* Fixes a file as ans_mend does. ANS_PASS: `mended` has `size` bytes, and is freed by free. Otherwise it is NULL. */
+static inline enum ans_answer ans_mend_easily(const uint8_t *file, size_t file_len, uint32_t classes,
+                                              uint32_t add_record, uint32_t lines, uint8_t **mended, size_t *size,
+                                              char **text) {
     size_t room = file_len + ANS_MENDING_ROOM, length = 0;
     enum ans_answer answer = ANS_NO_MEMORY;
     *mended = NULL;
@@ -135,8 +135,8 @@ static inline enum ans_answer ans_mend_easily(const uint8_t *file, size_t file_l
     *mended = (uint8_t *)malloc(room);
     *text = (char *)malloc(ANS_LONGEST_TEXT + 1);
     if (scratch && draft && *mended && *text)
-        answer = ans_mend(file, file_len, classes, width, lines, scratch, ANS_MOST_SCRATCH, draft, room, *mended, room,
-                          size, *text, ANS_LONGEST_TEXT, &length);
+        answer = ans_mend(file, file_len, classes, add_record, lines, scratch, ANS_MOST_SCRATCH, draft, room, *mended,
+                          room, size, *text, ANS_LONGEST_TEXT, &length);
     free(scratch);
     free(draft);
     if (answer != ANS_PASS) {
@@ -147,7 +147,7 @@ static inline enum ans_answer ans_mend_easily(const uint8_t *file, size_t file_l
 }
 
 /* Redraws a file as ans_redraw does, which is called twice: first for the size. ANS_PASS: `redrawn` has `size` bytes,
- * and is freed by free. After all else it is NULL. */
+ * and is freed by free. Otherwise it is NULL. */
 static inline enum ans_answer ans_redraw_easily(const uint8_t *file, size_t file_len, uint8_t **redrawn, size_t *size,
                                                 char **text) {
     size_t scratch_len, room = 0, length = 0;

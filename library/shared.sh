@@ -4,7 +4,7 @@
 # It is OUT/libans_c.so.0.2, which is its soname too, and OUT/libans_c.so is a link to it, for linkers and for Python.
 # The soname has the first two numbers of the version in ans.h: below 1.0 each such version may have other calls, and a
 # program is to load no library but of the one that it was linked with. It has all of the archive, exports nothing but
-# the calls of ans.h, and wants the C library alone. CC names the compiler that links it, or it is cc.
+# the calls of ans.h, and needs only the C library. CC names the compiler that links it, or it is cc.
 set -eu
 if [ $# -ne 2 ]; then
     echo "usage: shared.sh ARCHIVE OUT" >&2

@@ -1,10 +1,10 @@
 #!/usr/bin/env python3
 """tables.py [--check]: writes the constant texts of ans.h, from where the crates have them.
 
-Between two marker comments of ans.h stand the kinds in which players part, what blamed bytes are known as, and five
-functions that give constant texts. This script writes all that anew: the faults and the notes have their texts from
-`ans_report`, what bytes are known as comes from `ans_why`, the words of players from `ans_players`, and the names of
-the parts from `ans_model`. With --check it writes nothing, and its status is 1 where ans.h is not as it would write it.
+Between two marker comments ans.h has the ways in which players differ, what offending bytes are recognised as, and five
+functions that give constant texts. This script writes all that: the faults and the notes have their texts from
+`ans_report`, what bytes are recognised as comes from `ans_why`, the words of players from `ans_players`, and the names
+of the parts from `ans_model`. With --check it writes nothing, and its status is 1 if ans.h is not as it would write it.
 The last line says how many texts there are, and whether ans.h is as it was."""
 import re
 import sys
@@ -44,7 +44,7 @@ def source(name):
 
 
 def body(text, opening):
-    """What stands between a line and the next one that is indented no deeper and closes a block."""
+    """What is between a line and the next one that is indented no deeper and closes a block."""
     found = re.search(rf"^( *){opening}.*?^\1[}}\]]", text, re.DOTALL | re.MULTILINE)
     return found[0]
 
@@ -62,7 +62,7 @@ def column(table):
 
 
 def faults():
-    """The texts of the faults by their numbers, with none where there is none."""
+    """The texts of the faults by their numbers, or none."""
     found = {int(text[1:].split()[0]): text for text in column("FAULTS")}
     return [found.get(number) for number in range(max(found) + 1)]
 
@@ -72,7 +72,7 @@ def notes():
 
 
 def known():
-    """What bytes are known as, by name, in the order of the type."""
+    """What bytes are recognised as, by name, in the order of the type."""
     text = source("ans_why/src/known_bytes.rt")
     names = re.findall(r"^    (\w+),$", body(text, "pub enum Known"), re.MULTILINE)
     texts = by_variant(text, "Known", "pub fn text")
@@ -80,7 +80,7 @@ def known():
 
 
 def kinds():
-    """The words of the kinds in which players part, by name, in their order."""
+    """The words for the ways in which players differ, by name, in their order."""
     text = source("ans_players/src/difference.rt")
     numbers, words = (by_variant(text, "Difference", f"pub fn {it}") for it in ("number", "word"))
     return {name: words[name] for name in sorted(words, key=numbers.get)}
@@ -106,22 +106,22 @@ def function(form, name, comment, texts):
 
 
 def tables():
-    """All that stands between the markers."""
+    """All that is between the markers."""
     is_known, players = known(), kinds()
     return "\n".join([
-        constants("Kinds in which players part, added up. docs/PLAYERS.md explains each.", "ANS_PLAYERS_",
+        constants("The ways in which players differ, added up. docs/PLAYERS.md explains each.", "ANS_PLAYERS_",
                   {name: 1 << i for i, name in enumerate(players)}),
-        constants("What blamed bytes are known as; 0 is nothing.", "ANS_KNOWN_",
+        constants("What offending bytes are recognised as; 0 is nothing.", "ANS_KNOWN_",
                   {name: i + 1 for i, name in enumerate(is_known)}),
-        function(NUMBERED, "ans_fault_text", 'The text of the fault Fn, as "F21 scrolls". NULL: there is none.',
+        function(NUMBERED, "ans_fault_text", 'The text of the fault Fn, such as "F21 scrolls". NULL: there is none.',
                  faults()),
         function(NUMBERED, "ans_note_text", "The text of the note Nn. NULL: there is none.", notes()),
-        function(NUMBERED, "ans_known_text", 'What blamed bytes are known as, as "ANSI music". NULL: nothing.',
-                 [None, *is_known.values()]),
-        function(OF_A_BIT, "ans_part_name", 'The name of one part of the start, as "screen" of ANS_SCREEN. NULL: it is '
-                 "no part, or several.", parts()),
-        function(OF_A_BIT, "ans_player_word", 'The word of one kind in which players part, as "wrap-at-once". NULL: it '
-                 "is no kind, or several.", players.values()),
+        function(NUMBERED, "ans_known_text", 'What offending bytes are recognised as, such as "ANSI music". NULL: '
+                 "nothing.", [None, *is_known.values()]),
+        function(OF_A_BIT, "ans_part_name", 'The name of one part of the start, such as "screen" for ANS_SCREEN. NULL: '
+                 "it is no part, or several.", parts()),
+        function(OF_A_BIT, "ans_player_word", 'The word for one way in which players differ, such as "wrap-at-once". '
+                 "NULL: it is none, or several.", players.values()),
     ])
 
 
@@ -135,7 +135,8 @@ def main(words):
         HEADER.write_text(written, encoding="utf-8")
     count = sum(text is not None for text in [*faults(), *notes(), *known(), *kinds(), *parts()])
     differs = written != header
-    print(f"{count} texts, ans.h {'is as it was' if not differs else 'is not as here' if words else 'is written anew'}")
+    state = "is as it was" if not differs else "is not as here" if words else "was written again"
+    print(f"{count} texts, ans.h {state}")
     return 1 if words and differs else 0
 
 

@@ -71,7 +71,8 @@ static void tell_row(size_t file_len) {
         return;
     const struct ans_passing *passing = &row.passing;
     const struct ans_blame *blame = &row.blame;
-    printf("passing %u %u %u %u\n", passing->needs, passing->players, passing->on_every_player, passing->taller);
+    printf("passing %u %u %u %u\n", passing->needs, passing->players, passing->needs_on_all_players,
+           passing->taller_screens);
     tell_fault("fault", &blame->fault);
     tell_piece("bytes", blame->bytes);
     printf("low %zu %zu\nhigh %zu %zu\n", blame->low.row, blame->low.column, blame->high.row, blame->high.column);
@@ -92,12 +93,12 @@ static void tell_file(enum ans_answer answer, uint8_t *bytes, size_t size) {
     free(bytes);
 }
 
-static void tell_mend(size_t file_len, uint32_t classes, uint32_t width) {
+static void tell_mend(size_t file_len, uint32_t classes, uint32_t add_record) {
     uint8_t *mended;
     size_t size = 0;
     char *text;
-    enum ans_answer answer = ans_mend_easily(file, file_len, classes, width, 0, &mended, &size, &text);
-    printf("mend %u %u", classes, width);
+    enum ans_answer answer = ans_mend_easily(file, file_len, classes, add_record, 0, &mended, &size, &text);
+    printf("mend %u %u", classes, add_record);
     tell_file(answer, mended, size);
     tell_text("mended", answer, text);
     free(text);
@@ -143,7 +144,7 @@ int main(int argc, char **argv) {
     tell_row(file_len);
     tell_texts(file_len);
     tell_mend(file_len, 0, 0);
-    tell_mend(file_len, ANS_TAKE_OUT | ANS_LINE_ENDS | ANS_FULL_ROWS | ANS_LEAST_LINES | ANS_NAME_COLOURS, 80);
+    tell_mend(file_len, ANS_TAKE_OUT | ANS_CRLF | ANS_JOIN_ROWS | ANS_LEAST_LINES | ANS_NAME_COLOURS, 80);
     tell_redraw(file_len);
     return 0;
 }

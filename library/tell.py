@@ -35,7 +35,7 @@ class Place(ctypes.Structure):
 
 
 class Passing(ctypes.Structure):
-    _fields_ = [(name, c_uint32) for name in ("needs", "players", "on_every_player", "taller")]
+    _fields_ = [(name, c_uint32) for name in ("needs", "players", "needs_on_all_players", "taller_screens")]
 
 
 class Blame(ctypes.Structure):
@@ -101,7 +101,7 @@ def text_of(call, *words):
 
 
 class Checker:
-    """The library, with one file and the memory that its check wants."""
+    """The library, with one file and the memory that its check needs."""
 
     def __init__(self, path, file):
         self.library, self.file = opened(path), (file, len(file))
@@ -124,13 +124,13 @@ class Checker:
         row = Row()
         return self.library.ans_row_on(*self.file, *self.screen, byref(row)), row
 
-    def mend(self, classes, width):
+    def mend(self, classes, add_record):
         most = min(LONGEST_FILE, 9 * self.file[1] + 8) if classes & 16 else self.file[1]
         count = most + self.file[0].count(b"\n") + MENDING_ROOM
         screen = ((ScreenRow * MOST_ROWS)(), MOST_ROWS, *room(MOST_BYTES))
         mended, size = room(count), c_size_t()
         answer, text, length = text_of(
-            self.library.ans_mend_on, *self.file, classes, width, 0, *screen, *room(count), *mended, byref(size))
+            self.library.ans_mend_on, *self.file, classes, add_record, 0, *screen, *room(count), *mended, byref(size))
         return answer, bytes(mended[0][: size.value]) if answer == PASS else b"", text, length
 
     def redraw_in(self, count):
@@ -169,7 +169,8 @@ def row_lines(file, answer, row):
     if answer not in (PASS, REFUSED):
         return
     passing, blame, parts, fields = row.passing, row.blame, row.parts, row.fields
-    yield line_of("passing", passing.needs, passing.players, passing.on_every_player, passing.taller)
+    yield line_of("passing", passing.needs, passing.players, passing.needs_on_all_players,
+                  passing.taller_screens)
     yield fault_line("fault", blame.fault)
     yield piece_line("bytes", blame.bytes)
     for name in ("low", "high"):
@@ -207,8 +208,8 @@ def tell(checker):
     yield from row_lines(checker.file[0], *checker.row())
     yield from text_lines("why", *text_of(checker.library.ans_why_on, *checker.file, *checker.screen))
     yield from text_lines("record", *text_of(checker.library.ans_record, *checker.file))
-    for classes, width in ((0, 0), (31, 80)):
-        yield from file_lines(f"mend {classes} {width}", "mended", *checker.mend(classes, width))
+    for classes, add_record in ((0, 0), (31, 80)):
+        yield from file_lines(f"mend {classes} {add_record}", "mended", *checker.mend(classes, add_record))
     yield from file_lines("redraw", "redrawn", *checker.redraw())
 
 

@@ -55,8 +55,8 @@ struct Place {
 struct Passing {
     needs: u32,
     players: u32,
-    on_every_player: u32,
-    taller: u32,
+    needs_on_all_players: u32,
+    taller_screens: u32,
 }
 
 #[repr(C)]
@@ -128,9 +128,9 @@ unsafe extern "C" {
         text: *mut u8, text_len: usize, length: &mut usize,
     ) -> u32;
     fn ans_mend_on(
-        file: *const u8, file_len: usize, classes: u32, width: u32, lines: u32, rows: *mut ScreenRow, rows_len: usize,
-        bytes: *mut u8, bytes_len: usize, draft: *mut u8, draft_len: usize, mended: *mut u8, mended_len: usize,
-        size: &mut usize, text: *mut u8, text_len: usize, length: &mut usize,
+        file: *const u8, file_len: usize, classes: u32, add_record: u32, lines: u32, rows: *mut ScreenRow,
+        rows_len: usize, bytes: *mut u8, bytes_len: usize, draft: *mut u8, draft_len: usize, mended: *mut u8,
+        mended_len: usize, size: &mut usize, text: *mut u8, text_len: usize, length: &mut usize,
     ) -> u32;
     fn ans_redraw_on(
         file: *const u8, file_len: usize, rows: *mut ScreenRow, rows_len: usize, bytes: *mut u8, bytes_len: usize,
@@ -138,7 +138,7 @@ unsafe extern "C" {
     ) -> u32;
 }
 
-/// A file and the memory that its check wants. In each call below a pointer and its length are those of one slice that
+/// A file and the memory that its check needs. In each call below a pointer and its length are those of one slice that
 /// is borrowed for the call, and no two that are written are one.
 struct Checker {
     file: Vec<u8>,
@@ -202,7 +202,7 @@ impl Checker {
     }
 
     /// What `ans_mend_on` answers, and the mended file.
-    fn mend(&self, classes: u32, width: u32, text: &mut [u8], length: &mut usize) -> (u32, Vec<u8>) {
+    fn mend(&self, classes: u32, add_record: u32, text: &mut [u8], length: &mut usize) -> (u32, Vec<u8>) {
         let line_feeds = self.file.iter().filter(|&&byte| byte == b'\n').count();
         let named = LONGEST_FILE.min(9 * self.file.len() + 8);
         let most = if classes & 16 == 0 { self.file.len() } else { named };
@@ -211,7 +211,7 @@ impl Checker {
         let (mut draft, mut mended, mut size) = (vec![0u8; room], vec![0u8; room], 0);
         let answer = unsafe {
             ans_mend_on(
-                self.file.as_ptr(), self.file.len(), classes, width, 0, rows.as_mut_ptr(), rows.len(),
+                self.file.as_ptr(), self.file.len(), classes, add_record, 0, rows.as_mut_ptr(), rows.len(),
                 bytes.as_mut_ptr(), bytes.len(), draft.as_mut_ptr(), draft.len(), mended.as_mut_ptr(), mended.len(),
                 &mut size, text.as_mut_ptr(), text.len(), length,
             )
@@ -262,8 +262,8 @@ impl Checker {
             return Ok(());
         }
         let Row { passing, blame, parts, fields } = row;
-        let Passing { needs, players, on_every_player, taller } = passing;
-        writeln!(out, "passing {needs} {players} {on_every_player} {taller}")?;
+        let Passing { needs, players, needs_on_all_players, taller_screens } = passing;
+        writeln!(out, "passing {needs} {players} {needs_on_all_players} {taller_screens}")?;
         put_fault(out, "fault", &blame.fault)?;
         self.put_piece(out, "bytes", &blame.bytes)?;
         let Blame { low, high, known, lines, mends, .. } = blame;
@@ -284,14 +284,14 @@ impl Checker {
         self.put_piece(out, "group", &fields.group)
     }
 
-    fn put_mend(&self, out: &mut impl Write, classes: u32, width: u32) -> io::Result<()> {
+    fn put_mend(&self, out: &mut impl Write, classes: u32, add_record: u32) -> io::Result<()> {
         let (mut mended, mut told) = (Vec::new(), Vec::new());
         put_text(&mut told, "mended", |text, length| {
-            let (answer, file) = self.mend(classes, width, text, length);
+            let (answer, file) = self.mend(classes, add_record, text, length);
             mended = file;
             answer
         })?;
-        writeln!(out, "mend {classes} {width} {}", mended.len())?;
+        writeln!(out, "mend {classes} {add_record} {}", mended.len())?;
         out.write_all(&mended)?;
         out.write_all(&told)
     }

@@ -1,18 +1,17 @@
 #!/usr/bin/env python3
-"""try.py PROGRAM ARCHIVE [--sanitize] [FILE..]: sets the library beside the program.
+"""try.py PROGRAM ARCHIVE [--sanitize] [FILE..]: compares the library with the program.
 
-PROGRAM is the built anscheck, ARCHIVE the built libans_c.a. `tell` is built in C, in C++ and in Rust and run in Python;
-of each FILE (by default the drawings of conformance/ and of crates/anscheck/data, those of try/drawings.py and of
+PROGRAM is the built anscheck, ARCHIVE the built libans_c.a. `tell` is built in C, in C++ and in Rust and run in Python.
+About each FILE (by default the drawings of conformance/ and of crates/anscheck/data, those of try/drawings.py and of
 tools/runs/made_drawings.py, and a file that is too long) each must say what the program says: the verdict and each
 cell from three classes of starts, what the file needs, all numbers of its row, the text of why, what the record says,
-the mended file with what is said of it, mended by itself and with all that may be changed, and the redrawn file with
-what is said of that. With --sanitize `tell` is also built by cc with -fsanitize=address,undefined, and has to be
-silent.
+the fixed file with its text, without options and with all of them, and the redrawn file with its text. With --sanitize
+`tell` is also built by cc with -fsanitize=address,undefined, and has to be silent.
 
-Beside the drawings it tries that header, library, program, ans.pc and the package for JavaScript have one version; that
-the constant texts of the header are those of the crates, of the library and of the program; what the calls answer on
-scratch of any length and place (try/scratch.c), and where malloc refuses memory (try/memory.c); and each example of
-README.md, as C and as C++. These two are built with sanitizers in any case. It wants cc, c++ and rustc. The last line
+Besides the drawings it tries that header, library, program, ans.pc and the package for JavaScript have one version;
+that the constant texts of the header are those of the crates, of the library and of the program; what the calls answer
+on scratch of any length and alignment (try/scratch.c), and if malloc refuses memory (try/memory.c); and each example of
+README.md, as C and as C++. These two are built with sanitizers in any case. It needs cc, c++ and rustc. The last line
 is 'N files in L languages and T other trials, M differ'."""
 import importlib.util
 import json
@@ -34,14 +33,14 @@ PLAYERS = {word: 1 << i for i, word in enumerate(tables.kinds().values())}
 KNOWN = {text: i + 1 for i, text in enumerate(tables.known().values())}
 ASPECTS = {"stretch": 1, "square": 2}
 CLASSES = {0: [], 3: ["--known-screen", "--known-cursor"], 31: ["--cleared"]}
-ALL_CHANGES = ["--take-out", "--line-ends", "--full-rows", "--least-lines", "--name-colours", "--width", "80"]
+ALL_CHANGES = ["--take-out", "--crlf", "--join-rows", "--least-lines", "--name-colours", "--add-record", "80"]
 CHANGES = {(0, 0): [], (31, 80): ALL_CHANGES}
 # Where a record has its texts (docs/PROFILE.md), from the file's end, and how long these are.
 PLACES = {"font": (22, 22), "date": (46, 8), "title": (121, 35), "author": (86, 20), "group": (66, 20)}
 FLAGS = 23
 LOW_GLYPHS = " ☺☻♥♦♣♠•◘○◙♂♀♪♫☼►◄↕‼¶§▬↨↑↓→←∟↔▲▼"
 QUOTED = {9: "<TAB>", 10: "<LF>", 13: "<CR>", 27: "<ESC>", 32: "<SP>"}
-# Where a piece has no bytes, its start says nothing.
+# If a piece has no bytes, its start says nothing.
 NO_BYTES = re.compile(rb"^(bytes|comments|font|date|title|author|group) \d+ 0 $", re.MULTILINE)
 TOO_LONG, LONGEST_FILE, LONGEST_QUOTE = 3, 16_777_216, 32
 STRICT = ["-O2", "-Wall", "-Wextra", "-Werror", "-pedantic", f"-I{HERE}"]
@@ -92,7 +91,7 @@ def glyphs(data):
 
 
 def quoted(data):
-    """Bytes as the line `bytes:` shows them."""
+    """Bytes as why quotes them."""
     text = "".join(QUOTED.get(it) or glyphs([it]) for it in data[:LONGEST_QUOTE])
     return text + " .." if len(data) > LONGEST_QUOTE else text
 
@@ -101,16 +100,16 @@ def piece(name, data, start, length):
     return f"{name} {start if length else 0} {length} {data[start:start + length].hex()}\n"
 
 
-def blamed(data, at, line, told_length):
-    """The piece of the bytes to blame. Where the line does not show all of them, their number is as it is told."""
-    if not line:
+def blamed(data, at, quote, told_length):
+    """The piece of the offending bytes. If the quote does not show all of them, their number is the reported one."""
+    if not quote:
         return piece("bytes", data, 0, 0)
-    fitting = [count for count in [*range(1, LONGEST_QUOTE + 1), told_length] if quoted(data[at:at + count]) == line]
-    return piece("bytes", data, at, fitting[0]) if fitting else f"nothing at {at} is shown as {line}\n"
+    fitting = [count for count in [*range(1, LONGEST_QUOTE + 1), told_length] if quoted(data[at:at + count]) == quote]
+    return piece("bytes", data, at, fitting[0]) if fitting else f"nothing at {at} is shown as {quote}\n"
 
 
 def place(line):
-    """The numbers of a place; of a cell, or where there is none, twice 0."""
+    """The numbers of a position; for a cell, or if there is none, twice 0."""
     found = re.fullmatch(r"row (\d+), column (\d+)", line)
     return f"{found[1]} {found[2]}" if found else "0 0"
 
@@ -119,23 +118,31 @@ def passing_line(row):
     def bits(name, values):
         return sum(values[word] for word in row.get(name, []))
 
-    numbers = bits("needs", PARTS), bits("players", PLAYERS), bits("on_every_player", PARTS)
-    return "passing {} {} {} {}\n".format(*numbers, int(row.get("taller", False)))
+    numbers = bits("needs", PARTS), bits("players", PLAYERS), bits("needs_on_all_players", PARTS)
+    return "passing {} {} {} {}\n".format(*numbers, int(row.get("taller_screens") == "same"))
+
+
+def fault_and_bytes(lines):
+    """The fault that why names, as check prints it, and the offending bytes as why quotes them, if there are any."""
+    said = lines.get("fault", lines.get("because", "at 0, F0 "))
+    place_of_it, fault = said.split(", ", 1)
+    fault, _, bytes_quoted = fault.partition(": ")
+    return f"{place_of_it}: {fault}", bytes_quoted
 
 
 def blame_lines(data, row, why, told_length):
     """What the row blames, by the lines of why, with which the row of the table has to agree."""
     lines = dict(line.split(": ", 1) for line in why.splitlines() if ": " in line)
-    fault = next((line for line in why.splitlines() if re.match(r"at \d+: F", line)), "at 0: F0 ")
+    fault, bytes_quoted = fault_and_bytes(lines)
     at = int(fault[3:].split(":")[0])
-    low = lines.get("low start", lines.get("cleared start", ""))
-    high = lines.get("high start", lines.get("cleared start", ""))
-    least = lines.get("lines", "0").split()[0]
+    low = lines.get("from the top left", lines.get("cursor", ""))
+    high = lines.get("from the bottom right", lines.get("cursor", ""))
+    least = lines.get("lines", "0").split(",")[0]
     if "fault" in row and (not fault.startswith(f"at {row['at']}: {row['fault']} ")
                            or place(low) != f"{row.get('row', 0)} {row.get('column', 0)}"):
         return f"why and the table differ: {fault}, {low}, {row}\n"
-    return (f"fault {fault_of(fault)}\n{blamed(data, at, lines.get('bytes'), told_length)}low {place(low)}\n"
-            f"high {place(high)}\nknown {KNOWN.get(lines.get('is'), 0)}\nlines {least}\nmends {int('mend' in lines)}\n")
+    return (f"fault {fault_of(fault)}\n{blamed(data, at, bytes_quoted, told_length)}low {place(low)}\n"
+            f"high {place(high)}\nknown {KNOWN.get(lines.get('is'), 0)}\nlines {least}\nmends {int('fix' in lines)}\n")
 
 
 def parts_lines(data, row):
@@ -165,7 +172,7 @@ def row_lines(program, file, told_length):
     """What a caller has to say of a file's row, by what `table --json` and `why` say."""
     data, ran = Path(file).read_bytes(), run([program, "table", "--json", file])
     row, why = json.loads(ran.stdout), run([program, "why", file]).stdout.decode()
-    head = f"row {int(row['verdict'] != 'pass')}\n"
+    head = f"row {int(row['verdict'] == 'refused')}\n"
     return "".join([head, passing_line(row), blame_lines(data, row, why, told_length), parts_lines(data, row),
                     fields_lines(data, row)]).encode()
 
@@ -175,8 +182,8 @@ def version_line():
 
 
 def wanted(program, file, told_length=0):
-    """Returns what a caller has to say of a file, by what the program says. Of more than 32 bytes to blame the program
-    does not tell the number; it is taken as told."""
+    """What a caller has to say of a file, by what the program says. The program does not say how many offending bytes
+    there are if they are more than 32; the reported number is taken then."""
     told = [version_line()]
     for known, flags in CLASSES.items():
         ran = run([program, "check", "--cells", *flags, file])
@@ -194,9 +201,9 @@ def wanted(program, file, told_length=0):
     for name, command in (("why", "why"), ("record", "sauce")):
         ran = run([program, command, file])
         told.append(f"{name} {ran.returncode} {len(ran.stdout)}\n".encode() + ran.stdout)
-    for (classes, width), flags in CHANGES.items():
+    for (classes, add_record), flags in CHANGES.items():
         ran = run([program, "mend", *flags, file])
-        told.append(f"mend {classes} {width} {len(ran.stdout)}\n".encode() + ran.stdout)
+        told.append(f"mend {classes} {add_record} {len(ran.stdout)}\n".encode() + ran.stdout)
         told.append(f"mended {ran.returncode} {len(ran.stderr)}\n".encode() + ran.stderr)
     ran = run([program, "redraw", file])
     told.append(f"redraw {len(ran.stdout)}\n".encode() + ran.stdout)
@@ -207,7 +214,7 @@ def wanted(program, file, told_length=0):
 def wanted_of_too_long():
     answers = [f"check {known} answer {TOO_LONG}\n" for known in CLASSES] + [f"needs answer {TOO_LONG}\n"]
     texts = [f"row {TOO_LONG}\nwhy {TOO_LONG} 0\nrecord {TOO_LONG} 0\n"]
-    mends = [f"mend {classes} {width} 0\nmended {TOO_LONG} 0\n" for classes, width in CHANGES]
+    mends = [f"mend {classes} {added} 0\nmended {TOO_LONG} 0\n" for classes, added in CHANGES]
     redraw = f"redraw 0\nredrawn {TOO_LONG} 0\n"
     return version_line() + "".join([*answers, *texts, *mends, redraw]).encode()
 

@@ -4,7 +4,7 @@
 #
 # The gate takes no crate for wasm64, so this works on a copy of the crates, in which ans_c is for wasm64 instead of a
 # static library. The copy is proved as the original is. What the checks of the original kept in out/ is used. That
-# module has 64-bit memory; it is kept as BEFORE where that is named. The last step makes the one with 32-bit memory.
+# module has 64-bit memory; it is kept as BEFORE if that is named. The last step makes the one with 32-bit memory.
 set -eu
 before=${1:-}
 case $before in "" | /*) ;; *) before=$PWD/$before ;; esac

@@ -3,7 +3,7 @@
 
     python3 page/make.py [MODULE [OUT]]
 
-MODULE is library/js/anscheck.wasm where it is not named, which page/build.sh built, and OUT is page/check.html. The
+MODULE is library/js/anscheck.wasm if it is not named, which page/build.sh built, and OUT is page/check.html. The
 policy in the page names the hashes of its style and its scripts, so that it runs no others. By its stamp
 `page/stamp.py` finds whether it is out of date.
 """
@@ -20,7 +20,7 @@ HERE = pathlib.Path(__file__).resolve().parent
 sys.path[:0] = [str(HERE), str(HERE.parent / "tools" / "runs")]
 sys.dont_write_bytecode = True
 
-from meanings import meanings  # noqa: E402
+from meanings import helps  # noqa: E402
 from modules import SCRIPT, SOURCES, WORKER, joined, source  # noqa: E402
 from stamp import page_stamp  # noqa: E402
 
@@ -28,9 +28,8 @@ MODULE = HERE.parent / "library" / "js" / "anscheck.wasm"
 
 
 def faults():
-    """The text of each fault, as `anscheck help F20` prints it, by its number: its paragraphs."""
-    texts = {name[1:]: text.split("\n\n") for name, text in meanings().items() if name.startswith("F")}
-    return {number: [" ".join(part.split()) for part in parts] for number, parts in texts.items()}
+    """The text of each fault, as `anscheck help F20` prints it, by its number."""
+    return {name[1:]: text for name, text in helps().items() if name.startswith("F")}
 
 
 def hash_of(text):
@@ -39,7 +38,7 @@ def hash_of(text):
 
 
 def policy(style, *scripts):
-    """Nothing is loaded, and nothing is run but what stands in the page."""
+    """Nothing is loaded, and nothing is run except what is in the page."""
     return "; ".join((
         "default-src 'none'", f"script-src {' '.join(map(hash_of, scripts))} 'wasm-unsafe-eval'",
         f"style-src {hash_of(style)}", "worker-src blob:", "img-src data:", "base-uri 'none'", "form-action 'none'",

@@ -14,7 +14,7 @@ LEFT = re.compile(r"^(?:import|export)\b", re.MULTILINE)
 
 
 def modules_of(path, above=()):
-    """The modules that one stands on, each behind those that it stands on itself, and that one last."""
+    """The modules that one imports, each after those that it imports itself, and that one last."""
     if path in above:
         sys.exit(f"{path}: it imports itself")
     found = []
@@ -24,7 +24,7 @@ def modules_of(path, above=()):
 
 
 def source(path):
-    """The text of a source, which stands inside of an element."""
+    """The text of a source, which is inside of an element."""
     text = path.read_text(encoding="utf-8")
     if "</script" in text or "</style" in text:
         sys.exit(f"{path}: it would end its element")
@@ -40,5 +40,5 @@ def plain(path):
 
 
 def joined(path):
-    """A module with all that it stands on, as a plain script."""
+    """A module with all that it imports, as a plain script."""
     return "\n".join(['"use strict";\n', *map(plain, modules_of(path))])

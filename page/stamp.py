@@ -7,8 +7,8 @@
 A stamp is the SHA-256 of files, of their names and bytes, in the order of their names. `library/js/anscheck.sources`
 has that of the crates that the module beside it was built from, as `page/build.sh` writes it, and the module's own
 SHA-256. The page has a stamp of its sources, its module and that file, as `page/make.py` writes it: the `content` of
-its `<meta name="anscheck-sources">`. The first line compares them with what stands here, and the status is 1 where
-something is out of date. The second prints the stamp of the crates at TOP, which is this repository where it is not
+its `<meta name="anscheck-sources">`. The first line compares them with what is here, and the status is 1 if
+something is out of date. The second prints the stamp of the crates at TOP, which is this repository if it is not
 named.
 """
 import hashlib
@@ -40,7 +40,7 @@ def stamp_of(files):
 
 
 def crates_below(top, name):
-    """A crate and those that it stands on, as crates.txt has them. The others are of the kit."""
+    """A crate and those that it uses, as crates.txt has them. The others are of the kit."""
     text = (top / "crates.txt").read_text(encoding="utf-8")
     below = {crate: words.split() for crate, words in LINE_OF_A_CRATE.findall(text)}
     found, waiting = set(), [name]

@@ -4,14 +4,14 @@
     python3 page/try.py PROGRAM [--page PAGE] [--stand-in] [--pictures FOLDER] [--browser NAME] [DRAWING ..]
 
 PROGRAM is the built `anscheck`. Each drawing of conformance/ and crates/anscheck/data, and each that is named, is given
-to the page. Compared are the lines of why, the text on the fault, the record, what is changed to mend it, the redrawn
+to the page. Compared are the lines of why, the text on the fault, the record, what is changed to fix it, the redrawn
 file with what is said of it, the cells of the picture, its text, and the colours that are painted: `N drawings,
-0 differ`. Then come mending with its boxes, redrawing, the table with its filter, the keyboard, names that hide
-something, touch, files that cannot be read or take too long, and a browser that is too old. The status is 1 where
+0 differ`. Then come fixing with its boxes, redrawing, the table with its filter, the keyboard, names that hide
+something, touch, files that cannot be read or take too long, and a browser that is too old. The status is 1 if
 something differs.
 
-PAGE is page/check.html where it is not named. With `--browser webkit` the drawings are compared in WebKit, and no more
-is tried; that wants Debian's `webkit2gtk-driver` and `xvfb`. With --stand-in the page is tried too with a module that
+PAGE is page/check.html if it is not named. With `--browser webkit` the drawings are compared in WebKit, and no more
+is tried; that needs Debian's `webkit2gtk-driver` and `xvfb`. With --stand-in the page is tried too with a module that
 stops or never ends, which needs `clang` and `lld` for wasm32. With --pictures pictures of the page are written to
 FOLDER: light, dark, and 360 points wide.
 """
@@ -44,8 +44,7 @@ LONGEST_PAUSE = 1000
 SHOWN = """({
   why: [...element("why").children].map((line) => line.textContent + "\\n").join(""),
   record: [element("record-note").textContent, ...[...element("record").children].map((line) => line.textContent)],
-  advice: element("advice").hidden ? [] : [element("meaning"), element("mend")].filter(({ hidden }) => !hidden)
-    .map(({ textContent }) => textContent),
+  advice: element("advice").hidden ? "" : element("advice-text").textContent,
   changes: [...element("changes").children].map((line) => line.textContent + "\\n").join(""),
   redrawn: element("redraw-part").hidden ? null : {
     file: [...redrawing.bytes],
@@ -62,7 +61,7 @@ SHOWN = """({
 })"""
 
 
-# Under which name the page saves the mended drawing. Browsers may leave out what hides in it.
+# Under which name the page saves the fixed drawing. Browsers may leave out what hides in it.
 SAVED_NAME = """(() => {
   const { click } = HTMLAnchorElement.prototype;
   let name;
@@ -98,47 +97,47 @@ def compare(browser, tries, program, paths):
 
 
 def try_mending(browser, tries, program):
-    """A drawing mended by itself and by a box: the file that is saved, the picture, and a number out of range."""
+    """A drawing fixed without a box and by one: the file that is saved, the picture, and a number out of range."""
     show(browser, [DATA / "hi.ans"])
     mended = made(program, "mend", DATA / "hi.ans")[0]
-    tries.want("hi.ans: mended", saved(browser, "save-mended", "mended-hi.ans").read_bytes(), mended)
+    tries.want("hi.ans: fixed", saved(browser, "save-mended", "fixed-hi.ans").read_bytes(), mended)
     browser.value("element('show-after').click()")
     picture = picture_of(program, mended)
-    tries.want("hi.ans: mended cells", browser.value(SHOWN)["picture"]["cells"], picture["cells"])
-    tries.want("hi.ans: its note", browser.value("element('picture-note').textContent"), "2 x 1, mended.")
+    tries.want("hi.ans: fixed cells", browser.value(SHOWN)["picture"]["cells"], picture["cells"])
+    tries.want("hi.ans: its note", browser.value("element('picture-note').textContent"), "2 x 1, fixed.")
     show(browser, [DATA / "rows.ans"])
-    tries.want("rows.ans: not by itself", browser.value("element('save-mended').disabled"))
+    tries.want("rows.ans: not without a box", browser.value("element('save-mended').disabled"))
     browser.value("document.querySelector('#mend-part [value=\"4\"]').click()")
     browser.wait("busy === 0")
-    run = subprocess.run([program, "mend", "--full-rows", DATA / "rows.ans"], capture_output=True, check=True)
+    run = subprocess.run([program, "mend", "--join-rows", DATA / "rows.ans"], capture_output=True, check=True)
     tries.want("rows.ans: changes", browser.value(SHOWN)["changes"], run.stderr.decode())
-    tries.want("rows.ans: mended", saved(browser, "save-mended", "mended-rows.ans").read_bytes(), run.stdout)
+    tries.want("rows.ans: fixed", saved(browser, "save-mended", "fixed-rows.ans").read_bytes(), run.stdout)
     browser.value("(() => { const lines = document.querySelector('#mend-part [name=lines]'); lines.value = '8193'; "
                   "lines.dispatchEvent(new Event('change')); })()")
     tries.want("a number out of range", browser.value("element('mended-sentence').textContent"),
-               "Lines are a number from 1 to 8192, and columns one from 1 to 1024.")
+               "Lines have to be a number from 1 to 8192, and columns one from 1 to 1024.")
     tries.want("no file for it", browser.value("element('save-mended').disabled"))
 
 
 def try_redrawing(browser, tries, program):
-    """A drawing redrawn as it is and mended: the file that is saved, and what is said. One that is refused is not."""
+    """A drawing redrawn as it is and fixed: the file that is saved, and what is said. One that is refused is not."""
     text = lambda part: browser.value(f"element('{part}').textContent")
     show(browser, [DATA / "hi.ans"])
     file = made(program, "redraw", DATA / "hi.ans")[0]
     tries.want("hi.ans: redrawn", saved(browser, "save-redrawn", "redrawn-hi.ans").read_bytes(), file)
-    sentence = "Redrawn it is the same picture, written so that players show it alike"
+    sentence = "Redrawn, it is the same picture, written so that it looks the same in all players"
     tries.want("hi.ans: how it is redrawn", text("redrawn-sentence"), f"{sentence}: {len(file)} bytes, 131 before.")
-    alike = "players that part only in the known ways all show it alike, "
-    named = "players that part only in the known ways all show it alike in named colours, "
+    alike = "it looks the same in all players that differ only in the known ways, "
+    whatever = "whatever was on the screen before."
     tries.want("hi.ans: players before", text("players-before"),
-               f"As it is: {named}if they find the cursor at the top left and white on black; "
+               f"As it is: in named colours {alike}if they start with the cursor at the top left and white on black; "
                "a light theme shows its own black and white.")
-    tries.want("hi.ans: players after", text("players-after"), f"Redrawn: {alike}from every start.")
+    tries.want("hi.ans: players after", text("players-after"), f"Redrawn: {alike}{whatever}")
     browser.value("element('show-after').click()")
     browser.wait("busy === 0")
     mended = redrawn_of(program, made(program, "mend", DATA / "hi.ans")[0])
-    tries.want("hi.ans: mended and redrawn", browser.value(SHOWN)["redrawn"], mended)
-    tries.want("hi.ans: players of the mended", text("players-before"), f"Mended: {alike}from every start.")
+    tries.want("hi.ans: fixed and redrawn", browser.value(SHOWN)["redrawn"], mended)
+    tries.want("hi.ans: players of the fixed", text("players-before"), f"Fixed: {alike}{whatever}")
     show(browser, [DATA / "rows.ans"])
     tries.want("rows.ans: nothing to redraw", browser.value(
         "element('redraw-part').hidden && element('save-redrawn').hidden"))
@@ -165,7 +164,7 @@ def try_stopped(kind, tries, folder):
     try:
         browser.open(page.as_uri())
         show(browser, [folder / "traps.ans"])
-        tries.want("a trap", "started anew" in verdict())
+        tries.want("a trap", "started again" in verdict())
         browser.value("checks.longestWait = 1000")
         show(browser, [folder / "never.ans"])
         tries.want("no answer", "in time" in verdict())
@@ -179,7 +178,7 @@ def try_stopped(kind, tries, folder):
         tries.want("the next one", verdict(), "Refused at byte 0: F1 no SAUCE record.")
         show(browser, [DATA / "hi.ans", folder / "traps.ans"])
         tries.want("an answer and none", browser.value("tableFilter.counts"),
-                   {"all": 2, "refused": 1, "relying": 0, "unanswered": 1})
+                   {"all": 2, "refused": 1, "cleared": 0, "unanswered": 1})
         browser.value("document.querySelector('[data-filter=unanswered]').click()")
         tries.want("the one without an answer", column(browser, "name"), ["traps.ans"])
     finally:
@@ -187,14 +186,14 @@ def try_stopped(kind, tries, folder):
 
 
 def try_notes(browser, tries, folder):
-    """What is said of a picture without the sequences that are taken out, and where its fault is marked."""
+    """What is said of a picture without the sequences that are removed, and where its fault is marked."""
     for name, note in (
             ("one goes", "Without the sequence at byte 0, on 3 x 1. Marked: row 1, column 1."),
             ("bright and more", "Without 4 sequences, the first at byte 0, on 8 x 1. Marked: row 1, column 1."),
             ("more lines", "Without the sequence at byte 0, and with 2 lines. The record states 4 x 1. "
                            "Marked: row 1, column 1."),
-            ("one stays", "What stands before byte 0, on 2 x 1. Marked: row 1, column 1."),
-            ("blue", "What stands before byte 9, on 2 x 1. Marked: row 1, column 1."),
+            ("one stays", "What comes before byte 0, on 2 x 1. Marked: row 1, column 1."),
+            ("blue", "What comes before byte 9, on 2 x 1. Marked: row 1, column 1."),
             ("no lines", "As it is with 2 lines. The record states none.")):
         show(browser, [folder / f"{name}.ans"])
         tries.want(f"{name}: its note", browser.value("element('picture-note').textContent"), note)
@@ -222,7 +221,7 @@ def try_names(browser, tries, program, folder):
         shown = browser.value("document.documentElement.outerHTML.replace(/<script[^]*?<\\/script>/g, '')")
         tries.want(f"{name}: characters that turn or hide", [each for each in HIDDEN[:-3] if each in shown], [])
     show(browser, [paths[1]])
-    tries.want("the name of the file that is saved", browser.value(SAVED_NAME), f"mended-{names[1]}")
+    tries.want("the name of the file that is saved", browser.value(SAVED_NAME), f"fixed-{names[1]}")
 
 
 def try_blink(browser, tries, folder):
@@ -259,7 +258,7 @@ def try_largest(browser, tries, path):
 
 
 def try_touch_and_drop(browser, tries, folder):
-    """A touch on a line that names a place, and a folder that is dropped."""
+    """A touch on a line that names a position, and a folder that is dropped."""
     browser.look(360, 700, is_touch=True)
     show(browser, [DATA / "harbour.ans"])
     tries.want("nothing wider than the page", browser.value("document.documentElement.scrollWidth <= innerWidth"))
@@ -286,7 +285,7 @@ def try_touch_and_drop(browser, tries, folder):
 
 
 def try_old_browser(kind, tries, address):
-    """A browser that runs no module, one that unpacks none, or one in which the script fails, is told at once."""
+    """A browser that runs no module, one that unpacks none, or one in which the script fails, says so at once."""
     no_modules = "WebAssembly.Module = function () { throw new WebAssembly.CompileError('not allowed'); };"
     for change in (no_modules, "delete window.DecompressionStream;", "delete window.ResizeObserver;"):
         browser = kind()

@@ -1,14 +1,14 @@
-// Tries the page's module in Node, where there is no browser, beside the command line program.
+// Tries the page's module in Node, without a browser, beside the command line program.
 //
 //     node page/try_module.mjs PROGRAM [DRAWING ..]
 //     node --experimental-wasm-memory64 page/try_module.mjs PROGRAM --before MODULE [DRAWING ..]
 //
-// PROGRAM is the built `anscheck`. The module is the one inside page/check.html, and library/js/calls.js calls it. Of
-// each drawing of conformance/ and crates/anscheck/data, and of each that is named, it must say what PROGRAM says: the
-// lines of why, the record, what is needed, the row of its table, each cell from three classes of starts, the drawing
-// mended in three ways, and the drawing redrawn. A folder stands for the .ans files in it. With --before the same is
-// wanted of the module with 64-bit memory that page/build.sh kept. (Newer versions of Node need no flag for that.) The
-// last line is `N drawings, M differ`, and the status is 1 where one differs.
+// PROGRAM is the built `anscheck`. The module is the one inside page/check.html, and library/js/calls.js calls it.
+// About each drawing of conformance/ and crates/anscheck/data, and each that is named, it must say what PROGRAM says:
+// the lines of why, the record, what is needed, the row of its table, each cell from three classes of starts, the
+// drawing fixed in three ways, and the drawing redrawn. A folder means the .ans files in it. With --before the module
+// with 64-bit memory that page/build.sh kept must say the same. (Newer versions of Node need no flag for that.) The
+// last line is `N drawings, M differ`, and the status is 1 if one differs.
 import { spawnSync } from "node:child_process";
 import { readdirSync, readFileSync, statSync } from "node:fs";
 import { dirname, join } from "node:path";
@@ -22,11 +22,11 @@ const TOP = dirname(PAGE);
 const PART_NAMES = ["screen", "cursor", "saved", "colours", "wrap"];
 const CLASSES = [[0, []], [3, ["--known-screen", "--known-cursor"]], [31, ["--cleared"]]];
 
-/** What may be changed to mend, by the sums and numbers of the module and by the flags of the program. */
+/** What may be changed, by the sums and numbers of the module and by the flags of the program. */
 const MENDS = [
   [[0, 0, 0], []],
-  [[31, 80, 0], ["--take-out", "--line-ends", "--full-rows", "--least-lines", "--name-colours", "--width", "80"]],
-  [[3, 0, 30], ["--take-out", "--line-ends", "--lines", "30"]],
+  [[31, 80, 0], ["--take-out", "--crlf", "--join-rows", "--least-lines", "--name-colours", "--add-record", "80"]],
+  [[3, 0, 30], ["--take-out", "--crlf", "--lines", "30"]],
 ];
 
 /** The module that is packed in the page. */
@@ -35,7 +35,7 @@ function pageModule() {
   return gunzipSync(Buffer.from(packed.replace(/\s/g, ""), "base64"));
 }
 
-/** The caller of a module. Newer versions of Node want as a BigInt how many pages a 64-bit memory grows by. */
+/** The caller of a module. In newer versions of Node a 64-bit memory grows by a BigInt of pages. */
 class AnyChecker extends Checker {
   grow(pages) {
     try {
@@ -64,7 +64,7 @@ function faultLine(checker, { number, offset, row, column }) {
   return `at ${offset}: ${checker.faultText(number).text}${cell}\n`;
 }
 
-/** A row as text: the members of the table's, in the order of their names, and the lines of why that it tells. */
+/** A row as text: the members of the table's, in the order of their names, and its lines of why. */
 const rowText = (members, lines) => JSON.stringify([Object.entries(members).sort(), [...lines].sort()]);
 
 const nameOf = (command, flags) => [command, ...flags].join(" ");
@@ -80,8 +80,8 @@ function saidBy(checker, file) {
     const told = checker.check(known);
     said[nameOf("check", flags)] = told.answer === "pass" ? cellLines(told) : faultLine(checker, told.fault);
   }
-  const { answer, row } = checker.row();
-  said.row = rowText(jsonRow({ verdict: answer, ...row }), whyLines({ verdict: answer, ...row }));
+  const { row } = checker.row();
+  said.row = rowText(jsonRow(row), whyLines(row));
   const needs = checker.needs();
   const names = PART_NAMES.filter((_, part) => (needs.parts >> part) & 1).join(" ") || "nothing";
   said.needs = needs.answer === "pass" ? `needs: ${names}\n` : faultLine(checker, needs.fault);

@@ -1,4 +1,4 @@
-// The checker's module, as ans.h describes its exports. They take and tell pointers and lengths of 64 bits, as BigInt,
+// The checker's module, as ans.h describes its exports. They take and give pointers and lengths of 64 bits, as BigInt,
 // whether the module's memory has 32-bit addresses or 64-bit ones. The browser page has this file too.
 
 import { CLASSES, LONGEST_FILE } from "./numbers.js";
@@ -26,7 +26,7 @@ class Checker {
     this.open(new Uint8Array(0));
   }
 
-  /** Lays a file where all later calls find it. What the module itself keeps lies below `__heap_base`. */
+  /** Puts a file where all later calls find it. What the module itself keeps is below `__heap_base`. */
   open(file) {
     this.end = Number(this.exports.__heap_base.value);
     this.fault = this.take(FAULT_BYTES);
@@ -41,7 +41,7 @@ class Checker {
     this.screen = this.screenOf(rows, BYTES_OF_A_COLUMN * columns * rows);
   }
 
-  /** What a screen wants: records of so many rows, and so many bytes. */
+  /** What a screen needs: records of that many rows, and that many bytes. */
   screenOf(rows, bytes) {
     return [this.take(rows * SCREEN_ROW_BYTES), BigInt(rows), ...this.array(bytes)];
   }
@@ -72,7 +72,7 @@ class Checker {
     });
   }
 
-  /** What is known of the file, in numbers and words: `row` is there whether it passes or is refused. */
+  /** What is known of the file, in numbers and words: there is a `row` whether it passes or is refused. */
   row() {
     return this.borrowing(() => {
       const told = this.array(ROW_BYTES);
@@ -92,10 +92,10 @@ class Checker {
   }
 
   /**
-   * The file mended, and what was changed of it; or why it is not. What may be changed besides what is mended by itself
-   * is a sum of CLASSES, a width of the record for a file without one, and a number of lines, each 0 for none.
+   * The fixed file, and what was changed; or why there is none. What may be changed besides what is changed without
+   * being asked is a sum of CLASSES, the columns of a record to add, and a number of lines, each 0 for none.
    */
-  mend(classes, width, lines) {
+  mend(classes, addRecord, lines) {
     return this.borrowing(() => {
       const room = this.mendingRoom(classes);
       const screen = this.screenOf(MOST_ROWS, MOST_BYTES);
@@ -104,7 +104,7 @@ class Checker {
       const text = this.array(FIRST_TEXT_ROOM);
       const size = this.take(LENGTH_BYTES);
       const answer = ANSWERS[this.exports.ans_mend_on(
-        ...this.file, classes, width, lines, ...screen, ...draft, ...mended, size, ...text, this.length)];
+        ...this.file, classes, addRecord, lines, ...screen, ...draft, ...mended, size, ...text, this.length)];
       if (answer === "no room") throw new Error("ans_mend_on has too little room");
       const changes = new TextDecoder().decode(this.bytesOf(text).subarray(0, this.numberAt(this.length)));
       const bytes = answer === "pass" ? this.bytesOf(mended).slice(0, this.numberAt(size)) : null;
@@ -113,17 +113,17 @@ class Checker {
   }
 
   /**
-   * How many bytes the draft wants: with line ends one more for each line feed; with names of colours eight more for
-   * each byte and eight, up to the longest file.
+   * How many bytes the draft needs: with `crlf` one more for each line feed; with `nameColours` eight more for each
+   * byte and eight, up to the longest file.
    */
   mendingRoom(classes) {
     const file = this.bytesOf(this.file);
     const most = classes & CLASSES.nameColours ? Math.min(LONGEST_FILE, 9 * file.length + 8) : file.length;
-    const more = classes & CLASSES.lineEnds ? file.reduce((count, byte) => count + (byte === LINE_FEED), 0) : 0;
+    const more = classes & CLASSES.crlf ? file.reduce((count, byte) => count + (byte === LINE_FEED), 0) : 0;
     return most + MENDING_ROOM + more;
   }
 
-  /** The file redrawn, and what was changed of it; or why it is not. First it is asked how many bytes it wants. */
+  /** The redrawn file, and what was changed; or why there is none. The first call asks how many bytes it needs. */
   redraw() {
     const asked = this.redrawIn(0);
     const told = asked.answer === "no room" ? this.redrawIn(asked.size) : asked;
@@ -242,7 +242,7 @@ class Checker {
     return new Uint8Array(this.exports.memory.buffer, Number(at), Number(length));
   }
 
-  /** A length that an export has told. */
+  /** A length that an export has written. */
   numberAt(pointer) {
     return Number(this.view().getBigUint64(Number(pointer), true));
   }

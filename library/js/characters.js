@@ -1,4 +1,4 @@
-// The characters of code page 437, by the bytes that stand for them. 00h shows as a blank.
+// The characters of code page 437, by their bytes. 00h shows as a blank.
 
 const CODE_PAGE_437 = [
   ..." ☺☻♥♦♣♠•◘○◙♂♀♪♫☼►◄↕‼¶§▬↨↑↓→←∟↔▲▼",

@@ -15,11 +15,11 @@ export interface Fault {
   number: number;
   /** In bytes from the file's start, the first being 0. */
   offset: number;
-  /** The row of the cell of F25, counted from 1; else null. */
+  /** The row of the cell of F25, counted from 1; otherwise null. */
   row: number | null;
-  /** The column of that cell, counted from 1; else null. */
+  /** The column of that cell, counted from 1; otherwise null. */
   column: number | null;
-  /** The fault's number and name, as "F21 scrolls". */
+  /** The fault's number and name, such as "F21 scrolls". */
   text: string;
 }
 
@@ -28,7 +28,7 @@ export interface TooLong {
   verdict: "too long";
 }
 
-/** The file is refused, with its first fault, or its last where no token has one. */
+/** The file is refused, with its first fault, or its last if no token has one. */
 export interface Refused {
   verdict: "refused";
   fault: Fault;
@@ -47,91 +47,89 @@ export interface Picture {
   attributes: Uint8Array;
 }
 
-/** It passes from the cleared start, and exactly where each of these parts is known. */
+/** It passes from the cleared start, and exactly if each of these parts is known. */
 export interface Needs {
   verdict: "pass";
   needs: Part[];
 }
 
-/** A kind in which players part. docs/PLAYERS.md explains each. */
+/** A way in which players differ. docs/PLAYERS.md explains each. */
 export type Kind =
   | "wrap-at-once" | "line-ends" | "home-on-clear" | "clear-in-colour" | "save-place-only" | "dos-colours"
   | "tab-prints" | "line-erased" | "wrap-off" | "stops-at-edge" | "page-controls" | "terminal-controls"
   | "own-colours";
 
-/** A place on the screen, counted from 1. */
+/** A position on the screen, counted from 1. */
 export interface Place {
   row: number;
   column: number;
 }
 
-/** So many bytes of the file, from this offset on. */
+/** That many bytes of the file, from this offset on. */
 export interface Piece {
   start: number;
   length: number;
 }
 
-/** What the last 128 bytes of a file say, where they are a record. Texts are shown by characters of code page 437. */
+/** What the last 128 bytes of a file say, if they are a record. Texts are shown by characters of code page 437. */
 export interface RecordFields {
   title: string;
   author: string;
   group: string;
   /** Mostly eight digits: year, month and day. */
   date: string;
-  /** The stated columns; a width of 0 is told as 80. */
+  /** The stated columns; a width of 0 is given as 80. */
   width: number;
-  /** The stated lines, and 0 where none are. */
+  /** The stated lines, or 0 if none are. */
   lines: number;
   /** The byte of the flags (TFlags). */
   flags: number;
   /** Whether bit 7 of an attribute is a bright background, and not blink: the flag non-blink. */
   ice: boolean;
-  /** Letters of 8 or of 9 pixels; null where the flags do not say. */
+  /** Letters of 8 or of 9 pixels; null if the flags do not say. */
   spacing: 8 | 9 | null;
-  /** Pixels to be stretched, or square ones; null where the flags do not say. */
+  /** Pixels to be stretched, or square ones; null if the flags do not say. */
   aspect: "stretch" | "square" | null;
   font: string;
 }
 
-/** What is known of a file. What there is not is null. */
+/** What is known of a file. Whatever is absent is null. */
 export interface Row {
-  /** From the cleared start. */
-  verdict: "pass" | "refused";
-  /** Of a pass the parts of the start that it relies on. */
+  /** "pass": it needs nothing. "cleared": it passes on a cleared screen. "refused": it does not pass even there. */
+  verdict: "pass" | "cleared" | "refused";
+  /** The parts of the start that it relies on, if it is not refused. */
   needs: Part[] | null;
-  /** Of a pass the kinds in which players part that it makes use of; none: `players: any`. */
+  /** The ways in which players differ that it runs into, if it is not refused; none: `players: all`. */
   players: Kind[] | null;
   /**
-   * If there are none but own colours, the parts that have to be known for every player to show the same; with own
-   * colours, for every one whose own white and black are those that 37 and 40 set.
+   * If there are none but own colours, the parts that have to be known for it to look the same on all players; with own
+   * colours, on all whose own white and black are those that 37 and 40 set.
    */
-  onEveryPlayer: Part[] | null;
-  /** Of a pass whether it shows the same picture on every taller screen too. */
-  taller: boolean | null;
-  /**
-   * The fault of a refusal; or the one that a pass has where nothing is known of the start, if it relies on something.
-   */
+  needsOnAllPlayers: Part[] | null;
+  /** "same" if its picture is shown to be the same on every taller screen. */
+  tallerScreens: "same" | null;
+  /** Why it is refused; or, if it relies on something, the fault that it has if nothing is known of the start. */
   fault: Fault | null;
-  /** The bytes to blame, and none for F1 to F8 and F25. */
+  /** The offending bytes; none for F1 to F8 and F25. */
   bytes: Piece | null;
   /**
-   * Where the cursor stands before the fault: of a refusal from the cleared start; of a pass if it began at the top
+   * Where the cursor is before the fault: from the cleared start if it is refused, otherwise if it began at the top
    * left.
    */
   low: Place | null;
-  /** The same of a refusal; of a pass if it began at the bottom right. */
+  /** The same if it is refused; otherwise where the cursor is if it began at the bottom right. */
   high: Place | null;
-  /** What the bytes to blame, or those behind the end mark, are known as: "ANSI music" and the like. */
+  /** What the offending bytes, or those after the end mark, are recognised as: "ANSI music" and the like. */
   known: string | null;
-  /** Of F5 and F19 to F21 the least number of lines with which the file passes from the cleared start. */
+  /** For F5 and F19 to F21 the smallest number of lines with which the file passes from the cleared start. */
   lines: number | null;
-  /** Whether a pass that relies on something is mended by the beginning that `why` names, since the file has room. */
+  /** Whether it relies on something and `why` has the line `fix: anscheck mend`. */
   mends: boolean;
-  /** How many bytes the content has, where the record and the layout are accepted. */
+  /** How many bytes the content has, if the record and the layout are accepted. */
   content: number | null;
-  /** The comments, where the record and the layout are accepted. */
+  /** The comments, if the record and the layout are accepted. */
   comments: string[];
-  /** The notes on the record, 3 for N3, where the record and the layout are accepted. */
+  /** The notes on the record, 3 for N3, if the record and the layout are accepted. */
   notes: number[];
   /** The record, accepted or not. */
   record: RecordFields | null;
@@ -156,51 +154,52 @@ export interface NotMade {
   text: string;
 }
 
-/** What may be changed to mend a file besides what is mended by itself. */
+/** What may be changed to fix a file besides what is changed without being asked: the flags of `anscheck mend`. */
 export interface MendOptions {
-  /** Refused sequences, such as screen modes, are taken out, and as few line ends at the very end as must go. */
+  /** Remove refused sequences, such as screen modes, and as few line ends at the very end as must go. */
   takeOut?: boolean;
-  /** A return is put before each line feed of a drawing that has no return. */
-  lineEnds?: boolean;
-  /** The line ends behind full rows are taken out, where each full row has one. */
-  fullRows?: boolean;
-  /** The least number of lines that is enough is stated, where those stated are too few or none are. */
+  /** Turn line feeds into CR LF, if the drawing has no CR. */
+  crlf?: boolean;
+  /** Remove the line ends after full rows, if each full row has one. */
+  joinRows?: boolean;
+  /** Set the smallest number of lines that works, if the record has too few or none. */
   leastLines?: boolean;
-  /** After each 0 of a sequence of colours the colours are named in which something is printed. */
+  /** Add 37 and 40 after a 0 that something is printed in. */
   nameColours?: boolean;
-  /** The columns of the record that a file without one is given, 1 to 1024. */
-  width?: number;
-  /** The number of lines that is stated where others are wanted, 1 to 8192. */
+  /** Add a record for that many columns, if there is none: 1 to 1024. */
+  addRecord?: number;
+  /** Set that many lines, if the record has too few or none: 1 to 8192. */
   lines?: number;
 }
 
 /**
- * A checker. A file that is given is not changed; answers stay as they are when the next file is checked. Of something
- * else than a file, a start or options each call throws a `TypeError`, and of a number out of bounds a `RangeError`.
+ * A checker. A file that is given is not changed; answers stay as they are when the next file is checked. For anything
+ * but a file, a start or options each call throws a `TypeError`, and for a number out of bounds a `RangeError`.
  */
 export interface Checker {
-  /** The picture that a file shows from every start of a class ("any" where none is named), or why there is none. */
+  /** The picture that a file shows from every start of a class ("any" if none is named), or why there is none. */
   check(file: Bytes, start?: Start): Picture | Refused | TooLong;
   /** The parts of the start that a file relies on, or why it does not pass even from the cleared start. */
   needs(file: Bytes): Needs | Refused | TooLong;
   /** What `anscheck why` and `anscheck table` say of a file, in numbers and words. */
   row(file: Bytes): Row | TooLong;
-  /** What `anscheck why` prints: where and why a file is refused, or what it relies on and how it is mended. */
+  /** What `anscheck why` prints: where and why a file is refused, or what it relies on and how to fix it. */
   why(file: Bytes): Text | TooLong;
   /** What `anscheck sauce` prints: what a file's record says, or why it is refused. */
   record(file: Bytes): Text | TooLong;
-  /** A file mended as `anscheck mend` does it, so that it passes from every start. */
+  /** A file fixed as `anscheck mend` does it, so that it passes from every start. */
   mend(file: Bytes, options?: MendOptions): Made | NotMade | TooLong;
   /**
-   * The picture from the cleared start written anew, as `anscheck redraw` does it, so that it shows from every start.
+   * The picture from the cleared start written again from scratch, as `anscheck redraw` does it, so that it shows from
+   * every start.
    */
   redraw(file: Bytes): Made | NotMade | TooLong;
-  /** The version of the checker, as "0.2.0". */
+  /** The version of the checker, such as "0.2.0". */
   version(): string;
 }
 
 /**
- * Makes a checker, of the bytes of `anscheck.wasm` or of the `WebAssembly.Module` that was compiled of them. Where none
- * is given they are read from beside the package's sources, in browsers by `fetch`.
+ * Makes a checker, of the bytes of `anscheck.wasm` or of the `WebAssembly.Module` that was compiled of them. If none
+ * are given, they are read from beside the package's sources, in browsers by `fetch`.
  */
 export function load(module?: Bytes | object): Promise<Checker>;

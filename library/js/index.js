@@ -7,16 +7,16 @@ import { partsIn } from "./row.js";
 const MODULE = new URL("anscheck.wasm", import.meta.url);
 const MOST_COLUMNS = 1024;
 const MOST_LINES = 8192;
-const OPTIONS = [...Object.keys(CLASSES), "width", "lines"];
+const OPTIONS = [...Object.keys(CLASSES), "addRecord", "lines"];
 const TOO_LONG = "too long";
 
 /**
  * Makes a checker.
  *
- * @param {Uint8Array | ArrayBuffer | WebAssembly.Module} [module] what `anscheck.wasm` holds, or the module that was
- *   compiled of it. Where none is given it is read from beside this file, in browsers by `fetch`.
+ * @param {Uint8Array | ArrayBuffer | WebAssembly.Module} [module] the bytes of `anscheck.wasm`, or the module that was
+ *   compiled of them. If none is given, it is read from beside this file, in browsers by `fetch`.
  * @returns {Promise<Checker>}
- * @throws {TypeError} of something else.
+ * @throws {TypeError} for anything else.
  */
 export async function load(module) {
   const compiled = await compiledFrom(module);
@@ -27,9 +27,9 @@ export async function load(module) {
  * A checker. Its answers are plain objects of their own: they stay as they are when it checks the next file, and none
  * of them refers to the file that was given.
  *
- * A file is a `Uint8Array` (such as a `Buffer`) or an `ArrayBuffer`, and is not changed. Of a file with more than
+ * A file is a `Uint8Array` (such as a `Buffer`) or an `ArrayBuffer`, and is not changed. For a file of more than
  * 16,777,216 bytes each answer is `{ verdict: "too long" }`. An offset is in bytes from the file's start, the first
- * being 0; a row and a column are counted from 1. Where there is no memory for a file, a call throws the engine's
+ * being 0; a row and a column are counted from 1. If there is no memory for a file, a call throws the engine's
  * `RangeError`.
  */
 class Checker {
@@ -49,11 +49,12 @@ class Checker {
    *   ("cleared"); or these parts: "screen", "cursor", "saved", "colours", "wrap". What is known is as on a cleared
    *   screen.
    * @returns {object} `{ verdict: "pass", width, lines, glyphs, attributes }`: columns and rows, and for each cell, row
-   *   by row, its byte of code page 437 and its attribute. Of that bits 0 to 3 are the foreground, bits 4 to 6 the
-   *   background, and bit 7 is blink, or a bright background where the record's non-blink flag is set. Or
+   *   by row, its byte of code page 437 and its attribute, in which bits 0 to 3 are the foreground, bits 4 to 6 the
+   *   background, and bit 7 is blink, or a bright background if the record's non-blink flag is set. Or
    *   `{ verdict: "refused", fault: { number, offset, row, column, text } }`: the fault's number, 25 for F25, its
-   *   offset, the cell of F25 (else null and null), and its number and name as text. Or `{ verdict: "too long" }`.
-   * @throws {TypeError} of another start, or of something else than a file.
+   *   offset, the cell of F25 (otherwise null and null), and its number and name as text. Or
+   *   `{ verdict: "too long" }`.
+   * @throws {TypeError} for another start, or for anything but a file.
    */
   check(file, start = "any") {
     const known = partsKnown(start);
@@ -65,10 +66,10 @@ class Checker {
    * The parts of the start that a file relies on, as `anscheck needs` says them.
    *
    * @param {Uint8Array | ArrayBuffer} file
-   * @returns {object} `{ verdict: "pass", needs }`: it passes from the cleared start, and exactly where each of these
-   *   parts is known; none of them is there where it shows its picture from every start. Or `refused` with the fault,
-   *   as of `check`: it does not pass even from the cleared start. Or `{ verdict: "too long" }`.
-   * @throws {TypeError} of something else than a file.
+   * @returns {object} `{ verdict: "pass", needs }`: it passes from the cleared start, and exactly if each of these
+   *   parts is known; there are none if it shows its picture from every start. Or `refused` with the fault, as for
+   *   `check`: it does not pass even from the cleared start. Or `{ verdict: "too long" }`.
+   * @throws {TypeError} for anything but a file.
    */
   needs(file) {
     return this.#answer(file, (calls) => told(calls, calls.needs(), ({ parts }) => ({ needs: partsIn(parts) })));
@@ -78,66 +79,67 @@ class Checker {
    * What `anscheck why` and `anscheck table` say of a file, in numbers and words.
    *
    * @param {Uint8Array | ArrayBuffer} file
-   * @returns {object} `{ verdict, needs, players, onEveryPlayer, taller, fault, bytes, low, high, known, lines, mends,
-   *   content, comments, notes, record }`, each as `index.d.ts` tells it: the verdict from the cleared start is "pass"
-   *   or "refused", and what there is not is null. Or `{ verdict: "too long" }`.
-   * @throws {TypeError} of something else than a file.
+   * @returns {object} `{ verdict, needs, players, needsOnAllPlayers, tallerScreens, fault, bytes, low, high, known,
+   *   lines, mends, content, comments, notes, record }`, each as `index.d.ts` says: the verdict is "pass", "cleared" or
+   *   "refused", and whatever is absent is null. Or `{ verdict: "too long" }`.
+   * @throws {TypeError} for anything but a file.
    */
   row(file) {
     return this.#answer(file, (calls) => rowTold(calls.row()));
   }
 
   /**
-   * What `anscheck why` prints of a file: where and why it is refused, or what it relies on and how it is mended.
+   * What `anscheck why` prints about a file: where and why it is refused, or what it relies on and how to fix it.
    *
    * @param {Uint8Array | ArrayBuffer} file
    * @returns {object} `{ verdict, text }`: "pass" or "refused" from the cleared start, and lines that each end in a
    *   line feed. Or `{ verdict: "too long" }`.
-   * @throws {TypeError} of something else than a file.
+   * @throws {TypeError} for anything but a file.
    */
   why(file) {
     return this.#answer(file, (calls) => withText(calls.why()));
   }
 
   /**
-   * What `anscheck sauce` prints of a file: what its record says, or why the record is refused.
+   * What `anscheck sauce` prints about a file: what its record says, or why the record is refused.
    *
    * @param {Uint8Array | ArrayBuffer} file
    * @returns {object} `{ verdict, text }`: "pass" or "refused", and lines that each end in a line feed. Or
    *   `{ verdict: "too long" }`.
-   * @throws {TypeError} of something else than a file.
+   * @throws {TypeError} for anything but a file.
    */
   record(file) {
     return this.#answer(file, (calls) => withText(calls.record()));
   }
 
   /**
-   * A file mended as `anscheck mend` does it, so that it passes from every start.
+   * A file fixed as `anscheck mend` does it, so that it passes from every start.
    *
    * @param {Uint8Array | ArrayBuffer} file
-   * @param {object} [options] what may be changed besides what is mended by itself: `takeOut`, `lineEnds`, `fullRows`,
-   *   `leastLines` and `nameColours` are true or false; `width` is the columns of the record that a file without one is given, 1 to
-   *   1024; `lines` the number of lines that is stated where others are wanted, 1 to 8192.
-   * @returns {object} `{ verdict: "pass", file, text }`: the mended file as a `Uint8Array`, and what was changed, a
-   *   line for each kind of change; it is empty where nothing was. Or `{ verdict: "refused", text }`: why the file is
-   *   not mended so. Or `{ verdict: "too long" }`.
-   * @throws {TypeError} of another option, or of something else than a file.
-   * @throws {RangeError} of a width or lines out of bounds.
+   * @param {object} [options] what may be changed besides what is changed without being asked, as the flags of
+   *   `anscheck mend`: `takeOut`, `crlf`, `joinRows`, `leastLines` and `nameColours` are true or false; `addRecord` is
+   *   the columns of the record that is added to a file without one, 1 to 1024; `lines` the number of lines that is set
+   *   if the record has too few or none, 1 to 8192.
+   * @returns {object} `{ verdict: "pass", file, text }`: the fixed file as a `Uint8Array`, and what was changed, a line
+   *   for each kind of change, or an empty text. Or `{ verdict: "refused", text }`: why the file cannot be fixed this
+   *   way. Or `{ verdict: "too long" }`.
+   * @throws {TypeError} for another option, or for anything but a file.
+   * @throws {RangeError} if the columns or the lines are out of bounds.
    */
   mend(file, options = {}) {
-    const { classes, width, lines } = changesAsked(options);
-    return this.#answer(file, (calls) => withFile(calls.mend(classes, width, lines)));
+    const { classes, addRecord, lines } = changesAsked(options);
+    return this.#answer(file, (calls) => withFile(calls.mend(classes, addRecord, lines)));
   }
 
   /**
-   * The picture that a file shows from the cleared start, written anew as `anscheck redraw` does it, so that it shows
-   * from every start.
+   * The picture that a file shows from the cleared start, written again from scratch as `anscheck redraw` does it, so
+   * that it shows from every start.
    *
    * @param {Uint8Array | ArrayBuffer} file
    * @returns {object} `{ verdict: "pass", file, text }`: the redrawn file as a `Uint8Array`, and what was changed, a
    *   line for each kind of change. Or `{ verdict: "refused", text }`: it does not pass from the cleared start, or the
    *   redrawn one would be too long, and the text says which. Or `{ verdict: "too long" }`.
-   * @throws {TypeError} of something else than a file.
+   * @throws {TypeError} for anything but a file.
    */
   redraw(file) {
     return this.#answer(file, (calls) => withFile(calls.redraw()));
@@ -161,7 +163,7 @@ class Checker {
     });
   }
 
-  /** An instance in which something was thrown, as where there is no memory, is not used again. */
+  /** An instance in which something was thrown, such as for want of memory, is not used again. */
   #use(ask) {
     this.#calls ??= new Calls(new WebAssembly.Instance(this.#module));
     const calls = this.#calls;
@@ -215,8 +217,8 @@ function changesAsked(options) {
   const unknown = Object.keys(options).find((name) => !OPTIONS.includes(name));
   if (unknown !== undefined) throw new TypeError(`${unknown} is none of the options ${OPTIONS.join(", ")}`);
   const classes = Object.keys(CLASSES).reduce((sum, name) => sum + (isAsked(options, name) ? CLASSES[name] : 0), 0);
-  const width = numberAsked(options, "width", MOST_COLUMNS);
-  return { classes, width, lines: numberAsked(options, "lines", MOST_LINES) };
+  const addRecord = numberAsked(options, "addRecord", MOST_COLUMNS);
+  return { classes, addRecord, lines: numberAsked(options, "lines", MOST_LINES) };
 }
 
 function isAsked(options, name) {
@@ -225,7 +227,7 @@ function isAsked(options, name) {
   return value;
 }
 
-/** 0 where none is asked for. */
+/** 0 if none is asked for. */
 function numberAsked(options, name, most) {
   const value = options[name];
   if (value === undefined) return 0;
@@ -247,7 +249,7 @@ function faultTold(calls, { number, offset, row, column }) {
 }
 
 function rowTold({ answer, row }) {
-  if (row) return { verdict: answer, ...row };
+  if (row) return row;
   throw unforeseen(answer);
 }
 
@@ -262,5 +264,5 @@ function withFile({ answer, bytes, changes }) {
   throw unforeseen(answer);
 }
 
-/** An answer that does not come, since the room that is lent and the numbers that are given are right. */
+/** An answer that cannot come, since the room that is lent and the numbers that are given are right. */
 const unforeseen = (answer) => new Error(`the module answers "${answer}"`);

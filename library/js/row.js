@@ -3,11 +3,11 @@
 import { textOf } from "./characters.js";
 import { PARTS } from "./numbers.js";
 
-/** The kinds in which players part, in the order of their bits. */
+/** The ways in which players differ, in the order of their bits. */
 const KINDS = ["wrap-at-once", "line-ends", "home-on-clear", "clear-in-colour", "save-place-only", "dos-colours",
   "tab-prints", "line-erased", "wrap-off", "stops-at-edge", "page-controls", "terminal-controls", "own-colours"];
 
-/** What bytes are known as, by number. */
+/** What bytes are recognised as, by number. */
 const KNOWN = [null, "ANSI music", "a font selection", "a 24-bit colour", "the switch for bright backgrounds",
   "the switch that hides or shows the cursor", "a screen mode of DOS", "a reassigned key",
   "comments that the record does not count", "an older record", "an arrow in the drawing"];
@@ -28,7 +28,7 @@ function trimmed(bytes) {
   return bytes.subarray(0, end);
 }
 
-/** Reads a structure as C lays it out: one field after the other, each where a number of its size may stand. */
+/** Reads a structure as C lays it out: one field after the other, each aligned to its size. */
 class Structure {
   constructor(bytes) {
     this.view = new DataView(bytes.buffer, bytes.byteOffset, bytes.byteLength);
@@ -47,7 +47,7 @@ class Structure {
     return Number(this.view.getBigUint64(this.at - 8, true));
   }
 
-  /** Goes to where a structure may begin that has such a number. */
+  /** Goes to where a structure with such a number may begin. */
   begin() {
     this.at = Math.ceil(this.at / 8) * 8;
   }
@@ -62,15 +62,16 @@ class Structure {
   }
 }
 
-/** What a file that passes relies on; null where it is refused. */
+/** The verdict, and what a file that passes relies on, which is null if it is refused. */
 function passingIn(structure, isPass) {
   const needs = partsIn(structure.word());
   const players = kindsIn(structure.word());
-  const onEveryPlayer = partsIn(structure.word());
-  const taller = structure.word() === 1;
-  if (!isPass) return { needs: null, players: null, onEveryPlayer: null, taller: null };
+  const needsOnAllPlayers = partsIn(structure.word());
+  const tallerScreens = structure.word() === 1 ? "same" : null;
+  if (!isPass) return { verdict: "refused", needs: null, players: null, needsOnAllPlayers: null, tallerScreens: null };
+  const verdict = needs.length === 0 ? "pass" : "cleared";
   const isSaid = players.every((kind) => kind === "own-colours");
-  return { needs, players, onEveryPlayer: isSaid ? onEveryPlayer : null, taller };
+  return { verdict, needs, players, needsOnAllPlayers: isSaid ? needsOnAllPlayers : null, tallerScreens };
 }
 
 function faultIn(structure, faultText) {

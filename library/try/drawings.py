@@ -1,6 +1,6 @@
 """Drawings made for the library's row: each number of it is other than 0 in one of them, and is 0 in another.
 
-What is to be said of them comes from the program; ../try.py compares. Beside them it takes the drawings of
+What is to be said of them comes from the program; ../try.py compares. Besides them it takes the drawings of
 tools/runs/made_drawings.py, with mistakes that artists make."""
 import struct
 
@@ -11,7 +11,7 @@ COMMENT = b"a comment, in 64 bytes".ljust(64)
 
 def record(size, width=80, lines=1, kind=(1, 1), comments=0, flags=0, font=b"", version=b"00", date=b"19960101",
            title=b"", author=b"", group=b""):
-    """A record of SAUCE. A text that is too long is cut, and one that is too short has blanks behind it."""
+    """A record of SAUCE. A text that is too long is cut, and one that is too short has blanks after it."""
     texts = struct.pack("35s20s20s8s", title.ljust(35), author.ljust(20), group.ljust(20), date.ljust(8))
     numbers = struct.pack("<IBB4HBB22s", size, *kind, width, lines, 0, 0, comments, flags, font)
     return b"SAUCE" + version + texts + numbers

@@ -1,4 +1,4 @@
-/* memory FILE..: what each call of ans_easy.h answers of each file where malloc refuses its first call, its second, and
+/* memory FILE..: what each call of ans_easy.h answers about each file if malloc refuses its first call, its second, and
  * so on. The last line says how many trials there were and how many failed. Built with a sanitizer, it also shows what
  * would stay unfreed. */
 #include <stdio.h>
@@ -45,7 +45,7 @@ static enum ans_answer call(int which) {
     case 6: answer = ans_redraw_easily(file, file_len, &made, &size, &text); break;
     }
     if (answer == ANS_NO_MEMORY && (made || text || picture.glyphs))
-        answer = ANS_WRONG_NUMBER; /* no such answer is wanted */
+        answer = ANS_WRONG_NUMBER; /* an answer that must not come */
     ans_free_picture(&picture);
     free(made);
     free(text);

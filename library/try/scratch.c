@@ -1,4 +1,4 @@
-/* scratch FILE..: of each file, what the calls answer on scratch of the size that ans_size tells, on less, and on
+/* scratch FILE..: for each file, what the calls answer on scratch of the size that ans_size gives, on less, and on
  * scratch that is aligned badly. The last line says how many trials there were and how many failed. */
 #include "ans.h"
 #include <stdio.h>
@@ -29,7 +29,7 @@ struct said {
     char text[ANS_LONGEST_TEXT];
 };
 
-/* Says it on so many bytes, from `front` bytes behind a place that malloc gives; the last byte ends that memory. */
+/* Says it on that many bytes, from `front` bytes after an address that malloc gives; the last byte ends that memory. */
 static struct said *say(size_t front, size_t scratch_len, size_t cells, uint32_t known) {
     struct said *said = (struct said *)calloc(1, sizeof *said);
     uint8_t *memory = (uint8_t *)malloc(front + scratch_len + 1);
@@ -47,14 +47,14 @@ static struct said *say(size_t front, size_t scratch_len, size_t cells, uint32_t
     said->why = ans_why(file, file_len, scratch, scratch_len, said->text, sizeof said->text, &said->why_length);
     said->redraw = ans_redraw(file, file_len, scratch, scratch_len, NULL, 0, &said->size, said->text, 0,
                               &said->redrawn_length);
-    want("a byte behind the scratch is written", memory[front + scratch_len] == 0xA5);
+    want("a byte after the scratch is written", memory[front + scratch_len] == 0xA5);
     free(memory);
     free(glyphs);
     free(attributes);
     return said;
 }
 
-/* Whether two rows have the same numbers. What stands between these does not matter. */
+/* Whether two rows have the same numbers. What is between these does not matter. */
 static int is_same_row(const struct ans_row *a, const struct ans_row *b) {
     const struct ans_blame *of_a = &a->blame, *of_b = &b->blame;
     return memcmp(&a->passing, &b->passing, sizeof a->passing) == 0 && of_a->fault.number == of_b->fault.number &&
@@ -82,13 +82,13 @@ static void compare(const char *what, const struct said *wanted, struct said *sa
     free(said);
 }
 
-/* How many bytes the draft wants, whatever is asked for. */
+/* How many bytes the draft needs, whatever is asked for. */
 static size_t mending_room(void) {
     size_t named = 9 * file_len + 8;
     return (named < ANS_LONGEST_FILE ? named : ANS_LONGEST_FILE) + file_len + ANS_MENDING_ROOM;
 }
 
-/* What ans_mend answers on so much scratch, and its file and its text in one. */
+/* What ans_mend answers on that much scratch, and its file and its text in one. */
 static enum ans_answer mend_on(size_t scratch_len, uint32_t classes, uint8_t *mended, size_t *size) {
     size_t room = mending_room(), length = 0;
     uint8_t *scratch = (uint8_t *)malloc(scratch_len), *draft = (uint8_t *)malloc(room);
@@ -124,7 +124,7 @@ static void try_too_little(const struct ans_size *size) {
              less->why == ANS_NO_ROOM && less->redraw == ANS_NO_ROOM && !less->why_length && !less->size);
     free(less);
     less = say(1, size->scratch + ANS_SCRATCH_ALIGNMENT - 2, size->cells, ANS_CLEARED);
-    want("a call answers on a byte too few behind a bad front", less->needs == ANS_NO_ROOM);
+    want("a call answers on a byte too few after a bad front", less->needs == ANS_NO_ROOM);
     free(less);
     less = say(0, size->scratch, size->cells - 1, ANS_CLEARED);
     want("a check answers on a cell too few", less->check == ANS_NO_ROOM && less->needs != ANS_NO_ROOM);
@@ -138,7 +138,7 @@ static void try_file(void) {
     if (answer != ANS_PASS)
         size.cells = size.scratch = 0;
     struct said *wanted = say(0, size.scratch, size.cells, ANS_CLEARED);
-    want("no room on what is told", wanted->needs != ANS_NO_ROOM && wanted->row_answer == wanted->needs);
+    want("no room on what ans_size gives", wanted->needs != ANS_NO_ROOM && wanted->row_answer == wanted->needs);
     compare("more scratch, another answer", wanted, say(0, size.scratch + 4096, size.cells, ANS_CLEARED));
     compare("other bits of known count", wanted, say(0, size.scratch, size.cells, UINT32_MAX));
     for (size_t front = 1; front < ANS_SCRATCH_ALIGNMENT; front++)
@@ -146,16 +146,16 @@ static void try_file(void) {
                 say(front, size.scratch + ANS_SCRATCH_ALIGNMENT - front, size.cells, ANS_CLEARED));
     if (answer == ANS_PASS) {
         try_too_little(&size);
-        try_mending("ans_mend wants more than ans_size tells", size.scratch,
-                    ANS_TAKE_OUT | ANS_LINE_ENDS | ANS_FULL_ROWS | ANS_NAME_COLOURS);
-        try_mending("ans_mend wants more than all lines", 8193 * (24 + 4 * (size_t)size.columns), 31);
+        try_mending("ans_mend needs more than ans_size gives", size.scratch,
+                    ANS_TAKE_OUT | ANS_CRLF | ANS_JOIN_ROWS | ANS_NAME_COLOURS);
+        try_mending("ans_mend needs more than all lines", 8193 * (24 + 4 * (size_t)size.columns), 31);
     } else {
         try_mending("a refused record, and ans_mend differs", ANS_MOST_SCRATCH, 31);
     }
     free(wanted);
 }
 
-/* The split of any length is within it, and has no more rows than are wanted. */
+/* The split of any length is within it, and has no more rows than are asked for. */
 static void try_splits(void) {
     static const size_t lengths[] = {0, 1, 7, 8, 27, 28, 4119, 4120, ANS_MOST_SCRATCH, SIZE_MAX / 2};
     static uint64_t memory[2];

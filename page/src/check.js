@@ -19,7 +19,7 @@ import { FAILURES, linesOf, placeOf, placesOf, playersSentenceOf, rowOf, sentenc
 const TEXT_ROWS = 500;
 const STATUS_PERIOD = 1000;
 
-/** The text of each fault, as `anscheck help F20` prints it, by its number: its paragraphs. */
+/** The text of each fault, as `anscheck help F20` prints it, by its number. */
 const FAULT_TEXTS = JSON.parse(element("faults").textContent);
 
 const packedModule = Uint8Array.from(atob(element("module").textContent), (character) => character.charCodeAt(0));
@@ -41,10 +41,10 @@ const mending = new Mending(
 const redrawing = new Redrawing(
   element("redraw-part"), element("save-redrawn"), (file) => busyWith(checks.redraw(file)));
 
-/** The drawing that is looked at, what the checker says of it, and the mended one where there is one. */
+/** The drawing that is looked at, what the checker says of it, and the fixed one if there is one. */
 let looked = null;
 
-/** What is shown now: the last choice of drawings, and the last drawing. Answers for earlier ones are left aside. */
+/** What is shown now: the last choice of drawings, and the last drawing. Answers for earlier ones are ignored. */
 let choice = 0;
 let shown = 0;
 let busy = 0;
@@ -56,14 +56,14 @@ function say(text, name = "") {
   element("status").replaceChildren(...(name === "" ? [text] : [isolated, text]));
 }
 
-/** A line of `why`. Where it names a place in the picture it is a button that goes there. */
+/** A line of `why`. If it names a position in the picture it is a button that goes there. */
 function lineElement(line, place) {
   if (!place) return itemOf(line);
   const item = document.createElement("li");
   const button = document.createElement("button");
   button.type = "button";
   button.textContent = line;
-  button.title = "Show this place in the picture";
+  button.title = "Show this position in the picture";
   button.addEventListener("click", () => goToMark(place));
   item.append(button);
   return item;
@@ -76,18 +76,14 @@ function goToMark(place) {
   pictureView.goTo(place);
 }
 
-/** What the program's own text says of the fault. How it is mended is left out where there is no room for that. */
+/** The program's own text on the fault: of a refusal, or of what a drawing has if its screen is not cleared. */
 function showAdvice({ answer, row }) {
   const fault = row?.fault;
   element("advice").hidden = !fault;
   if (!fault) return;
-  const passes = answer === "pass";
-  const [meaning, mend] = FAULT_TEXTS[fault.number];
-  const which = passes ? "the fault that it has from other starts" : "its fault";
+  const which = answer === "pass" ? "its fault if the screen is not cleared" : "its fault";
   element("advice-heading").textContent = `What “anscheck help F${fault.number}” says of ${which}`;
-  element("meaning").textContent = meaning;
-  element("mend").textContent = mend;
-  element("mend").hidden = passes && !row.mends;
+  element("advice-text").textContent = FAULT_TEXTS[fault.number];
 }
 
 function showPicture(name, { answer, picture }, note, marks) {
@@ -109,25 +105,25 @@ function showAsItIs(name, result) {
   else showPicture(name, result, "", []);
 }
 
-/** The picture of the drawing as it is, or mended. */
+/** The picture of the drawing as it is, or fixed. */
 function choosePicture(isMended) {
   element("show-before").setAttribute("aria-pressed", String(!isMended));
   element("show-after").setAttribute("aria-pressed", String(isMended));
   const { drawing, result, mended } = looked;
-  if (isMended) showPicture(shownName(drawing.path), mended, `${sizeOf(mended.row.record)}, mended.`, []);
+  if (isMended) showPicture(shownName(drawing.path), mended, `${sizeOf(mended.row.record)}, fixed.`, []);
   else showAsItIs(shownName(drawing.path), result);
   offerRedrawing(isMended);
 }
 
-/** What is looked at can be redrawn where it passes. */
+/** What is looked at can be redrawn if it passes. */
 function offerRedrawing(isMended) {
   const { drawing, result, mended } = looked;
-  if (isMended) redrawing.open(drawing, new Blob([mended.bytes]), "Mended");
+  if (isMended) redrawing.open(drawing, new Blob([mended.bytes]), "Fixed");
   else if (result.answer === "pass") redrawing.open(drawing, drawing.file, "As it is");
   else redrawing.close();
 }
 
-/** The mended drawing is there to be looked at, or it is not any more. */
+/** There is a fixed drawing to look at, or there is none any more. */
 function takeMended(mended) {
   if (!looked) return;
   const hadOne = looked.mended !== null && element("show-after").getAttribute("aria-pressed") === "true";
@@ -183,7 +179,7 @@ async function busyWith(work) {
 
 async function showDrawing(drawing) {
   const mine = ++shown;
-  say(" is checked.", shownName(drawing.path));
+  say(" is being checked.", shownName(drawing.path));
   const result = await busyWith(checks.study(drawing.file, true));
   if (mine === shown) showResult(drawing, result);
 }
@@ -194,9 +190,10 @@ function showCounts() {
 }
 
 function counted(total) {
-  const { all, refused, unanswered } = tableFilter.counts;
+  const { all, cleared, refused, unanswered } = tableFilter.counts;
+  const passing = `${all - cleared - refused - unanswered} pass, ${cleared} pass on a cleared screen`;
   const without = unanswered > 0 ? `, ${unanswered} without an answer` : "";
-  return `${all} of ${total} checked: ${all - refused - unanswered} pass, ${refused} refused${without}.`;
+  return `${all} of ${total} checked: ${passing}, ${refused} refused${without}.`;
 }
 
 async function showFolder(drawings, others) {
@@ -206,7 +203,7 @@ async function showFolder(drawings, others) {
   element("drawings-heading").textContent = `${drawings.length} drawings`;
   const left = others > 0 ? ` ${others} other ${others === 1 ? "file was" : "files were"} left out.` : "";
   let told = Date.now();
-  say(`${drawings.length} drawings are checked.`);
+  say(`${drawings.length} drawings are being checked.`);
   await busyWith(Promise.all(drawings.map(async (drawing) => {
     const result = await checks.study(drawing.file, false);
     if (mine !== choice) return;
@@ -268,7 +265,7 @@ function takeChoices(button, input) {
   });
 }
 
-/** Where it does not come to its end, last.js says that the browser is too old. */
+/** If it does not come to its end, last.js says that the browser is too old. */
 function begin() {
   if (!isKnown()) return;
   checks.start();

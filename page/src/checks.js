@@ -21,7 +21,7 @@ class Checks {
     return this.asked({ file, isLookedAt }, isLookedAt);
   }
 
-  /** What comes of a file that is mended. Somebody looks at it. */
+  /** What comes of a file that is fixed. Somebody looks at it. */
   mend(file, mends) {
     return this.asked({ file, mends }, true);
   }

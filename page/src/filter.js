@@ -3,7 +3,7 @@
 const FILTERS = {
   all: { label: "All", lets: () => true },
   refused: { label: "Refused", lets: ({ verdict }) => verdict === "refused" },
-  relying: { label: "Relies on something", lets: ({ verdict, needs }) => verdict === "pass" && needs !== "nothing" },
+  cleared: { label: "Passes on a cleared screen", lets: ({ verdict }) => verdict === "cleared" },
   unanswered: { label: "No answer", lets: ({ verdict }) => verdict === "no answer" },
 };
 
@@ -44,7 +44,7 @@ class TableFilter {
     return FILTERS[this.key].lets(row);
   }
 
-  /** The counts of now. What no row is of cannot be chosen. */
+  /** The counts so far. A kind without rows cannot be chosen. */
   show() {
     for (const button of this.buttons) {
       const { filter } = button.dataset;

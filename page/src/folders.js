@@ -10,7 +10,7 @@ function fileOf(entry) {
   return new Promise((resolve, reject) => entry.file(resolve, reject));
 }
 
-/** All files below an entry. A folder tells its entries in parts, the last of which is empty. */
+/** All files below an entry. A folder gives its entries in parts, the last of which is empty. */
 async function filesBelowEntry(entry) {
   if (entry.isFile) return [{ file: await fileOf(entry), path: entry.fullPath.replace(/^\//, "") }];
   const reader = entry.createReader();

@@ -60,7 +60,7 @@ function doubleStart(gap, own, other) {
   return own === 0 && other === 2 ? -gap : 0;
 }
 
-/** The strands of one arm: how far each lies from the middle line, and where it begins. */
+/** The strands of one arm: how far each is from the middle line, and where it begins. */
 function strandsOf(arm, opposite, before, after, gap) {
   if (arm === 0) return [];
   if (arm === 1) return [[0, singleStart(gap, before, after, opposite === 1)]];

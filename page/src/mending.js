@@ -1,23 +1,23 @@
-// The drawing mended: what may be changed of it, what is, and the file to save.
+// The fixed drawing: what may be changed, what is, and the file to save.
 
 import { itemOf } from "./elements.js";
 import { saveDrawing } from "./saving.js";
 import { FAILURES, linesOf } from "./why.js";
 
-const WRONG_NUMBER = "Lines are a number from 1 to 8192, and columns one from 1 to 1024.";
+const WRONG_NUMBER = "Lines have to be a number from 1 to 8192, and columns one from 1 to 1024.";
 
-/** What comes of mending, for people who draw. */
+/** What comes of it, for people who draw. */
 function sentenceOfMending(answer, changes) {
-  const same = "it shows the same picture from every start";
-  if (answer === "pass") return changes === "" ? `Nothing has to be changed: ${same}.` : `So changed ${same}:`;
-  if (answer === "refused") return "It cannot be mended so:";
+  const same = "it shows the same picture whatever was on the screen before";
+  if (answer === "pass") return changes === "" ? `Nothing has to be changed: ${same}.` : `With these changes ${same}:`;
+  if (answer === "refused") return "It cannot be fixed this way:";
   return answer === "wrong number" ? WRONG_NUMBER : FAILURES[answer];
 }
 
 const hasWrongNumber = (inputs) => inputs.some((input) => !input.checkValidity());
 
 class Mending {
-  /** `mend` answers what comes of a file, and `onMended` is told of the mended drawing, or of null. */
+  /** `mend` answers what comes of a file, and `onMended` gets the fixed drawing, or null. */
   constructor(part, mend, onMended) {
     this.mend = mend;
     this.onMended = onMended;
@@ -31,7 +31,7 @@ class Mending {
     this.button.addEventListener("click", () => this.save());
   }
 
-  /** Nothing is asked for yet but what is mended by itself. */
+  /** At first nothing is asked for. */
   open(drawing) {
     this.drawing = drawing;
     for (const input of this.inputs) {
@@ -53,7 +53,7 @@ class Mending {
     const numberIn = (name) => Number(this.inputs.find((input) => input.name === name).value);
     return {
       classes: boxes.reduce((sum, box) => sum + Number(box.value), 0),
-      width: numberIn("width"),
+      addRecord: numberIn("add-record"),
       lines: numberIn("lines"),
     };
   }
@@ -75,7 +75,7 @@ class Mending {
   }
 
   save() {
-    saveDrawing(this.bytes, "mended", this.drawing);
+    saveDrawing(this.bytes, "fixed", this.drawing);
   }
 }
 

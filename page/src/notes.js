@@ -11,10 +11,10 @@ function withoutSentence({ count, first }, lines, record) {
   return `${taken}, and with ${countOf(lines)} lines. The record states ${sizeOf(record)}.`;
 }
 
-/** What the picture is, where it is not that of the file as it stands. */
+/** What the picture is, if it is not that of the file as it is. */
 function partShown({ lines, upTo, moreLines, without }, record) {
   if (without) return withoutSentence(without, lines, record);
-  if (upTo !== undefined) return `What stands before byte ${countOf(upTo)}, on ${sizeOf(record)}.`;
+  if (upTo !== undefined) return `What comes before byte ${countOf(upTo)}, on ${sizeOf(record)}.`;
   if (moreLines === undefined) return `${sizeOf(record)}.`;
   return `As it is with ${lines} lines. The record states ${record.lines > 0 ? sizeOf(record) : "none"}.`;
 }

@@ -30,7 +30,7 @@ class PictureView {
 
   /**
    * Marks are rows and columns, counted from 1. A margin shows those at the edge, and the row below the last one is
-   * there if a mark stands in it.
+   * there if a mark is in it.
    */
   show(picture, marks) {
     this.picture = picture;
@@ -61,7 +61,7 @@ class PictureView {
     this.repaint();
   }
 
-  /** Scrolls so that a mark stands in the middle. */
+  /** Scrolls so that a mark is in the middle. */
   goTo({ row, column }) {
     this.view.scrollTo({
       left: (column - 0.5) * this.cellWidth / this.ratio - this.view.clientWidth / 2,

@@ -1,4 +1,4 @@
-// The lines of a record: as `anscheck sauce` prints them, or, where it is not accepted, its fields in the same form.
+// The lines of a record: as `anscheck sauce` prints them, or, if it is not accepted, its fields in the same form.
 
 import { linesOf, sizeOf } from "./why.js";
 
@@ -13,7 +13,7 @@ function fieldLines(record) {
 /** What is said of the record before its lines, or "". */
 function recordNote({ record, row }) {
   if (record !== "" || !row) return "";
-  return row.record ? `It is not accepted: ${row.fault.text}. What stands in it:` : "There is none.";
+  return row.record ? `It is not accepted: ${row.fault.text}. What it says:` : "There is none.";
 }
 
 /** The lines of the record, accepted or not. */

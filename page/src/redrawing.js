@@ -1,4 +1,4 @@
-// The drawing redrawn: the same picture in the plainest form, and the file to save.
+// The redrawn drawing: the same picture in the plainest form, and the file to save.
 
 import { itemOf } from "./elements.js";
 import { saveDrawing } from "./saving.js";
@@ -6,12 +6,12 @@ import { linesOf, playersSentenceOf } from "./why.js";
 
 /** What comes of redrawing, for people who draw. */
 function sentenceOfRedrawing({ bytes, after }, size) {
-  const written = after.players.length === 0 ? "so that players show it alike" : "in the plainest form";
-  return `Redrawn it is the same picture, written ${written}: `
+  const written = after.players.length === 0 ? "so that it looks the same in all players" : "in the plainest form";
+  return `Redrawn, it is the same picture, written ${written}: `
     + `${bytes.length.toLocaleString("en")} bytes, ${size.toLocaleString("en")} before.`;
 }
 
-/** What is to be said of players, after what it is said of. */
+/** What there is to say of players, after what it is said of. */
 function playersLine(name, row) {
   const sentence = playersSentenceOf({ answer: "pass", row });
   return `${name}: ${sentence.charAt(0).toLowerCase()}${sentence.slice(1)}`;
@@ -31,7 +31,7 @@ class Redrawing {
     button.addEventListener("click", () => this.save());
   }
 
-  /** The file of a drawing that is looked at, and what it is called where it is set beside the redrawn one. */
+  /** The file of a drawing that is looked at, and what it is called beside the redrawn one. */
   async open(drawing, file, name) {
     if (drawing !== this.drawing) this.close();
     this.drawing = drawing;

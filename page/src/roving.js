@@ -2,7 +2,7 @@
 
 const PAGE_OF_ROWS = 10;
 
-/** The element that lies so many places behind another one, or before it, or the last one on the way. */
+/** The element that is that many places after another one, or before it, or the last one on the way. */
 function elementFrom(element, steps) {
   const way = steps < 0 ? "previousElementSibling" : "nextElementSibling";
   let found = element;

@@ -27,7 +27,7 @@ class Steps {
     if (row) this.table.choose(row);
   }
 
-  /** The place of the chosen drawing as the table stands now. */
+  /** The place of the chosen drawing in the table as it is now. */
   show() {
     this.part.hidden = this.table.current === null;
     if (this.part.hidden) return;

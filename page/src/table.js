@@ -16,8 +16,8 @@ const COLUMNS = [
 ];
 
 /**
- * How long rows wait for others, in milliseconds: the table is laid out anew for all of them at once. Where that takes
- * long they wait so many times as long as it took, so that most of the time is left for the checker.
+ * How long rows wait for others, in milliseconds: the table is laid out again for all of them at once. If that takes
+ * long they wait that many times as long as it took, so that most of the time is left for the checker.
  */
 const BATCH_PERIOD = 250;
 const WAIT_FOR_LAYOUT = 8;
@@ -34,7 +34,7 @@ function sorted(rows, key, isDescending) {
   return [...rows].sort((one, other) => order(one, other) || natural.compare(one.name, other.name));
 }
 
-/** A value in quotes where CSV wants them. A spreadsheet would calculate what begins with = + - @: a ' goes before. */
+/** A value in quotes if CSV needs them. A spreadsheet would calculate what begins with = + - @: a ' goes before. */
 function csvValue(value) {
   const plain = /^[=+\-@\t\r]/.test(value) ? `'${value}` : value;
   return /[",\r\n]/.test(plain) ? `"${plain.replaceAll('"', '""')}"` : plain;
@@ -47,8 +47,8 @@ function csvOf(rows) {
 
 class DrawingTable {
   /**
-   * `lets` says whether the filter lets a row through, `onChoose` is told of the drawing of a row, and `onChange` is
-   * called when other rows are shown or the same in another order.
+   * `lets` says whether the filter lets a row through, `onChoose` gets the drawing of a row, and `onChange` is called
+   * when other rows are shown or the same in another order.
    */
   constructor(table, { lets, onChoose, onChange }) {
     const [body] = table.tBodies;
@@ -88,7 +88,7 @@ class DrawingTable {
     this.body.replaceChildren();
   }
 
-  /** Adds a row, which soon stands in the table; `drawing` is handed back when it is chosen. */
+  /** Adds a row, which is soon in the table; `drawing` is handed back when it is chosen. */
   add(values, drawing) {
     const row = { ...values, drawing };
     this.rows.push(row);
@@ -146,7 +146,7 @@ class DrawingTable {
     this.onChoose(row.drawing);
   }
 
-  /** Scrolls the table alone, so that a row stands between the headings and the lower edge. */
+  /** Scrolls only the table, so that a row is between the headings and the lower edge. */
   reveal({ offsetTop, offsetHeight }) {
     const view = this.table.parentElement;
     const least = offsetTop + offsetHeight - view.clientHeight;
@@ -154,7 +154,7 @@ class DrawingTable {
     view.scrollTop = Math.min(most, Math.max(least, view.scrollTop));
   }
 
-  /** The row behind the chosen one (1) or before it (-1), of those that are shown; or nothing. */
+  /** The row after the chosen one (1) or before it (-1), of those that are shown; or nothing. */
   neighbour(step) {
     let at = this.rows.indexOf(this.current) + step;
     while (this.rows[at] && !this.isShown(this.rows[at])) at += step;

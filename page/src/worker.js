@@ -1,4 +1,4 @@
-// Answers what the page asks about one drawing after the other. It runs in a worker, behind calls.js.
+// Answers what the page asks about one drawing after the other. It runs in a worker, after calls.js.
 
 import { Checker } from "../../library/js/calls.js";
 import { CLASSES, CLEARED } from "../../library/js/numbers.js";
@@ -35,20 +35,20 @@ function withLines(file, lines) {
   return changed;
 }
 
-/** Whether a picture shows nothing: blanks alone, all of them on black. */
+/** Whether a picture shows nothing: only blanks, all of them on black. */
 const isEmpty = ({ glyphs, attributes }) => (
   glyphs.every((glyph, cell) => BLANKS.includes(glyph) && attributes[cell] < FIRST_ON_COLOUR));
 
-/** How many sequences were taken out, and where the first stood, by what was said of the changes. */
+/** How many sequences were removed, and where the first was, by what was said of the changes. */
 function takenOut(changes) {
-  const taken = [...changes.matchAll(/^took out (?!a line end ).* at (\d+)(?:, and (\d+) more of its kind)?$/gm)];
+  const taken = [...changes.matchAll(/^removed (?!\d+ line ends? ).* at (\d+)(?:, and (\d+) more like it)?$/gm)];
   return {
     count: taken.reduce((sum, [, , more = 0]) => sum + 1 + Number(more), 0),
     first: Math.min(...taken.map(([, first]) => Number(first))),
   };
 }
 
-/** The picture of a copy that has been mended so, with what it is without; or nothing. */
+/** The picture of a copy that is fixed this way, with what it is without; or nothing. */
 function pictureMended(file, classes) {
   checker.open(file);
   const { answer, changes, bytes } = checker.mend(classes, 0, 0);
@@ -59,7 +59,7 @@ function pictureMended(file, classes) {
   return { ...checker.check(CLEARED), brightBackgrounds: ice, without };
 }
 
-/** The picture without the refused sequences, if taking them out is enough. */
+/** The picture without the refused sequences, if removing them is enough. */
 function pictureWithout(file) {
   const picture = pictureMended(file, CLASSES.takeOut) ?? pictureMended(file, CLASSES.takeOut | CLASSES.leastLines);
   return picture && !isEmpty(picture) ? picture : null;
@@ -73,9 +73,9 @@ function pictureOfCopy(copy) {
 }
 
 /**
- * The picture from the cleared screen. Of what is refused, the picture with as many lines as would do; else what stands
- * before the fault; and where that shows nothing, the picture without the sequences that are taken out. Each comes of a
- * check of a changed copy.
+ * The picture from the cleared screen. If the drawing is refused, the picture with as many lines as would do; else what
+ * comes before the fault; and if that shows nothing, the picture without the sequences that are removed. Each is that
+ * of a changed copy.
  */
 function pictureOf(file, lines) {
   const { answer, fault, ...picture } = checker.check(CLEARED);
@@ -89,7 +89,7 @@ function pictureOf(file, lines) {
 /** A picture with what it is, if there is one. */
 const withWords = (picture, words) => picture && { ...picture, ...words };
 
-/** What the checker says of a file. Of one that is looked at these are also the program's lines, and its picture. */
+/** What the checker says of a file. If it is looked at, these are also the program's lines, and its picture. */
 function study(file, isLookedAt) {
   checker.open(file);
   const { answer, row } = checker.row();
@@ -109,17 +109,17 @@ const shownFrom = (picture, record) => ({
   ...picture,
 });
 
-/** The file mended, what was changed, and what is said of it with its picture; or why it is not mended. */
-function mend(file, { classes, width, lines }) {
+/** The fixed file, what was changed, and what is said of it with its picture; or why there is none. */
+function mend(file, { classes, addRecord, lines }) {
   checker.open(file);
-  const { answer, changes, bytes } = checker.mend(classes, width, lines);
+  const { answer, changes, bytes } = checker.mend(classes, addRecord, lines);
   if (answer !== "pass") return { answer, changes, bytes: null, row: null, picture: null };
   checker.open(bytes);
   const { row } = checker.row();
   return { answer, changes, bytes, row, picture: shownFrom(checker.check(CLEARED), row.record) };
 }
 
-/** The file redrawn, what was changed, and what is said of it before and after; or why it is not redrawn. */
+/** The redrawn file, what was changed, and what is said of it before and after; or why there is none. */
 function redraw(file) {
   checker.open(file);
   const { answer, changes, bytes } = checker.redraw();

@@ -1,10 +1,11 @@
-// What the package says of files, as a digest for each, so that browsers and Node can be set beside each other.
+// What the package says of files, as a digest for each, so that browsers and Node can be compared.
 //
 //     node page/try/digests.mjs FOLDER
 //
 // Node prints a line for each .ans file of FOLDER, in the order of their names: its digest, a blank and its name.
 
-const CHANGES = [{}, { takeOut: true, lineEnds: true, fullRows: true, leastLines: true, nameColours: true, width: 80 }, { lines: 30 }];
+const ALL_CHANGES = { takeOut: true, crlf: true, joinRows: true, leastLines: true, nameColours: true, addRecord: 80 };
+const CHANGES = [{}, ALL_CHANGES, { lines: 30 }];
 const STARTS = ["any", "cleared", ["screen", "cursor"]];
 
 /** All that a checker says of a file. */

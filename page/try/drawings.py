@@ -15,7 +15,7 @@ def drawing(content, columns, lines, flags=0, title=b"", comments=()):
 
 
 def refused_at_the_beginning():
-    """Drawings before whose fault nothing is printed: most of them show something where sequences are taken out."""
+    """Drawings before whose fault nothing is printed: most of them show something if sequences are removed."""
     return {
         "one goes": drawing(b"\x1b[?25l\x1b[0;44mHi", 3, 1),
         "bright and more": drawing(b"\x1b[?33h\x1b[0;5;44mHi\x1b[?25l \x1b[?25hyou\x1b[MFABC\x0e", 8, 1),

@@ -28,7 +28,7 @@ def show(browser, paths, input_name="files"):
 
 
 def column(browser, key):
-    """A column of the table as it stands."""
+    """A column of the table as it is."""
     return browser.value(f"[...document.querySelectorAll('tbody [data-key={key}]')].map((cell) => cell.textContent)")
 
 

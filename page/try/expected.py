@@ -38,8 +38,8 @@ def with_lines(file, lines):
 
 
 def changed(file, why, offset):
-    """The file of which the page shows the picture, where this one is refused; and what the page calls it."""
-    lines = re.search(r"^lines: (\d+)( as it is)?$", why, re.MULTILINE)
+    """The file whose picture the page shows if this one is refused; and what the page calls it."""
+    lines = re.search(r"^lines: (\d+)(, but the rows look broken)?$", why, re.MULTILINE)
     if lines:
         return with_lines(file, int(lines[1])), {"moreLines": int(lines[1])}
     return shortened(file, offset), {"upTo": offset}
@@ -80,23 +80,19 @@ def record_lines(program, path):
     fields = [f"{name}: {row.get(name, '')}" for name in ("title", "author", "group", "date")]
     size = f"size: {row['width']} x {row['lines']}"
     flags = f"flags: {path.read_bytes()[FLAGS - RECORD]:02x}"
-    return [f"It is not accepted: {fault}. What stands in it:", *fields, size, flags, f"font: {row.get('font', '')}"]
+    return [f"It is not accepted: {fault}. What it says:", *fields, size, flags, f"font: {row.get('font', '')}"]
 
 
 @functools.cache
 def help_of(program, fault):
-    """The program's text on a fault, by its paragraphs."""
-    text = subprocess.run([program, "help", fault], capture_output=True, check=True).stdout.decode()
-    return [" ".join(part.split()) for part in text.split("\n\n")]
+    """The program's text on a fault."""
+    return subprocess.run([program, "help", fault], capture_output=True, check=True).stdout.decode()
 
 
 def advice(program, why):
-    """What the page says of the fault: how it is mended is left out where a pass cannot be."""
-    fault = re.search(r"^at \d+: (F\d+) ", why, re.MULTILINE)
-    if not fault:
-        return []
-    can_be_mended = "\nverdict: pass\n" not in why or "\nmend: " in why
-    return help_of(program, fault[1])[:1 + can_be_mended]
+    """What the page says of the fault."""
+    fault = re.search(r"^(?:fault|because): at \d+, (F\d+) ", why, re.MULTILINE)
+    return help_of(program, fault[1]) if fault else ""
 
 
 def refused_picture(program, path, why):
@@ -117,11 +113,11 @@ def is_blank(cell):
 
 
 def picture_without(program, path):
-    """The picture of a drawing without the sequences that are taken out, where there is one that shows something."""
+    """The picture of a drawing without the sequences that are removed, if there is one that shows something."""
     for flags in (["--take-out"], ["--take-out", "--least-lines"]):
         run = subprocess.run([program, "mend", *flags, path], capture_output=True, check=False)
         taken = [line.split(", and ") for line in run.stderr.decode().splitlines()
-                 if line.startswith("took out ") and not line.startswith("took out a line end ")]
+                 if re.match(r"removed (?!\d+ line ends? )", line)]
         if run.returncode or not taken:
             continue
         count = sum(1 + int(more[0].split(" ")[0]) if more else 1 for _, *more in taken)

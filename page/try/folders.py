@@ -3,10 +3,10 @@
 
     python3 page/try/folders.py [--page PAGE] [--browser NAME] [--times N] [COUNT ..]
 
-Each folder has COUNT drawings (500 and 5000 where none is named): copies of those of conformance/ and of
+Each folder has COUNT drawings (500 and 5000 if none is named): copies of those of conformance/ and of
 crates/anscheck/data, one after the other, under names of their own. Printed are the seconds from the choice to the last
 row, the least of N (3), how many times those of the smallest folder they are, and the longest time in which the page
-did not answer. The status is 1 where a drawing of a folder takes more than one and a half times as long as one of the
+did not answer. The status is 1 if a drawing of a folder takes more than one and a half times as long as one of the
 smallest.
 """
 import argparse
@@ -63,7 +63,7 @@ def make_folder(folder, count):
 
 
 def measured(kind, page, paths):
-    """The seconds until all rows stand in the table, and the longest pause."""
+    """The seconds until all rows are in the table, and the longest pause."""
     browser = kind()
     try:
         browser.look(1000, 900)

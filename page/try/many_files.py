@@ -1,11 +1,11 @@
 #!/usr/bin/env python3
-"""Sets what the package for JavaScript says in browsers beside what it says in Node.
+"""Compares what the package for JavaScript says in browsers with what it says in Node.
 
     python3 page/try/many_files.py FOLDER [--browser chromium|firefox|webkit]
 
-Of each .ans file of FOLDER Chromium and Firefox (or the browser that is named) and Node are asked for all that the
-package answers, and the digests of the answers are compared. `try_module.mjs` sets what Node says beside the program.
-The last line is `N files: M differ`, and the status is 1 where one differs.
+Chromium and Firefox (or the browser that is named) and Node are asked for all that the package answers about each .ans
+file of FOLDER, and the digests of the answers are compared. `try_module.mjs` compares what Node says with the program.
+The last line is `N files: M differ`, and the status is 1 if one differs.
 """
 import argparse
 import json
@@ -69,7 +69,7 @@ def served(folder, files):
 
 def main():
     """Tries them."""
-    words = argparse.ArgumentParser(description="Sets the package in browsers beside the package in Node.")
+    words = argparse.ArgumentParser(description="Compares the package in browsers with the package in Node.")
     words.add_argument("folder", type=pathlib.Path)
     words.add_argument("--browser", choices=BROWSERS)
     given = words.parse_args()

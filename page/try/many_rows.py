@@ -1,11 +1,11 @@
 #!/usr/bin/env python3
-"""Sets the page's table of many files beside the program's.
+"""Compares the page's table of many files with the program's.
 
     python3 page/try/many_rows.py PROGRAM FOLDER [--browser chromium|firefox] [--page PAGE]
 
-The page is given all .ans files of FOLDER at once, in both browsers or in the one that is named. Of each the table has
+The page is given all .ans files of FOLDER at once, in both browsers or in the one that is named. For each the table has
 to have what `PROGRAM table` says: the verdict, what it needs, the players, the fault and its byte, the notes, the
-title, the author and the size. The last line is `N files: M differ`, and the status is 1 where one differs.
+title, the author and the size. The last line is `N files: M differ`, and the status is 1 if one differs.
 """
 import argparse
 import pathlib
@@ -24,7 +24,7 @@ SHOWN = f"drawingTable.rows.map((row) => [row.name, {', '.join(f'row.{key}' for 
 
 
 def by_program(program, paths):
-    """The rows of the program's table, by name: what KEYS say, with the fault's number alone."""
+    """The rows of the program's table, by name: what KEYS say, with only the fault's number."""
     names = "".join(f"{path}\0" for path in paths).encode()
     printed = subprocess.run([program, "table"], input=names, capture_output=True, check=False).stdout.decode()
     heading, *lines = (line.split("\t") for line in printed.splitlines())

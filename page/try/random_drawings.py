@@ -1,5 +1,5 @@
 #!/usr/bin/env python3
-"""Writes random drawings, of which the page's module and the program are to say the same.
+"""Writes random drawings, about which the page's module and the program have to say the same.
 
     python3 page/try/random_drawings.py FOLDER COUNT [SEED]
 

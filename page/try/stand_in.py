@@ -1,4 +1,4 @@
-"""Builds the stand-in for the checker's module, which stops or never ends where it is asked to."""
+"""Builds the stand-in for the checker's module, which stops or never ends if it is asked to."""
 import pathlib
 import subprocess
 

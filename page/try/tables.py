@@ -36,9 +36,8 @@ def try_table(browser, tries, program, paths):
 
 def try_filter(browser, tries, rows):
     """Which rows each button of the filter shows, and how many it names. The CSV has all rows, in the same order."""
-    relying = [row for row in rows if row["verdict"] == "pass" and row["needs"] != "nothing"]
-    refused = [row for row in rows if row["verdict"] == "refused"]
-    kinds = {"all": rows, "refused": refused, "relying": relying, "unanswered": []}
+    cleared, refused = ([row for row in rows if row["verdict"] == word] for word in ("cleared", "refused"))
+    kinds = {"all": rows, "refused": refused, "cleared": cleared, "unanswered": []}
     order = column(browser, "name")
     for kind, wanted in kinds.items():
         button = f"document.querySelector('[data-filter={kind}]')"

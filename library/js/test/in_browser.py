@@ -3,7 +3,7 @@
 
     python3 library/js/test/in_browser.py
 
-The last line is `Chrome/N: M differences`, and the status is 1 where there is one.
+The last line is `Chrome/N: M differences`, and the status is 1 if there is one.
 """
 import functools
 import http.server

@@ -51,7 +51,7 @@ test("each drawing of the corpus has its picture or its fault", () => {
   }
 });
 
-test("a drawing of the corpus passes exactly where its needs are known", () => {
+test("a drawing of the corpus passes exactly if its needs are known", () => {
   for (const { name } of drawings()) {
     const file = readFileSync(new URL(`files/${name}.ans`, CORPUS));
     const { verdict, needs, fault } = checker.needs(file);
@@ -69,14 +69,15 @@ test("the row of each drawing agrees with the other answers", () => {
     const file = readFileSync(new URL(`files/${name}.ans`, CORPUS));
     const row = checker.row(file);
     const { verdict, fault } = checker.check(file, "cleared");
-    assert.equal(row.verdict, verdict, name);
+    const passes = checker.check(file).verdict === "pass" ? "pass" : "cleared";
+    assert.equal(row.verdict, verdict === "pass" ? passes : verdict, name);
     if (verdict === "refused") assert.deepEqual(row.fault, fault, name);
     else assert.deepEqual(row.needs, checker.needs(file).needs, name);
     if (row.needs?.length > 0) assert.deepEqual(row.fault, checker.check(file).fault, name);
     assert.equal(row.fault === null, row.needs?.length === 0, name);
     assert.equal(row.needs === null, verdict === "refused", name);
     const isSaid = row.players?.every((kind) => kind === "own-colours") ?? false;
-    assert.equal(row.onEveryPlayer !== null, isSaid, name);
+    assert.equal(row.needsOnAllPlayers !== null, isSaid, name);
     assert.equal(checker.record(file).verdict === "pass" && row.content === null, false, name);
   }
 });
@@ -109,8 +110,8 @@ test("answers are plain objects", () => {
   const text = "verdict: refused\nat 0: F1 no SAUCE record\n";
   assert.deepEqual(checker.record(new Uint8Array(0)), { verdict: "refused", text });
   assert.deepEqual(checker.row(hi), {
-    verdict: "pass", needs: ["cursor", "colours"], players: ["own-colours"], onEveryPlayer: ["cursor", "colours"],
-    taller: true,
+    verdict: "cleared", needs: ["cursor", "colours"], players: ["own-colours"],
+    needsOnAllPlayers: ["cursor", "colours"], tallerScreens: "same",
     fault: { number: 22, offset: 0, row: null, column: null, text: "F22 print at an unknown place" },
     bytes: { start: 0, length: 1 }, low: { row: 1, column: 1 }, high: { row: 2, column: 2 },
     known: null, lines: null, mends: true, content: 2, comments: [], notes: [], record: checker.row(hi).record,
@@ -137,7 +138,7 @@ test("answers stay when the next file is checked", () => {
   assert.deepEqual([first, mended], copy);
 });
 
-test("what is mended or redrawn needs nothing and has the same picture", () => {
+test("what is fixed or redrawn needs nothing and has the same picture", () => {
   const { glyphs, attributes } = checker.check(drawing("harbour"), "cleared");
   for (const made of [checker.mend(drawing("harbour")), checker.redraw(drawing("harbour"))]) {
     assert.equal(made.verdict, "pass");
@@ -150,13 +151,13 @@ test("what is mended or redrawn needs nothing and has the same picture", () => {
 test("each option of mend does what it says", () => {
   const rows = drawing("rows");
   assert.equal(checker.mend(rows).verdict, "refused");
-  assert.match(checker.mend(rows, { fullRows: true }).text, /^took out a line end behind a full row, 5 times/);
+  assert.match(checker.mend(rows, { joinRows: true }).text, /^removed 5 line ends after full rows, first at 84\n/);
   assert.equal(checker.check(checker.mend(rows, { lines: 12 }).file).lines, 12);
   const bare = new TextEncoder().encode("one\ntwo\x1b[?25l\n");
-  const whole = checker.mend(bare, { width: 80, lineEnds: true, takeOut: true });
+  const whole = checker.mend(bare, { addRecord: 80, crlf: true, takeOut: true });
   assert.equal(checker.check(whole.file).width, 80);
   assert.equal(new TextDecoder().decode(whole.file).includes("one\r\ntwo\r\n"), true);
-  assert.equal(checker.mend(bare, { width: 80, lineEnds: true }).verdict, "refused");
+  assert.equal(checker.mend(bare, { addRecord: 80, crlf: true }).verdict, "refused");
   assert.equal(checker.mend(drawing("rows"), { leastLines: undefined, lines: undefined }).verdict, "refused");
 });
 
@@ -168,7 +169,7 @@ test("a file that is too long has an answer of its own, and the longest one has 
   assert.equal(checker.record(long.subarray(1)).text, `verdict: refused\nat ${LONGEST_FILE}: F1 no SAUCE record\n`);
 });
 
-test("wrong arguments are told by an error, and nothing else changes", () => {
+test("wrong arguments throw an error, and nothing else changes", () => {
   const types = [
     () => checker.check("hi.ans"), () => checker.check(), () => checker.why([72, 105]), () => checker.needs(null),
     () => checker.record(new Uint16Array(4)), () => checker.redraw(new DataView(new ArrayBuffer(4))),
@@ -176,10 +177,11 @@ test("wrong arguments are told by an error, and nothing else changes", () => {
     () => checker.check(hi, "clear"), () => checker.check(hi, 31), () => checker.check(hi, null),
     () => checker.check(hi, ["colors"]), () => checker.check(hi, ["toString"]), () => checker.check(hi, [0]),
     () => checker.mend(hi, null), () => checker.mend(hi, 15), () => checker.mend(hi, { takeout: true }),
-    () => checker.mend(hi, { takeOut: 1 }), () => checker.mend(hi, { width: "80" }),
+    () => checker.mend(hi, { takeOut: 1 }), () => checker.mend(hi, { addRecord: "80" }),
+    () => checker.mend(hi, { width: 80 }), () => checker.mend(hi, { lineEnds: true }),
   ];
   for (const call of types) assert.throws(call, TypeError, String(call));
-  for (const width of [0, -1, 1025, 80.5, NaN]) assert.throws(() => checker.mend(hi, { width }), RangeError);
+  for (const addRecord of [0, -1, 1025, 80.5, NaN]) assert.throws(() => checker.mend(hi, { addRecord }), RangeError);
   for (const lines of [0, 8193, Infinity]) assert.throws(() => checker.mend(hi, { lines }), RangeError);
   assert.equal(checker.check(hi, "cleared").verdict, "pass");
 });
@@ -191,7 +193,8 @@ test("memory is taken once, and used again", async () => {
   try {
     const other = await load();
     const files = [Buffer.alloc(1 << 20, "x"), drawing("harbour"), hi];
-    const ask = (file) => [other.mend(file, { width: 1024, leastLines: true }), other.check(file), other.redraw(file)];
+    const options = { addRecord: 1024, leastLines: true };
+    const ask = (file) => [other.mend(file, options), other.check(file), other.redraw(file)];
     files.forEach(ask);
     const taken = times;
     for (const file of [...files, ...files]) ask(file);
@@ -233,8 +236,8 @@ const PROGRAM = process.env.ANSCHECK;
 const without = { skip: PROGRAM ? false : "ANSCHECK names no program" };
 
 test("texts and files are the program's, to the byte", without, () => {
-  const mends = { takeOut: true, lineEnds: true, fullRows: true, leastLines: true, nameColours: true, width: 80 };
-  const flags = ["--take-out", "--line-ends", "--full-rows", "--least-lines", "--name-colours", "--width", "80"];
+  const mends = { takeOut: true, crlf: true, joinRows: true, leastLines: true, nameColours: true, addRecord: 80 };
+  const flags = ["--take-out", "--crlf", "--join-rows", "--least-lines", "--name-colours", "--add-record", "80"];
   const said = ({ verdict, text }) => [verdict === "pass" ? 0 : 1, text];
   const made = ({ verdict, text, file }) => [verdict === "pass" ? 0 : 1, text, Buffer.from(file ?? "").toString("hex")];
   for (const { name } of drawings()) {

@@ -1,4 +1,4 @@
-// Each example of README.md, run in a folder beside a copy of the package, prints what stands below it.
+// Each example of README.md, run in a folder beside a copy of the package, prints what is below it.
 import assert from "node:assert/strict";
 import { execFileSync } from "node:child_process";
 import { copyFileSync, cpSync, mkdtempSync, readFileSync, rmSync, writeFileSync } from "node:fs";

@@ -1,36 +1,66 @@
-// A row beside what the program prints of the same file.
+// A row beside what the program prints about the same file.
 
-/** The members of what is there. */
+/** The members that are there. */
 const present = (members) => Object.fromEntries(Object.entries(members).filter(([, value]) => value !== null));
 
 /** A row as `anscheck table --json` writes it, without the file's name. */
-function jsonRow({ verdict, needs, players, onEveryPlayer, taller, fault, low, content, comments, notes, record }) {
+function jsonRow({ verdict, needs, players, needsOnAllPlayers, tallerScreens, fault, low, content, comments, notes,
+  record }) {
   const { width, lines, ice, spacing, aspect, font, date, title, author, group } = record ?? {};
-  const passing = verdict === "pass" ? { needs, players, on_every_player: onEveryPlayer, taller } : {};
+  const isRefused = verdict === "refused";
+  const passing = { needs, players, needs_on_all_players: needsOnAllPlayers, taller_screens: tallerScreens };
   const refused = { fault: `F${fault?.number}`, at: fault?.offset, row: low?.row ?? null, column: low?.column ?? null };
   return present({
-    verdict, ...passing, ...(verdict === "refused" ? refused : {}),
+    verdict, ...(isRefused ? refused : passing),
     ...(content === null ? {} : { content, comments, notes: notes.map((number) => `N${number}`) }),
     ...(record ? { width, lines, ice, spacing, aspect, font, date, title, author, group } : {}),
   });
 }
 
-/** The lines of `why` that a row tells in numbers. */
-function whyLines({ verdict, needs, taller, fault, low, high, known, lines, mends }) {
-  const cell = fault?.row ? ` (row ${fault.row}, column ${fault.column})` : "";
-  const place = (start, { row, column }) => `${start} start: row ${row}, column ${column}`;
-  const places = verdict === "pass" ? ["low", "high"] : ["cleared"];
+const VERDICTS = { pass: "pass", cleared: "pass on a cleared screen", refused: "refused" };
+
+const wordsOr = (words, none) => words.join(" ") || none;
+
+/** The lines of `why` about what a drawing relies on that passes. */
+function passingLines({ needs, players, needsOnAllPlayers, tallerScreens }) {
+  if (!needs) return [];
+  const [some, all] = [needs, needsOnAllPlayers ?? needs].map((parts) => wordsOr(parts, "nothing"));
   return [
-    `verdict: ${verdict}`,
-    ...(needs ? [`needs: ${needs.join(" ") || "nothing"}`, `taller: ${taller ? "yes" : "no"}`] : []),
-    ...(fault ? [`at ${fault.offset}: ${fault.text}${cell}`] : []), ...(known ? [`is: ${known}`] : []),
-    ...(low ? places.map((start, at) => place(start, [low, high][at])) : []),
-    ...(mends ? ["mend: begin with ESC[?7h ESC[0;37;40m ESC[2J ESC[H ESC[s"] : []), ...(lines ? [`lines: ${lines}`] : []),
+    `needs: ${some}`, `players: ${wordsOr(players, "all")}`, ...(all === some ? [] : [`needs on all players: ${all}`]),
+    ...(tallerScreens ? [`taller screens: ${tallerScreens}`] : []),
   ];
 }
 
+/** The lines of `why` about the fault, without its bytes, and about the cursor before it. */
+function faultLines({ verdict, fault, low, high }) {
+  if (!fault) return [];
+  const cell = fault.row ? ` (row ${fault.row}, column ${fault.column})` : "";
+  const isRefused = verdict === "refused";
+  const places = isRefused ? { cursor: low } : { "from the top left": low, "from the bottom right": high };
+  const place = ([name, { row, column }]) => `${name}: row ${row}, column ${column}`;
+  return [
+    `${isRefused ? "fault" : "because"}: at ${fault.offset}, ${fault.text}${cell}`,
+    ...Object.entries(present(places)).map(place),
+  ];
+}
+
+/** The lines of `why` that a row has in numbers and words. */
+function whyLines(row) {
+  const { verdict, known, lines, mends } = row;
+  return [
+    `verdict: ${VERDICTS[verdict]}`, ...passingLines(row), ...faultLines(row), ...(known ? [`is: ${known}`] : []),
+    ...(mends ? ["fix: anscheck mend"] : []), ...(lines ? [`lines: ${lines}`] : []),
+  ];
+}
+
+const NAMES = "verdict|needs|players|needs on all players|taller screens|fault|because|is|fix|lines";
+const KEPT = new RegExp(`^(?:${NAMES}): |^(?:cursor|from the (?:top left|bottom right)): row `);
+
+/** A line without the bytes of a fault, and without what comes after a number of lines. */
+const withoutMore = (line) => line.replace(/^(lines: \d+), but the rows look broken$/, "$1")
+  .replace(/^((?:fault|because): at \d+, F[^:]*): .*$/, "$1");
+
 /** Those lines of a text of `why`. */
-const toldLines = (text) => text.split("\n").map((line) => line.replace(/^(lines: \d+) as it is$/, "$1"))
-  .filter((line) => /^(verdict|needs|taller|is|mend|lines): |^at \d+: F|^(low|high|cleared) start: row /.test(line));
+const toldLines = (text) => text.split("\n").filter((line) => KEPT.test(line)).map(withoutMore);
 
 export { jsonRow, toldLines, whyLines };

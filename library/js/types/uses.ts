@@ -13,7 +13,7 @@ export async function uses(file: Uint8Array, buffer: ArrayBuffer): Promise<strin
   const needed = checker.needs(buffer);
   const parts: Part[] = needed.verdict === "pass" ? needed.needs : [];
 
-  const mended = checker.mend(file, { takeOut: true, width: 80 });
+  const mended = checker.mend(file, { takeOut: true, addRecord: 80 });
   const bytes: Uint8Array = mended.verdict === "pass" ? mended.file : file;
   checker.mend(file, {});
   checker.mend(file);
@@ -30,12 +30,13 @@ function rowsOf({ width, lines, glyphs, attributes }: Picture): string {
   return `${width} ${lines} ${glyphs[0]} ${attributes[0]}`;
 }
 
-function authorOf({ needs, players, low, record, notes }: Row): string {
-  const parts: Part[] = needs ?? [];
+function authorOf({ verdict, needs, needsOnAllPlayers, tallerScreens, players, low, record, notes }: Row): string {
+  const parts: Part[] = (verdict === "cleared" ? needs : needsOnAllPlayers) ?? [];
+  const taller: string = tallerScreens ?? "not shown";
   const kinds: Kind[] = players ?? [];
   const column: number = low?.column ?? 0;
   const ice: boolean = record?.ice ?? false;
-  return [record?.author ?? "", ...parts, ...kinds, column.toFixed(), ice, ...notes].join(" ");
+  return [record?.author ?? "", ...parts, ...kinds, taller, column.toFixed(), ice, ...notes].join(" ");
 }
 
 function placeOf({ number, offset, row, column, text }: Fault): string {
@@ -54,6 +55,8 @@ export function wrong(checker: Checker, file: Uint8Array): void {
   checker.mend(file, { takeout: true });
   // @ts-expect-error: a file that is too long has no picture
   checker.check(file).glyphs;
+  // @ts-expect-error: an option of another name
+  checker.mend(file, { width: 80 });
   // @ts-expect-error: a file that is too long has no row
   checker.row(file).record;
   // @ts-expect-error: a promise is no checker
