@@ -6,7 +6,7 @@ Run it in `crates/anscheck`, after `rt run -- check --cleared data/hi.ans` has b
     python3 ../../conformance/make.py out/anscheck
 
 It reads `crates/ans_samples/src/rows.rt`, and writes `files/` and `index.tsv` anew. What the program says is
-compared with what the samples expect, and its `players` and `on_every_player` with what the model of
+compared with what the samples expect, and its `players` and `needs_on_all_players` with what the model of
 `tools/compare/second_players.py` finds; its status is 1 where one differs.
 """
 import ast
@@ -84,12 +84,12 @@ def is_told(told, word, rest):
 
 
 def modelled(content, width, lines):
-    """`players` and `on_every_player` of a content, by the model."""
+    """`players` and `needs_on_all_players` of a content, by the model."""
     tokens = spelled(content)
     walked = walk(tokens, cleared(width, lines)) if tokens is not None else None
     if walked is None:
         return ["", ""]
-    kinds = " ".join(offsets_of(walked.arisen)) or "any"
+    kinds = " ".join(offsets_of(walked.arisen)) or "all"
     if of_start(walked.arisen):
         return [kinds, ""]
     return [kinds, " ".join(parts_needed(tokens, width, lines, True)) or "nothing"]
@@ -107,7 +107,7 @@ def main():
     os.makedirs(FILES, exist_ok=True)
     for old in os.listdir(FILES):
         os.remove(os.path.join(FILES, old))
-    index = ["name\tsize\tstart\texpected\tplayers\ton_every_player\tcontent\twhat it is for"]
+    index = ["name\tsize\tstart\texpected\tplayers\tneeds_on_all_players\tcontent\twhat it is for"]
     for title, name, start, width, lines, content, word, rest in examples():
         path = os.path.join(FILES, name)
         with open(path + ".ans", "wb") as file:

@@ -4,7 +4,8 @@
     python3 tools/completions.py [--check]
 
 The texts are those of `crates/anscheck_rows/data/helps.toml`, which the gate compares with what the program prints. So
-a flag that is new there is completed once this script has run. With `--check` nothing is written, and the status is 1
+a flag that is new there is completed once this script has run. The words that help explains are those of
+`crates/ans_options/src/words.rt`. With `--check` nothing is written, and the status is 1
 if a file is not what it would be.
 """
 import pathlib
@@ -15,9 +16,11 @@ import tomllib
 TOP = pathlib.Path(__file__).resolve().parent.parent
 HELPS = TOP / "crates/anscheck_rows/data/helps.toml"
 FOLDER = TOP / "crates/anscheck/completions"
+WORD = re.compile(r'^    \(\n        "([\w-]+)",$', re.MULTILINE)
 OPTION = re.compile(r"^ +(?:-\w, )?--([\w-]+)(?: <(\w+)>)? +(\S.*)$", re.MULTILINE)
 COMMAND = re.compile(r"^  (\w+) +(\S.*)$", re.MULTILINE)
-TOPICS = [f"F{n}" for n in range(1, 26) if n != 18] + [f"N{n}" for n in range(1, 7)]
+WORDS = TOP / "crates/ans_options/src/words.rt"
+NUMBERED = [f"F{n}" for n in range(1, 26) if n != 18] + [f"N{n}" for n in range(1, 7)]
 MADE = "It is made by tools/completions.py."
 
 BASH = """\
@@ -54,7 +57,7 @@ _anscheck() {{
 {commands}
     )
     if (( CURRENT == 2 )); then
-        commands+=('help:Print help on a command, a fault or a note' '--help:Print help' '--version:Print version')
+        commands+=('help:Explain a command, a fault, a note or a word' '--help:Print help' '--version:Print version')
         _describe 'command' commands
         _files
         return
@@ -84,6 +87,11 @@ def helps():
     return {"".join(row["words"][:-1]): row["prints"] for row in rows if row["words"][-1:] == ["--help"]}
 
 
+def topics():
+    """What help explains besides the commands: the faults, the notes, and the words."""
+    return NUMBERED + WORD.findall(WORDS.read_text(encoding="utf-8"))
+
+
 def section(text, title):
     """The lines of a help below a title, up to an empty one."""
     return text.partition(f"\n{title}:\n")[2].partition("\n\n")[0]
@@ -106,7 +114,7 @@ def bash(commands, flags):
         for command, named in flags.items() if named
     ]
     return BASH.format(
-        made=MADE, commands=" ".join(commands), topics=" ".join(TOPICS), valued=" ".join(valued), cases="\n".join(cases))
+        made=MADE, commands=" ".join(commands), topics=" ".join(topics()), valued=" ".join(valued), cases="\n".join(cases))
 
 
 def zsh_flag(name, value, what):
@@ -120,14 +128,14 @@ def zsh(commands, flags):
     for command, named in flags.items():
         words = [zsh_flag(*option) for option in named] + ["'--help[Print help]'", "'*:file:_files'"]
         cases.append(f"        {command})\n            _arguments " + " \\\n                ".join(words) + "\n            ;;")
-    return ZSH.format(made=MADE, commands=listed, topics=" ".join(TOPICS), cases="\n".join(cases))
+    return ZSH.format(made=MADE, commands=listed, topics=" ".join(topics()), cases="\n".join(cases))
 
 
 def fish(commands, flags):
     first = 'complete -c anscheck -n "not __fish_seen_subcommand_from $commands"'
     lines = [f"{first} -a {name} -d '{quoted(what)}'" for name, what in commands.items()]
-    lines.append(f"{first} -a help -d 'Print help on a command, a fault or a note'")
-    for words in (" ".join(commands), " ".join(TOPICS)):
+    lines.append(f"{first} -a help -d 'Explain a command, a fault, a note or a word'")
+    for words in (" ".join(commands), " ".join(topics())):
         lines.append(f"complete -c anscheck -n \"__fish_seen_subcommand_from help\" -f -a '{words}'")
     for command, named in flags.items():
         for name, value, what in named:

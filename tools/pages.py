@@ -21,11 +21,11 @@ import sys
 TOP = pathlib.Path(__file__).resolve().parent.parent
 
 BUDGETS = {
-    "CHANGELOG.md": 750, "CONTRIBUTING.md": 650, "README.md": 1750, "conformance/README.md": 600,
-    "docs/CHANGING.md": 1550, "docs/DECISIONS.md": 4850, "docs/DEFINITIONS.md": 3800, "docs/DESIGN.md": 3150,
-    "docs/FAULTS.md": 7950, "docs/FOLDERS.md": 1550, "docs/GLOSSARY.md": 1500, "docs/MANUAL.md": 3950,
+    "CHANGELOG.md": 775, "CONTRIBUTING.md": 650, "README.md": 1800, "conformance/README.md": 600,
+    "docs/CHANGING.md": 1575, "docs/DECISIONS.md": 4925, "docs/DEFINITIONS.md": 3900, "docs/DESIGN.md": 3150,
+    "docs/FAULTS.md": 3300, "docs/FOLDERS.md": 1575, "docs/GLOSSARY.md": 1525, "docs/MANUAL.md": 3950,
     "docs/PLAYERS.md": 3500, "docs/PROFILE.md": 3050, "docs/PROVED.md": 3400, "docs/SECURITY.md": 1500,
-    "docs/SPEED.md": 1350, "docs/TRIED.md": 2850, "docs/anscheck.1": 4200, "library/README.md": 1500,
+    "docs/SPEED.md": 1350, "docs/TRIED.md": 2875, "docs/anscheck.1": 4200, "library/README.md": 1500,
     "library/js/README.md": 1550, "page/README.md": 1100,
 }
 

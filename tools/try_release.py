@@ -29,7 +29,7 @@ CALLERS = "share/doc/anscheck/library"
 COMPLETED = {
     "anscheck re": "redraw",
     "anscheck help F2": "F2 F20 F21 F22 F23 F24 F25",
-    "anscheck mend --l": "--line-ends --least-lines --lines",
+    "anscheck mend --l": "--least-lines --lines",
 }
 # For bash: reads the completions of $1, and prints those of the line $2.
 COMPLETE = """

@@ -97,7 +97,7 @@ def plain_player(room):
 
 
 CHECK = ["check", "--cleared"]
-FLAGS = ["--take-out", "--line-ends", "--full-rows", "--least-lines", "--name-colours"]
+FLAGS = ["--take-out", "--crlf", "--join-rows", "--least-lines", "--name-colours"]
 COMMANDS = [
     ["check"], ["show"], ["show", "--vga"], ["show", "--html"], ["needs"], ["why"], ["mend"],
     *(["mend", flag] for flag in FLAGS), ["redraw"], ["sauce"], ["tokens"],

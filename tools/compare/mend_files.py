@@ -19,7 +19,7 @@ from second_why import (
 )
 
 TOP = os.path.join(os.path.dirname(os.path.abspath(__file__)), "..", "..")
-Asked = collections.namedtuple("Asked", "width line_ends take_out full_rows least_lines lines name_colours")
+Asked = collections.namedtuple("Asked", "width crlf take_out join_rows least_lines lines name_colours")
 # The beginning up to its clear, and up to its place.
 SAFE, SAFE_AND_PLACED = MENDING[:19], MENDING[:22]
 NONE_ASKED = Asked(None, False, False, False, False, None, False)
@@ -269,7 +269,7 @@ def some_lines(chance):
 def some_asked(chance, file):
     """Nothing, each flag alone, and some of them together."""
     flags = [
-        {"width": a_width(chance, file)}, {"line_ends": True}, {"take_out": True}, {"full_rows": True},
+        {"width": a_width(chance, file)}, {"crlf": True}, {"take_out": True}, {"join_rows": True},
         {"least_lines": True}, {"lines": some_lines(chance)}, {"name_colours": True},
     ]
     asked = [NONE_ASKED] + [NONE_ASKED._replace(**flag) for flag in flags]
@@ -288,7 +288,7 @@ def long_files(most):
     """Files to which something is added, so that they have as many bytes as a file may have or one more; with flags."""
     plain = packed(Record(b"SAUCE", b"00", b"", b"", b"", b"19960101", 0, 1, 1, 80, 9, 0, 0, 0, 0, b""))
     take_out = NONE_ASKED._replace(take_out=True)
-    return_and_key, record_and_key = take_out._replace(line_ends=True), take_out._replace(width=80)
+    return_and_key, record_and_key = take_out._replace(crlf=True), take_out._replace(width=80)
 
     def digits(size):
         return b"\x1b[" + b"0" * (size - 3) + b"m"

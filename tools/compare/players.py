@@ -7,7 +7,7 @@ columns and 24 lines, also with their colours named, as `named_colours.py` does 
 the picture is, is said by the machines of `second_players.py` and `second_machine.py`, and by no program of this
 repository.
 
-First come drawings in which no kind arises, `players: any`. Each is played on a screen of its columns and 25 rows; and
+First come drawings in which no kind arises, `players: all`. Each is played on a screen of its columns and 25 rows; and
 small ones, of at most nine columns and three lines, on a screen of one row more than their lines:
 
 - on a cleared screen, with the cursor at home;

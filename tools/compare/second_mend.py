@@ -20,7 +20,7 @@ the one that the changed content has from the cleared start, before its colours 
 other kinds than those that the changed content has from there, and from there the same, but that `own-colours` may be
 gone; where colours are named it is gone, and they are named nowhere if it did not arise. `dos-colours` may be gone
 there, too: an omitted number may be alone then. A file that was changed is mended once more with the same flags but
-`--full-rows`, and `--line-ends` where the last return was taken out of it: nothing is changed.
+`--join-rows`, and `--crlf` where the last return was taken out of it: nothing is changed.
 
 It follows the rules as this project states them, so it cannot tell a rule that both misread. Run it in
 `crates/anscheck`, on the built program, with a number that seeds the files and how many there shall be:
@@ -86,10 +86,13 @@ class Draft:
         self.said.append((what, line))
 
     def say_of_each(self, what, line, offsets):
-        """A line of one change or more, with its place or its first one."""
+        """A line of one change or more, with how many they are and the place of the first.
+
+        `{}` is how many they are, `(s)` an s if they are several, and `(a )` an article if it is one."""
         if offsets:
-            times = f" at {offsets[0]}" if len(offsets) == 1 else f", {len(offsets)} times, first at {offsets[0]}"
-            self.say(what, line + times)
+            several = len(offsets) > 1
+            line = line.replace("(a )", "" if several else "a ").replace("(s)", "s" if several else "")
+            self.say(what, f"{line.format(len(offsets))}, {'first ' if several else ''}at {offsets[0]}")
 
     def field(self, place):
         at, size = place
@@ -131,7 +134,7 @@ def without_tail(file, said):
     behind = file[place + 128:] if place >= 0 else b""
     if not behind or behind.strip(TAIL):
         return file
-    said.append(("cut behind the record", f"cut {many(len(behind), 'byte')} at {place + 128}, behind the record"))
+    said.append(("cut off", f"cut off {many(len(behind), 'byte')} after the record, at {place + 128}"))
     return file[:place + 128]
 
 
@@ -141,8 +144,8 @@ def with_record(file, width, said):
     if file[-128:].startswith(b"SAUCE") and len(file) >= 128 or b"SAUCE00" in file or behind.strip(TAIL):
         return None
     size = len(file) - len(content)
-    place = f" at {len(content)}" + (f", in the place of {many(size, 'byte')}" if size else "")
-    said.append(("put a record", f"put an end mark and a record of {many(width, 'column')}{place}"))
+    place = f", at {len(content)}" + (f", in place of {many(size, 'byte')}" if size else "")
+    said.append(("added a record", f"added an end mark and a record for {many(width, 'column')}{place}"))
     numbers = [(0, 4), (1, 1), (1, 1), (width, 2), (0, 2), (0, 2), (0, 2), (0, 1), (0, 1)]
     fields = b"".join(number.to_bytes(size, "little") for number, size in numbers)
     return content + b"\x1aSAUCE00" + b" " * 75 + b"0" * 8 + fields + bytes(22)
@@ -151,8 +154,8 @@ def with_record(file, width, said):
 def record_help(file):
     """What may help a file without a record: one, if it takes one."""
     if with_record(file, 80, []) is None:
-        return "help: no record is put where SAUCE00 stands, or more follows 1Ah: see anscheck help F1"
-    return "help: --width N gives a drawing without a record one for N columns"
+        return "no record is added if SAUCE00 appears in the file or more follows 1Ah: see anscheck help F1"
+    return "try: --add-record N, which adds a record for N columns"
 
 
 def draft_of(file, are_lines_asked, said):
@@ -175,7 +178,7 @@ def put_returns(draft):
     content = draft.content
     if b"\n" in content and b"\r" not in content:
         feeds = [at for at, byte in enumerate(content) if byte == 0x0A]
-        draft.say_of_each("put returns", "put a return before a line feed", feeds)
+        draft.say_of_each("returns", "added {} carriage return(s) before (a )line feed(s)", feeds)
         draft.content = content.replace(b"\n", b"\r\n")
 
 
@@ -227,9 +230,9 @@ def take_sequences_out(draft):
     for kind in TAKEN_OUT:
         places = [(begin, end) for its_kind, begin, end in taken if its_kind == kind]
         if places:
-            line = f"took out {quoted(content[slice(*places[0])])} at {places[0][0]}"
-            more = f", and {len(places) - 1} more of its kind" if places[1:] else ""
-            draft.say(f"took out {kind}", line + more)
+            line = f"removed {quoted(content[slice(*places[0])])} at {places[0][0]}"
+            more = f", and {len(places) - 1} more like it" if places[1:] else ""
+            draft.say(f"removed {kind}", line + more)
     switches = [content[end - 1:end] for kind, _, end in taken if kind == "bright backgrounds"]
     flags = draft.field(FLAGS)
     if switches and flags & 1 != (switches[-1] == b"h"):
@@ -264,7 +267,7 @@ def take_ends_of_full_rows_out(draft):
         rows.leave(token, pen)
     if rows.all_end():
         ends = rows.line_ends_of_full
-        draft.say_of_each("full rows", "took out a line end behind a full row", [end[0] for end in ends])
+        draft.say_of_each("full rows", "removed {} line end(s) after (a )full row(s)", [end[0] for end in ends])
         draft.content = without(draft.content, [(at, at + 1) for end in ends for at in end])
 
 
@@ -276,14 +279,14 @@ def take_last_line_ends_out(draft, lines):
         if not end:
             return
         rest, count = rest[:end.start()], count + 1
-    draft.say_of_each("last line ends", "took out a line end at the end", [len(rest)] * count)
+    draft.say_of_each("last line ends", "removed {} line end(s) at the end", [len(rest)] * count)
     draft.content = rest
 
 
 def name_colours(draft):
     """Names for the colours behind each 0, where something is printed or blanked in them."""
     draft.content, offsets = with_named_colours(draft.content)
-    draft.say_of_each("named colours", "named the colours of a sequence", offsets)
+    draft.say_of_each("named colours", "named the colours of {} sequence(s)", offsets)
 
 
 def settle_lines(draft, least_is_asked, lines):
@@ -294,9 +297,9 @@ def settle_lines(draft, least_is_asked, lines):
     if not lines and least_is_asked:
         lines = least_lines(draft.content, width)
         if lines and Hints(draft.content, len(draft.content), width, lines).torn:
-            raise NotMended("the rows are torn")
+            raise NotMended("the rows look broken")
         if not lines and not stated:
-            raise NotMended(f"no number of lines up to {MOST_LINES} is enough")
+            raise NotMended(f"no number of lines up to {MOST_LINES} would do")
     if lines and lines != stated:
         draft.put(LINES, lines)
         draft.say("lines", f"lines {lines}, was {stated}")
@@ -308,7 +311,7 @@ def settle_lines(draft, least_is_asked, lines):
 def put_end_mark(draft):
     if not draft.behind.startswith(b"\x1a"):
         draft.behind = b"\x1a" + draft.behind
-        draft.say("end mark", f"put an end mark at {len(draft.content)}")
+        draft.say("end mark", f"added an end mark at {len(draft.content)}")
 
 
 def eight_starts(chance, width, lines):
@@ -341,7 +344,7 @@ def put_beginning(draft, are_named, chance):
     is_wanted = isinstance(from_any, str) or parts_by_start(content, chance, width, lines)
     if is_wanted or are_named and paints_before_a_zero(content):
         draft.content = MENDING + content
-        draft.say("beginning", f"put {len(MENDING)} bytes in front")
+        draft.say("beginning", f"added the safe beginning, {len(MENDING)} bytes")
 
 
 def set_file_size(draft, old_content):
@@ -364,12 +367,12 @@ def mended(file, asked, chance):
     draft = draft_of(given or file, bool(given or asked.lines or asked.least_lines), said)
     draft.file()
     old_content = draft.content
-    if asked.line_ends:
+    if asked.crlf:
         put_returns(draft)
         draft.file()
     if asked.take_out:
         take_sequences_out(draft)
-    if asked.full_rows:
+    if asked.join_rows:
         take_ends_of_full_rows_out(draft)
     if asked.take_out:
         take_last_line_ends_out(draft, draft.field(LINES) or asked.lines or MOST_LINES)
@@ -445,7 +448,7 @@ def broken_kinds(content, changed, asked, chance, width, lines):
 def asked_again(asked, file):
     """What is asked for when it is mended once more, and nothing is to be changed."""
     content = body_of(file, record_of(file)).partition(b"\x1a")[0]
-    return asked._replace(full_rows=False, line_ends=asked.line_ends and b"\r" in content)
+    return asked._replace(join_rows=False, crlf=asked.crlf and b"\r" in content)
 
 
 # The program.
@@ -453,10 +456,10 @@ def asked_again(asked, file):
 
 def words_of(asked):
     """The flags, as words."""
-    named = ("line_ends", "take_out", "full_rows", "least_lines", "name_colours")
+    named = ("crlf", "take_out", "join_rows", "least_lines", "name_colours")
     flags = [field for field in named if getattr(asked, field)]
     words = ["--" + field.replace("_", "-") for field in flags]
-    words += ["--width", str(asked.width)] if asked.width else []
+    words += ["--add-record", str(asked.width)] if asked.width else []
     return words + (["--lines", str(asked.lines)] if asked.lines else [])
 
 

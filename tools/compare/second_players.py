@@ -6,7 +6,7 @@ It finds by itself, from the words of the definitions:
 - `players`: it plays the content from the cleared start, and keeps beside the machine the sync of players with
   it, and which of the two colours the content has named. So it tells of each token in which kinds players may
   part there; from these the kinds, how often each arises, and the offset of the first token of each;
-- `on every player`: it plays the content from all starts of five classes, each of which knows all parts but one: each
+- `needs on all players`: it plays the content from all starts of five classes, each of which knows all parts but one: each
   cursor, each saved place, the attributes 00h, 07h and FFh, wrap on and off, and cells that are unlike any other. A
   part is needed where from these something goes wrong: a fault, what is printed or erased at several places, a cell
   that is not the same, or a kind but `own-colours`, which arises from each start alike. So it finds the parts of
@@ -14,10 +14,10 @@ It finds by itself, from the words of the definitions:
 
 The lines that are compared are these, where the content passes from the cleared start, and none of them elsewhere:
 
-    players: KIND KIND ..           or players: any
-    at OFFSET: KIND, N times        for each kind, without the number where it is 1
-    on every player: PART PART ..   where players are any, or part in `own-colours` alone, and these parts are others
-                                    than those of needs
+    players: KIND KIND ..               or players: all
+    players differ: KIND, N times, first at OFFSET      for each kind; if it is only one, KIND, once, at OFFSET
+    needs on all players: PART PART ..  if players are all, or differ in `own-colours` only, and these parts are others
+                                        than those of needs
 
 Run it in `crates/anscheck`, on the built program, with a number that seeds the contents and how many there shall be:
 
@@ -32,7 +32,7 @@ at most three lines, and on contents that pass from the cleared start alone:
 - each player of `player_family.py`, and some that have several of their traits, shows the picture of the machine where
   no kind of its own arises. It counts how often one of its kinds arises, and how often it then shows another picture;
   each player has to do so at least once;
-- where players are any, or part in `own-colours` alone, the classes of all 32 for which nothing goes wrong are exactly
+- if players are all, or differ in `own-colours` only, the classes of all 32 for which nothing goes wrong are exactly
   those that know the parts that were found one by one; all cursors, a few saved places, the three attributes and wrap
   on and off are met together. From each of these starts of the least class each player shows the picture, but one with
   a white and a black of its own where `own-colours` arises; and the same of `needs` without kinds.
@@ -58,7 +58,7 @@ KINDS = [
 ]
 # The kind that arises from each start alike, since it is one of the tokens alone.
 OF_TOKENS = "own-colours"
-SAID = re.compile(r"players: .*|on every player: .*|at \d+: (" + "|".join(KINDS) + r")(, \d+ times)?")
+SAID = re.compile(r"players: .*|needs on all players: .*|players differ: .*")
 # The sync of players with the machine: after what they may be elsewhere, and the kind in which they part there.
 IN_SYNC, AFTER_WRAP = ("nothing", None), ("a wrap", "wrap-at-once")
 AFTER_FEED, AFTER_RETURN = ("a line feed", "line-ends"), ("a return", "line-ends")
@@ -224,12 +224,13 @@ def lines_of(content, width, lines):
     if walked is None:
         return []
     offsets = offsets_of(walked.arisen)
-    said = ["players: " + (" ".join(offsets) or "any")]
+    said = ["players: " + (" ".join(offsets) or "all")]
     for kind, places in offsets.items():
-        said.append(f"at {places[0]}: {kind}" + (f", {len(places)} times" if len(places) > 1 else ""))
+        times = f"once, at {places[0]}" if len(places) == 1 else f"{len(places)} times, first at {places[0]}"
+        said.append(f"players differ: {kind}, {times}")
     if not of_start(walked.arisen):
         same, needs = [parts_needed(tokens, width, lines, are_kinds_asked) for are_kinds_asked in (True, False)]
-        said += ["on every player: " + " ".join(same)] if same != needs else []
+        said += ["needs on all players: " + " ".join(same)] if same != needs else []
     return said
 
 
@@ -403,8 +404,8 @@ def try_classes(chance, tokens, width, lines, walked, seen):
         same = list(same_classes(walks, are_kinds_asked))
         if same != [known for known in classes() if set(found) <= set(known)]:
             yield f"found {found} one by one, but the same for {same} (kinds asked: {are_kinds_asked})"
-    seen["on every player: " + (" ".join(parts) or "nothing")] += 1
-    seen["on every player: other parts than needed"] += parts != needs
+    seen["needs on all players: " + (" ".join(parts) or "nothing")] += 1
+    seen["needs on all players: other parts than needed"] += parts != needs
     of_class = [start for start in met if known_of(*start).issuperset(set(parts) - {"screen"})]
     cell, arisen = None if "screen" in parts else UNKNOWN, {kind for _, kind in walked.arisen}
     for start in chance.sample(of_class, min(6, len(of_class))):
@@ -435,7 +436,7 @@ def count_lines(said, seen):
         key, _, rest = line.partition(": ")
         if key == "players":
             seen.update(rest.split())
-        elif key == "on every player":
+        elif key == "needs on all players":
             seen[line] += 1
     seen["refused"] += not said
 
@@ -457,7 +458,7 @@ def modelled(chance, seen):
     width, lines = a_size(chance)
     content = a_good_content(chance, width, lines)
     offsets = offsets_of(walk(spelled(content), cleared(width, lines)).arisen)
-    seen.update(list(offsets) or ["any"])
+    seen.update(list(offsets) or ["all"])
     return content, width, lines, try_content(chance, content, width, lines, seen)
 
 

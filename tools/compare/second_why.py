@@ -1,23 +1,23 @@
 #!/usr/bin/env python3
 """Plays random files on the machine of `second_machine.py`, and compares with the text of `why`.
 
-It finds each line of that text but those on players by itself, from the words of its definitions:
+It finds each line of that text except those on players by itself, from the words of its definitions:
 
 - `note`, `found` and the faults of the record: it takes the file apart by itself;
-- the evidence: where the cursors stand in the plays from the low and the high start before the fault, or
-  what the named cell holds in both; and on a refusal where the one from the cleared start stands;
-- `is`: by patterns over the bytes from the fault's place on, or over those behind the end mark;
+- the evidence: where the cursors are in the plays from the low and the high start before the fault, or
+  what the named cell holds in both; and on a refusal where the one from the cleared start is;
+- `is`: by patterns over the bytes from the fault's offset on, or over those after the end mark;
 - `lines`: it plays the content on 1 to 24 lines, and then halves what is left up to 8192. A number is
-  right where the content passes with it and is refused with one less, and with a few others below; none
-  is right where it is refused with 8192. `as it is` stands behind it where the rows are torn;
-- `taller`: it asks at each move of eight starts of the class that `needs` names. Where that makes `yes` it
-  also plays the content from eight starts of the class on taller screens: there is no fault, nothing
-  scrolls, and the first lines show the picture;
-- `mend`: behind these bytes it plays the content from eight starts of any kind: there is no fault, and
+  right if the content passes with it and is refused with one less, and with a few others below; none
+  is right if it is refused with 8192. The line also says if the rows look broken;
+- `taller screens`: it asks at each move of eight starts of the class that `needs` names. If that makes
+  `same` it also plays the content from eight starts of the class on taller screens: there is no fault,
+  nothing scrolls, and the first lines show the picture;
+- `fix`: after the safe beginning it plays the content from eight starts of any kind: there is no fault, and
   the picture is that from the cleared start;
-- the bytes to blame, and each hint with its count and its first offset. Where so many lines are enough, all
-  tokens count, on a screen of as many; on another refusal those up to the one to blame. What they are judged
-  by may stand behind it.
+- the bytes to blame, and each hint with its count and its first offset. If so many lines are enough, all
+  tokens count, on a screen of that many; on another refusal those up to the one to blame. What they are
+  judged by may come after it.
 
 The lines on players are left to `second_players.py`.
 
@@ -27,7 +27,7 @@ It follows the rules as this project states them, so it cannot tell a rule that 
     python3 ../../tools/compare/second_why.py out/anscheck 1 10000
 
 It prints each file of which a line or the status differs, and then how often each thing was said. Its
-status is 1 where one differs.
+status is 1 if one differs.
 """
 import collections
 import random
@@ -43,7 +43,7 @@ from second_machine import (
 )
 
 MOST_LINES, MOST_COLUMNS, TRIED_ONE_BY_ONE = 8192, 1024, 24
-OF_PLAYERS = re.compile(r"players: |on every player: |at \d+: [a-z]")
+OF_PLAYERS = re.compile(r"players: |players differ: |needs on all players: ")
 MENDING = b"\x1b[?7h\x1b[0;37;40m\x1b[2J\x1b[H\x1b[s"
 NAMES = {7: "<BEL>", 8: "<BS>", 9: "<TAB>", 10: "<LF>", 13: "<CR>", 27: "<ESC>", 32: "<SP>"}
 LOW_GLYPHS = " ☺☻♥♦♣♠•◘○◙♂♀♪♫☼►◄↕‼¶§▬↨↑↓→←∟↔▲▼"
@@ -53,19 +53,32 @@ FONTS_OF_437 = [
 ]
 LATER_COLOURS = {38, 48, *range(90, 98), *range(100, 108)}
 CONVERT = ": convert the text to code page 437"
+# Of each hint: its name here, what comes before the count, and what comes after the count and after the offset, of
+# one thing and of more.
 COUNTED_HINTS = [
-    ("loose line feed", "a line feed with no return beside it goes straight down", ""),
-    ("full row", "a full row and a line end take two rows", ""),
-    ("wider row", "a row runs over the edge and then ends", ": the widest has {widest} columns"),
-    ("overprint", "with wrap off a character is printed over another in the last column", ""),
-    ("UTF-8", "a character is in UTF-8", CONVERT),
-    ("letter in UTF-8", "a letter is in UTF-8", CONVERT),
-    ("letter in Latin-1", "a letter is in Latin-1", CONVERT),
-    ("board code", "a colour code of a bulletin board (|07, @X1F) is printed as text", ""),
-    ("later colour", "a sequence has a colour of later terminals (38, 48, 90 to 97 or 100 to 107)", ""),
-    ("blinking", "a character blinks", ": for bright backgrounds set the non-blink flag"),
-    ("dark grey", "a character is dark grey on black", ": some terminals show it as black"),
+    ("loose line feed", "", ("bare line feed makes a staircase", "bare line feeds make a staircase"),
+     (": --crlf", ": --crlf")),
+    ("full row", "", ("full row is followed by a line end and leaves a blank row",
+                      "full rows are followed by a line end and leave a blank row"),
+     (": --join-rows", ": --join-rows")),
+    ("wider row", "", ("row is wider than the screen", "rows are wider than the screen"),
+     ("; the widest has {widest} columns", "; the widest has {widest} columns")),
+    ("overprint", "wrap is off, and ", ("character overprints the last column", "characters overprint the last column"),
+     ("", "")),
+    ("UTF-8", "", ("character looks like UTF-8", "characters look like UTF-8"), (CONVERT, CONVERT)),
+    ("letter in UTF-8", "", ("letter looks like UTF-8", "letters look like UTF-8"), (CONVERT, CONVERT)),
+    ("letter in Latin-1", "", ("letter looks like Latin-1", "letters look like Latin-1"), (CONVERT, CONVERT)),
+    ("board code", "", ("bulletin-board colour code (|07, @X1F) is printed as text",
+                        "bulletin-board colour codes (|07, @X1F) are printed as text"), ("", "")),
+    ("later colour", "", ("sequence uses modern colours (38, 48, 90 to 97, 100 to 107)",
+                          "sequences use modern colours (38, 48, 90 to 97, 100 to 107)"), ("", "")),
+    ("blinking", "", ("character blinks", "characters blink"),
+     ("; if it should have a bright background, set the non-blink flag",
+      "; if they should have bright backgrounds, set the non-blink flag")),
+    ("dark grey", "", ("character is dark grey on black", "characters are dark grey on black"),
+     ("; some terminals show it as black", "; some terminals show them as black")),
 ]
+BROKEN = ", but the rows look broken"
 # Bytes that look as a blank does.
 UNSEEN, DARK_GREY = {0x00, 0x20, 0xFF}, 0x08
 LATIN_LETTERS = "äèéêñòóôöü".encode("latin-1")
@@ -117,9 +130,19 @@ def cell_text(machine, row, column):
     return f"byte {byte:02x}, attribute {attribute:02x}"
 
 
-def fault_line(offset, number, cell=None):
+def fault_text(number, cell=None):
     place = f" (row {cell[0] + 1}, column {cell[1] + 1})" if cell else ""
-    return f"at {offset}: F{number} {({**RECORD_FAULTS, **FAULTS})[number]}{place}"
+    return f"F{number} {({**RECORD_FAULTS, **FAULTS})[number]}{place}"
+
+
+def fault_line(offset, number, cell=None):
+    """The line of a fault, as the other commands have it."""
+    return f"at {offset}: {fault_text(number, cell)}"
+
+
+def fault_told(offset, number, cell=None, blamed=b""):
+    """A fault within a line, and the bytes to blame for it."""
+    return f"at {offset}, {fault_text(number, cell)}" + (f": {quoted(blamed)}" if blamed else "")
 
 
 def many(count, thing):
@@ -183,18 +206,18 @@ def moves_freely(content, machines):
     return True
 
 
-def taller_text(chance, content, width, lines, known, picture):
-    """`yes` or `no`; and of a `yes` what speaks against it on a taller screen."""
+def taller_lines(chance, content, width, lines, known, picture):
+    """The line that says `same`, or none; and with it what speaks against it on a taller screen."""
     if not moves_freely(content, starts(chance, width, lines, known)):
-        return "no"
+        return []
     for taller in {lines + 1, lines + 2, lines + chance.randrange(3, 20), lines + chance.randrange(20, 90)}:
         machines = starts(chance, width, taller, known)
         fault = fault_in(content, machines)
         if fault:
-            return f"yes, but on {taller} lines {fault_line(*fault)}"
+            return [f"taller screens: same, but on {taller} lines {fault_told(*fault)}"]
         if any(cells_of(machine, lines) != picture for machine in machines):
-            return f"yes, but another picture on {taller} lines"
-    return "yes"
+            return [f"taller screens: same, but another picture on {taller} lines"]
+    return ["taller screens: same"]
 
 
 def cells_of(machine, lines):
@@ -202,11 +225,10 @@ def cells_of(machine, lines):
     return ["".join(f"{byte:02x}{attribute:02x}" for byte, attribute in row) for row in machine.rows[:lines]]
 
 
-def mend_text(chance, content, width, lines, picture):
-    """What the program says of the mending; and what speaks against it."""
+def fix_line(chance, content, width, lines, picture):
+    """The line of the fix; and what speaks against the safe beginning that it adds."""
     mended = answer(MENDING + content, starts(chance, width, lines, []))
-    what = "begin with ESC[?7h ESC[0;37;40m ESC[2J ESC[H ESC[s"
-    return what if mended == picture else f"{what}, but then {mended}"
+    return "fix: anscheck mend" if mended == picture else f"fix: anscheck mend, but then {mended}"
 
 
 # Hints.
@@ -342,27 +364,30 @@ class Hints:
         if record.flags & 1:
             self.offsets["blinking"] = []
         said = [
-            f"hint: {what}, {times_text(self.offsets[key])}{advice.format(widest=self.widest)}"
-            for key, what, advice in COUNTED_HINTS if self.offsets[key]
+            "hint: " + counted_text(self.offsets[key], before, what, advice).format(widest=self.widest)
+            for key, before, what, advice in COUNTED_HINTS if self.offsets[key]
         ]
         name = record.font.partition(b"\0")[0].rstrip(b" ")
         if name and name not in FONTS_OF_437:
             characters = "".join(map(shown, name))
-            said.append(f"hint: the font {characters} is not one of code page 437, so other characters may show")
+            said.append(f"hint: the font {characters} is not a code page 437 font; some characters may look different")
         if all_is_played and self.empty > 0:
-            rows = "line" if self.empty == 1 else f"{self.empty} lines"
-            said.append(f"hint: nothing is printed in the last {rows}")
+            rows = "line is" if self.empty == 1 else f"{self.empty} lines are"
+            said.append(f"hint: the last {rows} empty")
         return said
 
 
-def times_text(offsets):
-    return f"once, at {offsets[0]}" if len(offsets) == 1 else f"{len(offsets)} times, first at {offsets[0]}"
+def counted_text(offsets, before, what, advice):
+    """How many there are, and where the first is."""
+    if len(offsets) == 1:
+        return f"{before}1 {what[0]}, at {offsets[0]}{advice[0]}"
+    return f"{before}{len(offsets)} {what[1]}, first at {offsets[0]}{advice[1]}"
 
 
 def enough_lines(content, width, least, record):
-    """The hints of all of the content on so many lines, and the line that tells how many."""
+    """The hints of all of the content on so many lines, and the line that says how many."""
     hints = Hints(content, len(content), width, least)
-    return hints.lines(record, True) + [f"lines: {least}" + (" as it is" if hints.torn else "")]
+    return hints.lines(record, True) + [f"lines: {least}" + BROKEN * hints.torn]
 
 
 # The record.
@@ -421,7 +446,7 @@ def missing_record(file):
     """F1, and where a record stands all the same."""
     place = last_record(file)
     behind = many(len(file) - place - 128, "byte")
-    return len(file), 1, f"a record at {place}, and {behind} behind it" if place >= 0 else None
+    return len(file), 1, f"a record at {place}, and {behind} after it" if place >= 0 else None
 
 
 def record_fault(file):
@@ -450,36 +475,37 @@ def record_fault(file):
 # The text.
 
 
-def reliance_lines(chance, content, width, lines, picture):
+def reliance_lines(chance, content, width, lines):
     """What is said of content that passes from the cleared start and not from every one."""
     machines = starts(chance, width, lines, [])
     low, high = machines[:2]
     fault = fault_in(content, machines)
     if fault:
-        said = [fault_line(*fault), "bytes: " + quoted(to_blame(content, fault[0]))]
-        said += ["low start: " + place_text(low), "high start: " + place_text(high)]
+        said = fault_told(*fault, blamed=to_blame(content, fault[0]))
+        shown_low, shown_high = place_text(low), place_text(high)
     else:
         cell = unknown_cell(machines)
-        said = [fault_line(len(content), 25, cell)]
-        said += ["low start: " + cell_text(low, *cell), "high start: " + cell_text(high, *cell)]
-    return said + ["mend: " + mend_text(chance, content, width, lines, picture)]
+        said = fault_told(len(content), 25, cell)
+        shown_low, shown_high = cell_text(low, *cell), cell_text(high, *cell)
+    return ["because: " + said, "from the top left: " + shown_low, "from the bottom right: " + shown_high]
 
 
 def pass_lines(chance, content, width, lines, needs, picture):
     known = [part for part in PARTS if part in needs.split()]
-    said = ["verdict: pass", needs]
-    said.append("taller: " + taller_text(chance, content, width, lines, known, picture))
-    return said + (reliance_lines(chance, content, width, lines, picture) if known else [])
+    said = ["verdict: pass on a cleared screen" if known else "verdict: pass", needs]
+    said += reliance_lines(chance, content, width, lines) if known else []
+    said += taller_lines(chance, content, width, lines, known, picture)
+    return said + ([fix_line(chance, content, width, lines, picture)] if known else [])
 
 
 def refusal_lines(chance, content, width, lines, record):
-    """The lines of a refusal. Where no number of lines is enough, the hints are those of a front."""
+    """The lines of a refusal. If no number of lines is enough, the hints are those of a front."""
     machine = cleared(width, lines)
     offset, number = fault_in(content, [machine])
     blamed, known = to_blame(content, offset), known_sequence(content, offset, number)
-    said = ["verdict: refused", fault_line(offset, number), "bytes: " + quoted(blamed)]
+    said = ["verdict: refused", "fault: " + fault_told(offset, number, blamed=blamed)]
     said += ["is: " + known] if known else []
-    said.append("cleared start: " + place_text(machine))
+    said.append("cursor: " + place_text(machine))
     least = least_lines(chance, content, width) if 19 <= number <= 21 else None
     if least:
         return said + enough_lines(content, width, least, record)
@@ -489,7 +515,7 @@ def refusal_lines(chance, content, width, lines, record):
 
 def record_lines(chance, file, offset, number, found):
     """The lines of a file whose record or layout is refused."""
-    said = ["verdict: refused", fault_line(offset, number)] + ([f"found: {found}"] if found else [])
+    said = ["verdict: refused", "fault: " + fault_told(offset, number)] + ([f"found: {found}"] if found else [])
     if number not in (5, 8):
         return said
     record = record_of(file)
@@ -733,20 +759,20 @@ def kinds_of(said):
     keys = [line.partition(": ")[0] for line in said]
     for key, line in zip(keys, said):
         rest = line[len(key) + 2:]
-        if key.startswith("at "):
-            number = rest.split()[0]
-            yield number + (" in a tab" if "bytes: <TAB>" in said else "")
+        if key in ("fault", "because"):
+            number = re.match(r"at \d+, (F\d+)", rest)[1]
+            yield number + (" in a tab" if rest.endswith(": <TAB>") else "")
             if number in ("F5", "F19", "F20", "F21") and "lines" not in keys:
                 yield "no lines for F5" if number == "F5" else "no lines"
         elif key == "lines":
-            yield "lines above 24" if int(rest.split()[0]) > TRIED_ONE_BY_ONE else "lines up to 24"
-            yield ("torn" if rest.endswith(" as it is") else "not torn") + (" of F5" if "size" not in keys else "")
+            yield "lines above 24" if int(re.match(r"\d+", rest)[0]) > TRIED_ONE_BY_ONE else "lines up to 24"
+            yield ("torn" if rest.endswith(BROKEN) else "not torn") + (" of F5" if "size" not in keys else "")
         elif key == "hint":
             others = "font" if rest.startswith("the font") else "empty lines"
-            yield "hint: " + next((name for name, what, _ in COUNTED_HINTS if rest.startswith(what)), others)
+            yield "hint: " + next((name for name, _, what, _ in COUNTED_HINTS if any(w in rest for w in what)), others)
         elif key == "found":
             yield "found: " + re.search("a record at|version|data type|comment|line|column|with.*", rest)[0]
-        elif key in ("verdict", "taller", "is", "note"):
+        elif key in ("verdict", "taller screens", "fix", "is", "note"):
             yield line
 
 

@@ -43,8 +43,8 @@ GROUPS = [
     Group("`check`, the whole command", """
         ans_model/Text/Characters ans_model/Text/Hexadecimal ans_model/Text/FaultText ans_model/Text/Words
         ans_model/Text/ReportText ans_report/Message ans_report/RecordReports ans_write/Tried ans_write/Writes
-        ans_options/CommandLine ans_check/CommandText ans_check/Run ans_check/Served ans_check/Ending
-        ans_check/Answer""".split()),
+        ans_options/CommandLine ans_check/CommandText ans_check/Run ans_check/Served ans_check/Naming
+        ans_check/Ending ans_check/Answer""".split()),
     Group("`needs`", """
         ans_model/Verdict/Needs ans_sauce/Split ans_sauce/Judged ans_verdict/StartParts ans_verdict/FileNeeds
         ans_model/Text/NeedsText""".split()),
@@ -59,10 +59,11 @@ GROUPS = [
         ans_model/Screen/Beginning ans_kinds/Mend ans_pens/Evidence ans_pens/Lines ans_pens/Taller ans_hints/Places
         ans_hints/Conditions ans_hints/Rows ans_pens/Counted ans_hints/RowEnds ans_hints/Hints ans_forms/Pieces
         ans_sauce/Found ans_sauce/WithoutLines ans_why/Blamed ans_why/Known ans_why/Explained ans_report/Counted
-        ans_report/Quoted ans_why/Fonts ans_why/HintsText ans_why/PlayersText ans_why/WhyText""".split()),
+        ans_report/Quoted ans_report/FaultTold ans_why/Fonts ans_why/HintRows ans_why/HintsText ans_why/PlayersText
+        ans_why/WhyText ans_check/WhyRows""".split()),
     Group("`table`", """
         ans_table/Findings ans_table/Labels ans_table/NameText ans_table/Columns ans_table/JsonRow ans_table/RowText
-        ans_table/Counting ans_check/Listing ans_check/Table""".split()),
+        ans_table/Counting ans_check/Listing ans_check/FileRows ans_check/Table""".split()),
     Group("`mend`", """
         ans_model/MendFlags ans_mend/Drafts ans_sauce/Fields ans_mend/Tail ans_mend/EndMark ans_sauce/Contents
         ans_mend/LineEnds ans_mend/NewRecord ans_forms/Unwanted ans_mend/TakingOut ans_hints/FullRowEnds
@@ -95,7 +96,7 @@ TEXTS = {
     "ans_write/Tried": "whether a device has failed",
     "ans_check/CommandText": "what each command writes of a file",
     "ans_sauce/Judged": "when what is said of a file is true",
-    "ans_options/Topics": "the words that ask about a fault or a note",
+    "ans_options/Topics": "the words that ask about a fault, a note or a word",
     "ans_players/Kinds": "the kinds in which players differ",
     "ans_players/Sync": "how sure it is where the players' cursors are",
     "ans_players/Situations": "where each kind arises",

@@ -25,6 +25,7 @@ It prints each row and whether it came out so. The status is 1 where one did not
 import collections
 import contextlib
 import os
+import re
 import resource
 import signal
 import subprocess
@@ -50,6 +51,7 @@ NOT_READ = b"anscheck: cannot read the file\n"
 NOT_WRITTEN = b"anscheck: cannot write the report\n"
 TOO_LONG = b"anscheck: file above 16777216 bytes\n"
 NO_MEMORY = b"anscheck: out of memory\n"
+MAY_PASS = b"anscheck: it may pass on a cleared screen: see anscheck why\n"
 
 # What comes of a run: its status, its texts, and its seconds of a processor and by the clock.
 Came = collections.namedtuple("Came", "status out err seconds clock")
@@ -104,7 +106,8 @@ def passes(text):
 
 
 def refuses(text):
-    return Wanted(1, text, b"")
+    """A refusal of `check`. If the fault depends on the start, standard error names `why`."""
+    return Wanted(1, text, MAY_PASS if re.search(rb"^at \d+: F2[2-5] ", text, re.MULTILINE) else b"")
 
 
 def stops(text):
@@ -218,7 +221,7 @@ def try_playing_files(tally, program, room):
         tally.row(f"{name}, needs", came_of([program, "needs", path]), wanted, NEEDS_SECONDS)
 
 
-MEND_ALL = "mend --take-out --line-ends --full-rows --name-colours --least-lines"
+MEND_ALL = "mend --take-out --crlf --join-rows --name-colours --least-lines"
 # How the text of each other command begins where it passes; and the status where the content does not pass.
 OTHERS = {
     "why": (b"size: ", 1), "table --no-header": (b"pass\t", 1), "show": (b"\x1b[0;", 1), "show --vga": (b"\x1b[0;", 1),
@@ -314,7 +317,8 @@ def try_closed_output(tally, program, room):
         head.stdin.close()
         came = came._replace(out=head.stdout.read())
         head.wait()
-        tally.row(f"{' '.join(words)} | head -c 10", came, Wanted(2, begin, NOT_WRITTEN))
+        said = NOT_WRITTEN if words[0] == "check" else b""  # the others end quietly
+        tally.row(f"{' '.join(words)} | head -c 10", came, Wanted(2, begin, said))
     with open("/dev/full", "wb") as full:
         came = came_of([program, "check", "--cells", path], stdout=full)
     tally.row("check --cells of the largest screen > /dev/full", came, stops(NOT_WRITTEN))
@@ -338,6 +342,8 @@ def try_odd_files(tally, program, room):
     """A folder, a pipe and `/dev/null` as FILE, and a folder and pipes as standard input."""
     check = [program, "check", "--cleared"]
     tally.row("a folder", came_of([*check, room]), stops(NOT_READ))
+    said = b"anscheck: %s: is a folder\n" % os.fsencode(room)
+    tally.row("a folder of why", came_of([program, room]), stops(said))
     folder = os.open(room, os.O_RDONLY)
     tally.row("a folder on standard input", came_of(check, folder), stops(NOT_READ))
     os.close(folder)

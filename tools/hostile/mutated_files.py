@@ -59,12 +59,14 @@ LONG_COMMANDS = ("why", "table", "mend", "redraw")
 LONGEST = 131_072
 LONG_TEXT = 1_048_576
 RUNS_OF_A_CASE, CASES_OF_A_BATCH = 4, 250
-MEND_FLAGS = ("--take-out", "--line-ends", "--full-rows", "--name-colours", "--least-lines")
+MEND_FLAGS = ("--take-out", "--crlf", "--join-rows", "--name-colours", "--least-lines")
 TEXTS = {
     1: "no SAUCE record", 2: "SAUCE version is not 00", 3: "not Character/ANSi",
     4: "comment block missing", 5: "number of lines not stated", 6: "width above 1024",
     7: "lines above 8192", 8: "bytes after the end mark", **FAULTS,
 }
+MAY_PASS = b"anscheck: it may pass on a cleared screen: see anscheck why\n"
+SAID_FAULT = re.compile(rb"fault: at (\d+), F(\d+) ")
 FAULT_LINE = re.compile(rb"at (\d+): F(\d+) ([^(\n]*?)( \(row \d+, column \d+\))?\n")
 OF_A_SEQUENCE = range(9, 15)
 
@@ -358,7 +360,7 @@ def said_fault(answer):
     if answer.words[0] == "table":
         fields = answer.out.split(b"\t")
         return (int(fields[6]), int(fields[5][1:])) if fields[0] == b"refused" else None
-    found = FAULT_LINE.search(answer.out, answer.out.find(b"verdict: refused\n"))
+    found = SAID_FAULT.search(answer.out, answer.out.find(b"verdict: refused\n"))
     return (int(found[1]), int(found[2])) if found else None
 
 
@@ -366,10 +368,13 @@ def has_long_form(answer):
     """The same for the commands that say more, or write a file."""
     command, out, passed = answer.words[0], answer.out, answer.status == 0
     if command == "why":
-        return (b"verdict: pass\nneeds: " if passed else b"verdict: refused\nat ") in out
+        passes = b"verdict: pass\nneeds: nothing\n" in out or b"verdict: pass on a cleared screen\nneeds: " in out
+        return passes if passed else b"verdict: refused\nfault: at " in out
     if command == "table":
-        return out.startswith(b"pass\t" if passed else b"refused\t") and out.count(b"\t") == 21
-    return bool(out) == passed and (passed or b"F" in answer.err or b"long" in answer.err or b"help" in answer.err)
+        begins = (b"pass\t", b"cleared\t") if passed else b"refused\t"
+        return out.startswith(begins) and out.count(b"\t") == 21
+    reasons = (b"F", b"long", b"the rows look broken", b"no number of lines")
+    return bool(out) == passed and (passed or any(reason in answer.err for reason in reasons))
 
 
 def has_form(answer):
@@ -394,13 +399,19 @@ def has_form(answer):
     return not out or fault_of(answer) is None
 
 
+def said_after(answer):
+    """What is said on standard error: after a check that is refused for a fault of the start, that `why` says more."""
+    fault = fault_of(answer) if answer.words[0] == "check" else None
+    return MAY_PASS if fault and fault[1] >= 22 else b""
+
+
 def wrong_by_itself(answer, length):
     """What is wrong with one run, or nothing."""
     if answer.status not in (0, 1):
         yield f"status {answer.status}" if answer.status >= 0 else f"signal {-answer.status}"
         return
     long = answer.words[0] in LONG_COMMANDS
-    if answer.err and (not long or answer.words[0] == "why"):
+    if (not long or answer.words[0] == "why") and answer.err != said_after(answer):
         yield f"on standard error: {answer.err[:80]}"
     if answer.seconds > (LONG_SECONDS if long else SECONDS):
         yield f"{answer.seconds:.2f} seconds"
@@ -508,7 +519,7 @@ def compare_commands(chance, room):
 def compare_what_is_made(chance, room):
     """What is said of a file and made of it, and the check of that."""
     flags = [flag for flag in MEND_FLAGS if chance.random() < 0.4]
-    flags += ["--width", "80"] * (chance.random() < 0.3)
+    flags += ["--add-record", "80"] * (chance.random() < 0.3)
     makes = chance.choice([["redraw"], ["mend", *flags], ["mend", *flags]])
     cleared, why, row, made = (
         room.run(words, "file") for words in (["check", "--cleared"], ["why"], ["table", "--no-header"], makes)

@@ -22,7 +22,9 @@ What has to come of a run of the program in which one call is refused:
 
 - An allocation, and all from one on: status 2, nothing on standard output, `out of memory` or `cannot read
   the command line`. Where the words are rejected anyway, the text that rejects them will do.
-- An open, a read: status 2, nothing on standard output, and the line that says so.
+- An open, a read: status 2, nothing on standard output, and the line that says so, with the file's name but for
+  `check`, `sauce` and `tokens`. Of several files of `why` the file's answer says so, and the others are as without it.
+- An allocation for the command that a misspelt word may have been meant as: no command is named.
 - A write of standard output: status 2, `cannot write the report`, and a prefix of the text; the whole text
   is one, since what a buffer holds is offered once more as it is dropped. A write of standard error: the
   status and the standard output that come without it.
@@ -65,8 +67,6 @@ AT_ONCE, WORKERS, SECONDS = 16, 4, 120
 
 OUT_OF_MEMORY = b"anscheck: out of memory\n"
 MEMORY = [OUT_OF_MEMORY, b"anscheck: cannot read the command line\n"]
-NOT_OPENED = b"anscheck: cannot open the file\n"
-NOT_READ = b"anscheck: cannot read the file\n"
 NAMES_NOT_READ = b"anscheck: cannot read the names\n"
 NOT_WRITTEN = b"anscheck: cannot write the report\n"
 REJECTED = b"error: "
@@ -103,7 +103,7 @@ COMMANDS = [
     ["check"], ["check", "--cleared"], ["check", "--cleared", "--cells"],
     ["check", "--known-cursor", "--known-colours"], ["show"], ["show", "--html", "--any"], ["why"], ["needs"],
     ["sauce"], ["tokens"], ["table"], ["table", "--json"], ["mend"], ["redraw"],
-    ["mend", "--take-out", "--line-ends", "--full-rows", "--name-colours", "--least-lines", "--width", "80"],
+    ["mend", "--take-out", "--crlf", "--join-rows", "--name-colours", "--least-lines", "--add-record", "80"],
 ]
 # Rows of files near the limit, and of 10,000 files, take an hour.
 TOO_LONG = ("largest.toml", "long_tables.toml")
@@ -156,15 +156,16 @@ def rows_of(table):
 def counts_of(rows):
     """What standard error says of these rows."""
     verdicts = collections.Counter(row.verdict for row in rows)
-    passed, refused, unread = (verdicts[verdict] for verdict in ("pass", "refused", "error"))
-    files = passed + refused + unread
+    passed, cleared, refused, unread = (verdicts[verdict] for verdict in ("pass", "cleared", "refused", "error"))
+    files = passed + cleared + refused + unread
     plural = "" if files == 1 else "s"
-    return f"anscheck: {files} file{plural}: {passed} pass, {refused} refused, {unread} not read\n".encode()
+    passes = f"{passed} pass, {cleared} pass on a cleared screen"
+    return f"anscheck: {files} file{plural}: {passes}, {refused} refused, {unread} not read\n".encode()
 
 
 def is_played(row):
     """Whether the content of a row's file is played, for which memory is asked: it passes, or has none of F1 to F8."""
-    return row.verdict == "pass" or row.fault.startswith("F") and int(row.fault[1:]) > 8
+    return row.verdict in ("pass", "cleared") or row.fault.startswith("F") and int(row.fault[1:]) > 8
 
 
 def is_told_in_rows(kind, whole, ran):
@@ -201,18 +202,47 @@ def is_table_as_it_must(kind, whole, ran):
     return ends or is_told_in_rows(kind, whole, ran)
 
 
-def comes_as_it_must(kind, is_table, whole, ran):
+def answers_of(out):
+    """The answers of `why` of several files, each after the line of its name."""
+    return out.removeprefix(b"file: ").split(b"\nfile: ") if out.startswith(b"file: ") else []
+
+
+def is_said_of_files(kind, whole, ran):
+    """Whether `why` of several files is as without the refused call but for files that say what was refused."""
+    answers, whole_answers = answers_of(ran.out), answers_of(whole.out)
+    changed = [(answer, other) for answer, other in zip(answers, whole_answers) if answer.rstrip() != other.rstrip()]
+    error = b"\nerror: " + IN_ROWS[kind].encode()
+    unread = sum(b"\nerror: " in answer for answer in answers)
+    return (ran.status == 2 and len(answers) == len(whole_answers)
+            and all(answer.rstrip() == other.partition(b"\n")[0].rstrip() + error for answer, other in changed)
+            and ran.err == b"anscheck: %d of %d files not read\n" % (unread, len(answers)))
+
+
+def is_said_of_a_file(kind, words, ran):
+    """Whether standard error says that the file was not opened or not read: after its name, except of standard input
+    and of `check`, `sauce` and `tokens`."""
+    reason = IN_ROWS[kind].encode()
+    fronts = [b""] if words[0] in ("check", "sauce", "tokens") else [
+        b"", *(word.encode() + b": " for word in words if word != "-")]
+    return ran.err in [b"anscheck: " + front + reason + b"\n" for front in fronts]
+
+
+def comes_as_it_must(kind, words, whole, ran):
     """Whether a run with a refused call is as the text above says, beside the run without one."""
+    is_table = words[:1] == ["table"]
     silent = ran.status == 2 and ran.out == b""
+    if kind in IN_ROWS and answers_of(whole.out) and is_said_of_files(kind, whole, ran):
+        return True
+    if kind in ("alloc", "alloc-from") and b"; did you mean " in whole.err:
+        return silent and (ran.err in MEMORY or ran.err == whole.err.partition(b"; did you mean ")[0] + b"\n"
+                           or ran.err == whole.err)
     if kind in ("alloc", "alloc-from"):
         is_rejected = whole.err.startswith(REJECTED) and ran[:3] == whole[:3]
         return is_rejected or silent and ran.err in MEMORY or is_table and is_table_as_it_must(kind, whole, ran)
     if kind in ("open", "read") and is_table:
         return is_table_as_it_must(kind, whole, ran)
-    if kind == "open":
-        return silent and ran.err == NOT_OPENED
-    if kind == "read":
-        return silent and ran.err == NOT_READ
+    if kind in ("open", "read"):
+        return silent and is_said_of_a_file(kind, words, ran)
     if kind == "write" and ran.refused == 1:
         return ran.status == 2 and whole.out.startswith(ran.out) and ran.err == NOT_WRITTEN
     if kind == "write":
@@ -260,7 +290,7 @@ def try_run(pool, words, stdin, library, refusals):
     for kind in KINDS:
         for n, ran in each_refusal(pool, words, stdin, library, kind):
             refusals[kind] += 1
-            if not comes_as_it_must(kind, words[1:2] == ["table"], whole, ran):
+            if not comes_as_it_must(kind, words[1:], whole, ran):
                 wrong += 1
                 print(f"{kind} {n} of {words[1:]} < {stdin}: {ran.status} {ran.out[-60:]} {ran.err[:80]}")
     return wrong

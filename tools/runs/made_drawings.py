@@ -17,12 +17,14 @@ gate.
 from dataclasses import dataclass
 import glob
 import os
+import re
 import struct
 import subprocess
 import sys
 
 EXAMPLES = "/usr/share/doc/ansilove/examples/*/*.ans"
-COMPARED = ("at", "found", "is", "note", "hint", "lines")
+COMPARED = ("because", "fault", "found", "is", "note", "hint", "lines")
+FAULT = re.compile(r"fault: at \d+, F\d+ [^:]*")
 # Wrap, colours and screen are set, by 13 bytes. So what follows stands at offset 13.
 SAFE = b"\x1b[?7h\x1b[0m\x1b[2J"
 CRLF = b"\r\n"
@@ -99,124 +101,143 @@ def table_of(*headings):
 # What is said.
 
 
-def times(what, count, first, advice=""):
-    counted = f"once, at {first}" if count == 1 else f"{count} times, first at {first}"
-    return f"hint: {what}, {counted}{advice}"
+def counted(one, more, count, first, advice="", before=""):
+    what, where = (one, "at") if count == 1 else (more, "first at")
+    return f"hint: {before}{count} {what}, {where} {first}{advice}"
 
 
 def loose(count, first):
-    return times("a line feed with no return beside it goes straight down", count, first)
+    return counted("bare line feed makes a staircase", "bare line feeds make a staircase", count, first, ": --crlf")
 
 
 def full(count, first):
-    return times("a full row and a line end take two rows", count, first)
+    return counted(
+        "full row is followed by a line end and leaves a blank row",
+        "full rows are followed by a line end and leave a blank row", count, first, ": --join-rows")
 
 
 def wider(count, first, columns):
-    return times("a row runs over the edge and then ends", count, first, f": the widest has {columns} columns")
+    return counted(
+        "row is wider than the screen", "rows are wider than the screen", count, first,
+        f"; the widest has {columns} columns")
 
 
 def printed_over(count, first):
-    return times("with wrap off a character is printed over another in the last column", count, first)
+    return counted(
+        "character overprints the last column", "characters overprint the last column", count, first,
+        before="wrap is off, and ")
 
 
-def foreign(what, count, first):
-    return times(what, count, first, ": convert the text to code page 437")
+def foreign(one, more, code, count, first):
+    return counted(
+        f"{one} looks like {code}", f"{more} look like {code}", count, first, ": convert the text to code page 437")
 
 
 def board(count, first):
-    return times("a colour code of a bulletin board (|07, @X1F) is printed as text", count, first)
+    what = "(|07, @X1F)"
+    return counted(
+        f"bulletin-board colour code {what} is printed as text", f"bulletin-board colour codes {what} are printed as text",
+        count, first)
 
 
 def later(count, first):
-    return times("a sequence has a colour of later terminals (38, 48, 90 to 97 or 100 to 107)", count, first)
+    what = "modern colours (38, 48, 90 to 97, 100 to 107)"
+    return counted(f"sequence uses {what}", f"sequences use {what}", count, first)
 
 
 def blinks(count, first):
-    return times("a character blinks", count, first, ": for bright backgrounds set the non-blink flag")
+    return counted(
+        "character blinks", "characters blink", count, first,
+        "; if they should have bright backgrounds, set the non-blink flag")
 
 
 def dark(count, first):
-    return times("a character is dark grey on black", count, first, ": some terminals show it as black")
+    return counted(
+        "character is dark grey on black", "characters are dark grey on black", count, first,
+        "; some terminals show them as black")
+
+
+def fault(offset, title):
+    return f"fault: at {offset}, {title}"
 
 
 def below(offset):
-    return f"at {offset}: F20 print below the stated lines"
+    return fault(offset, "F20 print below the stated lines")
 
 
 def mode(known):
-    return "at 13: F16 screen mode set", "is: " + known
+    return fault(13, "F16 screen mode set"), "is: " + known
 
 
-EMPTY_LAST = "hint: nothing is printed in the last line"
+EMPTY_LAST = "hint: the last line is empty"
 
 # A row of 61 columns never ends at the edge, and each takes a row for its line feed; the rows wrap 15 times. The 20
 # full rows take 40. Of 130 columns each takes two rows, and of 234 bytes of UTF-8 three. Rows without any line end look
 # like the rows of every other width.
 MISTAKES = [
-    Drawing("line feeds alone", SAFE + rows(61, b"\n"), (below(744), loose(20, 74), "lines: 35 as it is")),
-    Drawing("full rows with CR LF", FULL, (below(833), full(20, 93), EMPTY_LAST, "lines: 40 as it is")),
+    Drawing("line feeds alone", SAFE + rows(61, b"\n"), (below(744), loose(20, 74), "lines: 35, but the rows look broken")),
+    Drawing("full rows with CR LF", FULL, (below(833), full(20, 93), EMPTY_LAST, "lines: 40, but the rows look broken")),
     Drawing("full rows with a colour before CR LF", SAFE + rows(80, b"\x1b[0m\r\n"),
-            (below(873), full(20, 97), EMPTY_LAST, "lines: 40 as it is")),
+            (below(873), full(20, 97), EMPTY_LAST, "lines: 40, but the rows look broken")),
     Drawing("full rows with a colour between CR and LF", SAFE + rows(80, b"\r\x1b[0m\n"),
-            (below(873), full(20, 93), EMPTY_LAST, "lines: 40 as it is")),
+            (below(873), full(20, 93), EMPTY_LAST, "lines: 40, but the rows look broken")),
     Drawing("full rows with an erased line before CR LF", SAFE + rows(80, b"\x1b[K\r\n"),
-            (below(863), full(20, 96), EMPTY_LAST, "lines: 40 as it is")),
+            (below(863), full(20, 96), EMPTY_LAST, "lines: 40, but the rows look broken")),
     Drawing("full rows with LF", SAFE + rows(80, b"\n"),
-            (below(823), full(20, 93), EMPTY_LAST, "lines: 40 as it is")),
-    Drawing("130 columns, and 80 stated", SAFE + rows(130), (below(1333), wider(20, 143, 130), "lines: 40 as it is")),
+            (below(823), full(20, 93), EMPTY_LAST, "lines: 40, but the rows look broken")),
+    Drawing("130 columns, and 80 stated", SAFE + rows(130), (below(1333), wider(20, 143, 130), "lines: 40, but the rows look broken")),
     Drawing("130 columns, 80 stated, some rows short", SAFE + rows([130, 130, 70]),
-            (below(1357), wider(14, 143, 130), "lines: 34 as it is")),
+            (below(1357), wider(14, 143, 130), "lines: 34, but the rows look broken")),
     Drawing("132 columns without line ends, and 80 stated", SAFE + rows(132, b""), (below(1613), "lines: 33")),
     Drawing("UTF-8", SAFE + texts(BOXES, "utf-8"),
-            (below(1589), foreign("a character is in UTF-8", 1560, 13), "lines: 60 as it is")),
-    Drawing("letters in UTF-8", SAFE + texts(WORDS, "utf-8"), (foreign("a letter is in UTF-8", 120, 17),)),
-    Drawing("letters in Latin-1", SAFE + texts(WORDS, "latin-1"), (foreign("a letter is in Latin-1", 100, 17),)),
+            (below(1589), foreign("character", "characters", "UTF-8", 1560, 13), "lines: 60, but the rows look broken")),
+    Drawing("letters in UTF-8", SAFE + texts(WORDS, "utf-8"), (foreign("letter", "letters", "UTF-8", 120, 17),)),
+    Drawing("letters in Latin-1", SAFE + texts(WORDS, "latin-1"), (foreign("letter", "letters", "Latin-1", 100, 17),)),
     Drawing("wrap off, and no line ends", SAFE + b"\x1b[?7l" + rows(80, b""),
-            (printed_over(1520, 98), "hint: nothing is printed in the last 19 lines")),
+            (printed_over(1520, 98), "hint: the last 19 lines are empty")),
     Drawing("pipe codes", SAFE + texts("|15Welcome |07to the |11board|07."), (board(60, 13),)),
     Drawing("@X codes", SAFE + texts("@X1FWelcome @X07to the board"), (board(40, 13),)),
     Drawing("music", SAFE + b"\x1b[MFT120O3L8CDEFG\x0e" + rows(60),
-            ("at 13: F13 unknown sequence", "is: ANSI music")),
+            (fault(13, "F13 unknown sequence"), "is: ANSI music")),
     Drawing("music by ESC[|", SAFE + b"\x1b[|T120O3L8CDEFG\x0e" + rows(60),
-            ("at 13: F9 broken sequence", "is: ANSI music")),
+            (fault(13, "F9 broken sequence"), "is: ANSI music")),
     Drawing("a font selection", SAFE + b"\x1b[0;40 D" + rows(60),
-            ("at 13: F9 broken sequence", "is: a font selection")),
+            (fault(13, "F9 broken sequence"), "is: a font selection")),
     Drawing("a colour of 24 bits", SAFE + rows(60, b"\x1b[1;255;170;0t\r\n"),
-            ("at 73: F13 unknown sequence", "is: a 24-bit colour")),
+            (fault(73, "F13 unknown sequence"), "is: a 24-bit colour")),
     Drawing("bright backgrounds switched on", SAFE + b"\x1b[?33h" + rows(60),
             mode("the switch for bright backgrounds")),
     Drawing("the cursor hidden", SAFE + b"\x1b[?25l" + rows(60), mode("the switch that hides or shows the cursor")),
     Drawing("a mode of DOS", SAFE + b"\x1b[=3h" + rows(60), mode("a screen mode of DOS")),
-    Drawing("a key", SAFE + b'\x1b[13;"dir";13p' + rows(60), ("at 13: F15 key reassigned", "is: a reassigned key")),
+    Drawing("a key", SAFE + b'\x1b[13;"dir";13p' + rows(60), (fault(13, "F15 key reassigned"), "is: a reassigned key")),
     Drawing("comments that are not counted", SHORT, (
-        "at 1254: F8 bytes after the end mark", "found: 133 bytes after the end mark, without a record",
+        fault(1254, "F8 bytes after the end mark"), "found: 133 bytes after the end mark, without a record",
         "is: comments that the record does not count",
     ), behind=b"\x1a" + COMMENTS),
     Drawing("an arrow", SHORT[:663] + b"\x1a" + SHORT[664:], (
-        "at 664: F8 bytes after the end mark", "found: 590 bytes after the end mark, without a record",
+        fault(664, "F8 bytes after the end mark"), "found: 590 bytes after the end mark, without a record",
         "is: an arrow in the drawing",
     )),
     Drawing("an older record", SHORT, (
-        "at 1254: F8 bytes after the end mark", "found: 129 bytes after the end mark, with an older record",
+        fault(1254, "F8 bytes after the end mark"), "found: 129 bytes after the end mark, with an older record",
         "is: an older record",
     ), behind=b"\x1a" + record(80, 20, 1253) + b"\x1a"),
-    Drawing("no lines stated", SHORT, ("at 1352: F5 number of lines not stated", "found: 0 lines stated", "lines: 20"),
+    Drawing("no lines stated", SHORT, (fault(1352, "F5 number of lines not stated"), "found: 0 lines stated", "lines: 20"),
             lines=0),
     Drawing("no lines stated, and a full row with CR LF", SAFE + rows([60] * 19 + [80]), (
-        "at 1372: F5 number of lines not stated", "found: 0 lines stated", full(1, 1271), EMPTY_LAST, "lines: 21",
+        fault(1372, "F5 number of lines not stated"), "found: 0 lines stated", full(1, 1271), EMPTY_LAST, "lines: 21",
     ), lines=0),
     Drawing("no lines stated, and full rows with CR LF", FULL, (
-        "at 1752: F5 number of lines not stated", "found: 0 lines stated", full(20, 93), EMPTY_LAST,
-        "lines: 40 as it is",
+        fault(1752, "F5 number of lines not stated"), "found: 0 lines stated", full(20, 93), EMPTY_LAST,
+        "lines: 40, but the rows look broken",
     ), lines=0),
     Drawing("too few lines", SHORT, (below(943), "lines: 20"), lines=15),
-    Drawing("too many lines", SHORT, ("hint: nothing is printed in the last 5 lines",), lines=25),
-    Drawing("an empty line too much", SHORT + CRLF, ("at 1254: F21 scrolls", EMPTY_LAST, "lines: 21")),
+    Drawing("too many lines", SHORT, ("hint: the last 5 lines are empty",), lines=25),
+    Drawing("an empty line too much", SHORT + CRLF, (fault(1254, "F21 scrolls"), EMPTY_LAST, "lines: 21")),
     Drawing("another file size", SHORT, ("note: file size differs from the content",), size_off=128),
     Drawing("no end mark", SHORT, ("note: no end mark after the content",), behind=b""),
     Drawing("another font", SHORT, (
-        "hint: the font Amiga Topaz 1 is not one of code page 437, so other characters may show",
+        "hint: the font Amiga Topaz 1 is not a code page 437 font; some characters may look different",
     ), font=b"Amiga Topaz 1"),
     Drawing("bright backgrounds without their flag", SAFE + b"\x1b[5;44m" + rows(60), (blinks(1200, 20),)),
     Drawing("a bright colour of later terminals", SAFE + b"\x1b[91m" + rows(60), (later(1, 13),)),
@@ -268,24 +289,24 @@ SPOKEN_OF = [
     Drawing("a table with headings of one length under its rules", SAFE + table_of(*["  Name     Size     Date"] * 10),
             (wider(10, 117, 104),)),
     Drawing("a blank row by the line end of a full one", SAFE + rows([60] * 17 + [80, 60], count=19), (full(1, 1147),)),
-    Drawing("titles edge to edge", SAFE + texts("┤Size├┤Date├"), (foreign("a letter is in UTF-8", 20, 18),)),
-    Drawing("a sign between letters", SAFE + texts("  x≤y"), (foreign("a letter is in Latin-1", 20, 16),)),
+    Drawing("titles edge to edge", SAFE + texts("┤Size├┤Date├"), (foreign("letter", "letters", "UTF-8", 20, 18),)),
+    Drawing("a sign between letters", SAFE + texts("  x≤y"), (foreign("letter", "letters", "Latin-1", 20, 16),)),
     Drawing("a calendar without blanks", SAFE + texts("|01Mo|02Tu|03We"), (board(60, 13),)),
 ]
 
 
 def said_of(program, file):
-    """The lines of `why` that are compared. Where a kind of players first matters is told as a fault's place is."""
+    """The lines of `why` that are compared, without the bytes of a fault."""
     done = subprocess.run([program, "why"], input=file, stdout=subprocess.PIPE)
     lines = [line for line in done.stdout.decode().splitlines() if line.partition(" ")[0].rstrip(":") in COMPARED]
-    return [line for line in lines if not line.startswith("at ") or ": F" in line]
+    return [found[0] if (found := FAULT.match(line)) else line for line in lines]
 
 
 def with_record(program, file):
     """A file without a record, with one of 80 columns and of the least lines that are enough."""
     content = file.partition(b"\x1a")[0]
     said = said_of(program, content + b"\x1a" + record(80, 0, len(content)))
-    lines = [int(line.split()[1]) for line in said if line.startswith("lines: ")]
+    lines = [int(line.split()[1].rstrip(",")) for line in said if line.startswith("lines: ")]
     return content + b"\x1a" + record(80, lines[0], len(content)) if lines else file
 
 

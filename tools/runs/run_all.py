@@ -5,7 +5,7 @@ Run it in `crates/anscheck`, after `rt run -- check --cleared data/hi.ans` has b
 
     python3 ../../tools/runs/run_all.py out/anscheck
 
-First it tries the rows of `rows.py`, which the gate tries over files in memory: that the program prints to the right
+PROGRAM is named `anscheck`, as its help says. First it tries the rows of `rows.py`, which the gate tries over files in memory: that the program prints to the right
 stream, opens the file that the words name, and returns the status that its functions choose, no contract reaches. A
 file whose reading fails after some bytes cannot be had here, so its rows are left out. Then it tries what only a system
 has: a folder as FILE, a full device, an output that is closed, and a word that is not text. It is outside the gate.
@@ -29,7 +29,10 @@ ON_A_FULL_DEVICE = [
     ["why", HI], ["needs", HI], ["table", HI], ["mend", HI], ["redraw", HI], ["--help"], ["help", "F17"],
 ]
 # Words that name a folder.
-OF_A_FOLDER = [[command, "data"] for command in ("check", "needs", "show", "sauce", "tokens", "why", "mend", "redraw")]
+OF_A_FOLDER = [[command, "data"] for command in ("check", "sauce", "tokens")]
+# Words that name one, and of which the name and the reason are said.
+OF_A_NAMED_FOLDER = [["data"], ["data", "data/none.ans"], ["show", "--any", "data"]] + [
+    [command, "data"] for command in ("why", "needs", "show", "mend", "redraw")]
 
 
 def in_a_folder_with(files, run):
@@ -93,14 +96,20 @@ def try_system(program):
         with open("/dev/full", "wb") as full:
             tried.append((words, (2, b"", UNWRITTEN), came_of(program, words, input=b"", stdout=full)))
     with open("/dev/full", "wb") as full:
-        refused = b"at 0: F1 no SAUCE record\nhelp: --width N gives a drawing without a record one for N columns\n"
+        refused = b"at 0: F1 no SAUCE record\ntry: --add-record N, which adds a record for N columns\n"
         tried.append((["mend"], (1, b"", refused), came_of(program, ["mend"], input=b"", stdout=full)))
     for words in OF_A_FOLDER:
         tried.append((words, (2, b"", UNREAD), came_of(program, words, input=hi)))
+    for words in OF_A_NAMED_FOLDER:
+        tried.append((words, (2, b"", b"anscheck: data: is a folder\n"), came_of(program, words, input=hi)))
+    words = ["why", "data", "data/none.ans"]
+    answers = b"file: data\nerror: cannot open the file\nfile: data/none.ans\nerror: cannot open the file\n"
+    said = b"anscheck: 2 of 2 files not read\n"
+    tried.append((words, (2, answers, said), came_of(program, words, input=b"")))
     words = ["table", "--no-header", "data", "data/none.ans"]
-    rows = b"".join(b"error\t\t\t\t\t" + why + b"\t" * 16 + name + b"\n" for why, name in (
-        (b"cannot read the file", b"data"), (b"cannot open the file", b"data/none.ans")))
-    said = b"anscheck: 2 files: 0 pass, 0 refused, 2 not read\n"
+    rows = b"".join(
+        b"error\t\t\t\t\tcannot open the file" + b"\t" * 16 + name + b"\n" for name in (b"data", b"data/none.ans"))
+    said = b"anscheck: 2 files: 0 pass, 0 pass on a cleared screen, 0 refused, 2 not read\n"
     tried.append((words, (2, rows, said), came_of(program, words, input=b"")))
     closed = came_of(program, ["check", "--cleared"], input=hi, stdout=None, preexec_fn=lambda: os.close(1))
     tried.append((["an output that is closed"], (2, b"", UNWRITTEN), closed))

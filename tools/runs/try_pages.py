@@ -5,12 +5,10 @@ Run it in `crates/anscheck`, after `rt run -- check --cleared data/hi.ans` has b
 
     python3 ../../tools/runs/try_pages.py out/anscheck
 
-- Each example of docs/FAULTS.md, a block of the language `ans`, is made into a file, and the program
-  has to print of it what the block says. The record is made here, from SAUCE 00.5.
-- The page has one heading for each fault and each note of ans_model, and none more; it opens with
-  the text that the examples below it print; and its table of contents leads to it.
-- What the page quotes below each heading is what `anscheck help` prints of that fault or note.
-- The examples of the page are the rows of `fault_page.toml` of anscheck_rows, which the gate tries.
+- docs/FAULTS.md is what `meanings.py` makes. It has one heading for each fault and each note of ans_model, and
+  none more, with an example that prints its title; and its table of contents leads to it. Its examples are rows of
+  `fault_page.toml` of anscheck_rows, which the gate tries.
+- `anscheck help` prints of each fault and each note the text that the page has.
 - The program sets each of the 256 colour numbers as the table of docs/PROFILE.md says.
 - The worked example of docs/CHANGING.md names each file that `git grep -lw EraseLine` finds.
 - docs/MANUAL.md is what tools/manual.py makes of the manual page, if `mandoc` is there.
@@ -30,8 +28,8 @@ import tempfile
 
 sys.dont_write_bytecode = True
 
-from meanings import quoted, quotes_of
-from rows import file_bytes, input_of, tables, words_of
+import meanings
+from rows import file_of
 
 TOP = pathlib.Path(__file__).resolve().parent.parent.parent
 HERE = TOP / "crates" / "anscheck"
@@ -42,61 +40,6 @@ MODEL = TOP / "crates" / "ans_model" / "src"
 DRAWINGS = "/usr/share/doc/ansilove/examples"
 
 BLOCK = re.compile(r"^```(\w*)\n(.*?)^```$", re.DOTALL | re.MULTILINE)
-NAMED = {"ESC": b"\x1b", "<CR>": b"\r", "<LF>": b"\n", "<TAB>": b"\t"}
-
-
-# Files, as the page writes them.
-
-
-def record_of(fields, content_length):
-    """The 128 bytes of a record: SAUCE 00.5, Character/ANSi, without texts, comments and a font."""
-
-    def number(name, size, otherwise=0):
-        return int(fields.get(name, otherwise)).to_bytes(size, "little")
-
-    return b"".join((
-        b"SAUCE", fields.get("version", "00").encode(), b" " * (35 + 20 + 20),
-        fields.get("date", "19960101").ljust(8).encode(),
-        number("file size", 4, content_length), number("data type", 1, 1), number("file type", 1, 1),
-        number("width", 2), number("lines", 2), bytes(4), number("comments", 1),
-        bytes.fromhex(fields.get("flags", "00")), bytes(22),
-    ))
-
-
-def bytes_of(text, record):
-    """The bytes of a content or a file, as the page writes them."""
-    names = {**NAMED, "<RECORD>": record}
-    parts = re.split(r"(ESC|<[0-9A-Z]+>)", text)
-    return b"".join(
-        names[part] if part in names
-        else bytes.fromhex(part[1:3]) if re.fullmatch("<[0-9A-F]{2}>", part)
-        else part.encode("ascii")
-        for part in parts
-    )
-
-
-def file_of(values):
-    """The file of an example."""
-    fields = dict(field.rsplit(" ", 1) for field in values.get("record", "").split(", ") if field)
-    if "content" in values:
-        content = bytes_of(values["content"], b"")
-        return content + b"\x1a" + record_of(fields, len(content))
-    content = bytes_of(values["file"].split("<RECORD>")[0], b"").split(b"\x1a")[0]
-    return bytes_of(values["file"], record_of(fields, len(content)))
-
-
-class Example:
-    """A block of the language `ans`: its file, the command, and what is to be printed."""
-
-    def __init__(self, heading, block):
-        head, self.text = block.split("---\n", 1)
-        lines = (re.fullmatch(r"(\w+):(?: (.*))?", line).groups(default="") for line in head.splitlines())
-        values = dict(lines)
-        self.heading, self.command, self.file = heading, values["command"], file_of(values)
-        self.shown = values.get("content", values.get("file"))
-
-    def key(self):
-        return self.command, self.file, self.text
 
 
 # What is compared.
@@ -131,31 +74,9 @@ def sections(text):
     return list(zip(parts[1::2], parts[2::2]))
 
 
-def examples_of(text):
-    """The examples of the page, in their order."""
-    return [
-        Example(heading.split()[0], block)
-        for heading, body in sections(text)
-        for language, block in BLOCK.findall(body) if language == "ans"
-    ]
-
-
-def try_example(tried, program, example):
-    with tempfile.NamedTemporaryFile(suffix=".ans") as file:
-        file.write(example.file)
-        file.flush()
-        got = printed([program, *example.command.split(), file.name], program)
-    tried.compare(f"docs/FAULTS.md, {example.heading}, {example.shown!r}", example.text, got)
-
-
 def names_in(path, letter):
     """The numbers of the faults or the notes that a file of ans_model names, in their order."""
     return re.findall(rf"^ *///? ({letter}\d+):", path.read_text(), re.MULTILINE)
-
-
-def anchor(heading):
-    """What a link to a heading ends in."""
-    return re.sub(r"[^\w -]", "", heading.lower()).replace(" ", "-")
 
 
 def try_headings(tried, text):
@@ -163,34 +84,17 @@ def try_headings(tried, text):
     wanted = names_in(MODEL / "fault.rt", "F") + names_in(MODEL / "note.rt", "N")
     tried.compare("docs/FAULTS.md, headings", wanted, [heading.split()[0] for heading in headings])
     links = set(re.findall(r"\]\(#([\w-]+)\)", text))
-    tried.compare("docs/FAULTS.md, links", {anchor(heading) for heading in headings}, links)
+    tried.compare("docs/FAULTS.md, links", {meanings.anchor(heading) for heading in headings}, links)
     for heading, body in sections(text):
         said = heading if heading.startswith("F") else "note: " + heading.split(" ", 1)[1]
-        shown = any(said in block for language, block in BLOCK.findall(body) if language == "ans")
+        shown = any(said in line for line in body.splitlines() if line.startswith("- "))
         tried.compare(f"docs/FAULTS.md, an example that prints {said!r}", True, shown)
 
 
 def try_meanings(tried, text, program):
-    for name, quote in quotes_of(text).items():
-        said = printed([program, "help", name], program)
-        tried.compare(f"docs/FAULTS.md, {name}, what is quoted", quoted(said), quote)
-
-
-# The table of the tests.
-
-
-def tested():
-    """The examples that the gate tries, as the keys of those of the page."""
-    for name, table in tables():
-        if name == "fault_page.toml":
-            for row in table["row"]:
-                yield " ".join(words_of(table, row)[0]), file_bytes(input_of(row)), row["prints"]
-
-
-def try_tests(tried, examples):
-    shown, rows = {example.key() for example in examples}, set(tested())
-    tried.compare("examples of the page that no test tries", set(), shown - rows)
-    tried.compare("examples of the tests that the page does not show", set(), rows - shown)
+    tried.compare("docs/FAULTS.md, beside what tools/runs/meanings.py makes", meanings.page(), text)
+    for name, help_of_it in meanings.helps().items():
+        tried.compare(f"anscheck help {name}", help_of_it, printed([program, "help", name], program))
 
 
 # The colours.
@@ -209,9 +113,8 @@ def try_colours(tried, program):
     table = renditions(PROFILE.read_text())
     for old, begin in OLD.items():
         content = b"".join(begin + b"\x1b[%dmx" % number for number in range(256))
-        record = record_of({"width": 256, "lines": 1}, len(content))
         with tempfile.NamedTemporaryFile(suffix=".ans") as file:
-            file.write(content + b"\x1a" + record)
+            file.write(file_of(content, 256, 1))
             file.flush()
             cells = printed([program, "check", "--cleared", "--cells", file.name], program).split("\n")[-2]
         for number in range(256):
@@ -270,12 +173,8 @@ def main(program):
     program = os.path.abspath(program)
     tried = Tried()
     text = PAGE.read_text()
-    examples = examples_of(text)
-    for example in examples:
-        try_example(tried, program, example)
     try_headings(tried, text)
     try_meanings(tried, text, program)
-    try_tests(tried, examples)
     try_colours(tried, program)
     try_worked_example(tried)
     try_manual(tried)

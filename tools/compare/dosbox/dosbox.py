@@ -84,7 +84,7 @@ def cells_of(program, lines, content):
     """The cells of the picture from the cleared start, or None where a screen of 25 rows need not show it."""
     file = ans_file(lines, content)
     report = said(program, ["check", "--cleared", "--cells"], file)
-    if not report or (lines < 24 and b"\ntaller: yes\n" not in said(program, ["why"], file)):
+    if not report or (lines < 24 and b"\ntaller screens: same\n" not in said(program, ["why"], file)):
         return None
     return bytes.fromhex(report.partition(b"cells:\n")[2].decode().replace("\n", ""))
 
