@@ -1,4 +1,4 @@
--- The definitions, by rooms. What must be believed stands in Bytes, File, Sequence, Screen, Verdict and Text; Inside
+-- The definitions, by rooms. What must be believed is in Bytes, File, Sequence, Screen, Verdict and Text; Inside
 -- holds what only contracts inside the repository cite.
 pub mod Bytes
 pub mod File

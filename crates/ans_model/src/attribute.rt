@@ -25,7 +25,7 @@ macro_rules! change {
 /// All bits are kept and none is set.
 const NOTHING: Change = change!(0xFF, 0x00);
 
-/// What each parameter from 0 on changes. Those behind the last change nothing.
+/// What each parameter from 0 on changes. Those after the last one change nothing.
 const CHANGES: &[Change; 48] = &[
     change!(0x00, 0x07), // 0
     change!(0xFF, 0x08), // 1

@@ -1,8 +1,8 @@
 //! The words and definitions that all of the checker shares.
 //!
-//! The types here are plain data. What they mean stands in `specs/`, by rooms: `File`, `Sequence`,
+//! The types here are plain data. What they mean is in `specs/`, by rooms: `File`, `Sequence`,
 //! `Screen`, `Verdict` and `Text`. Whoever believes these believes what the checker says. The lemmas
-//! in `proofs/` are those that the crates above cite; laws and examples of the definitions stand in
+//! in `proofs/` are those that the crates above cite; laws and examples of the definitions are in
 //! `ans_laws`.
 #![tactic(auto)]
 

@@ -1,4 +1,4 @@
-//! What may stand directly after `[`.
+//! What may come directly after `[`.
 
 /// The mark of a sequence (ANSI.SYS): none, `=` or `?`.
 #[derive(Debug, Clone, Copy, PartialEq, Eq)]

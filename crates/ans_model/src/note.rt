@@ -9,7 +9,7 @@ pub enum Note {
     /// N1: the record states the width 0, which counts as 80.
     #[default]
     WidthAssumed,
-    /// N2: no end mark stands after the content.
+    /// N2: no end mark follows the content.
     NoEndMark,
     /// N3: the stated file size is neither the content's length nor one more.
     SizeDiffers,

@@ -7,14 +7,14 @@ ghost use Rattle.ans_model.specs.Text.Words.{part_if, part_names, texts_of};
 use arrayvec::ArrayVec;
 
 /// A class of starts: which parts of the starting state are known to be as on the cleared screen.
-/// Every other part may have any value; both cursors stand on the screen.
+/// Every other part may have any value; both cursors are on the screen.
 #[derive(Debug, Clone, Copy, PartialEq, Eq)]
 pub struct Start {
     /// Each cell, those of the spare row included, is a blank of attribute 07h.
     pub screen: bool,
-    /// The cursor stands at row 0 and column 0.
+    /// The cursor is at row 0 and column 0.
     pub cursor: bool,
-    /// The saved cursor stands at row 0 and column 0.
+    /// The saved cursor is at row 0 and column 0.
     pub saved: bool,
     /// The current attribute is 07h, white on black.
     pub colours: bool,
@@ -32,7 +32,7 @@ impl Start {
         wrap: false,
     };
 
-    /// The class of the cleared screen alone: each part is known.
+    /// The class of only the cleared screen: each part is known.
     pub const CLEARED: Start = Start {
         screen: true,
         cursor: true,

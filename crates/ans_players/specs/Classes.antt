@@ -50,7 +50,7 @@ abbrev pub IsAgreedFrom : (Difference → Bool) → Size → State → List Spel
 IsAgreedFrom agreed z s xs = (k : ℕ) (x : Spelled) → slice_get xs k ≡ Some x
     → IsTrue (is_agreed agreed z (stand_of z s (take k xs)) x)
 
--- the starts of the class are told of by two: wrap is known, or is the one part that is not
+-- two starts are enough to decide for the whole class: wrap is known, or is the only part that is not
 abbrev pub IsToldByTwo : Start → Type 0
 IsToldByTwo class = (class.wrap ≡ true) ⊎ (class ≡ all_but_wrap)
 
@@ -59,7 +59,7 @@ abbrev pub AgreedFromTwo : (Difference → Bool) → Size → Start → List Spe
 AgreedFromTwo agreed z class xs =
     IsAgreedFrom agreed z (low_start z class) xs × IsAgreedFrom agreed z (high_start z class) xs
 
--- Of such a class two starts tell.
+-- Two starts decide for such a class.
 abbrev pub TwoStartsTell : Type 0
 TwoStartsTell =
     (agreed : Difference → Bool) (z : Size) (class : Start) (xs : List Spelled) → 0 < z.width → IsToldByTwo class

@@ -1,4 +1,4 @@
--- The kinds in which players part: their order and their words.
+-- The kinds in which players differ: their order and their words.
 use Rattle.std.specs.Prelude.{ℕ, Bool, ◌==◌, not, List, [], ◌∷◌, codes}
 use Rattle.ans_players.specs.declared.difference.Difference.{Difference}
 use Rattle.ans_players.specs.declared.difference.Difference.TheVariants.{WrapAtOnce, LineEnds, HomeOnClear}
@@ -14,7 +14,7 @@ all_kinds =
     WrapAtOnce ∷ LineEnds ∷ HomeOnClear ∷ ClearInColour ∷ SavePlaceOnly ∷ DosColours ∷ TabPrints ∷ LineErased ∷ WrapOff
     ∷ StopsAtEdge ∷ PageControls ∷ TerminalControls ∷ OwnColours ∷ []
 
--- where a kind stands among them
+-- the position of a kind among them
 abbrev pub kind_number : Difference → ℕ
 kind_number WrapAtOnce = 0
 kind_number LineEnds = 1

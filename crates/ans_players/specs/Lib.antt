@@ -1,4 +1,4 @@
--- Where players part, and what is the same on all of them.
+-- Where players differ, and what is the same on all of them.
 pub mod Kinds
 pub mod Names
 pub mod Sync

@@ -37,8 +37,8 @@ pub record Behaviour : Type 1 where
   pub StandsFor : Memory → Stand → Type 0
 
 -- A player on a screen of this size that does as the profile does in the agreed kinds. It shows the stated cells of
--- the states for which it stands, and goes along through each token that the profile does not refuse and at which no
--- kinds but agreed ones arise. All else is left open.
+-- the states that its memory stands for, and goes along at each token that the profile does not refuse and where only
+-- agreed kinds arise. Everything else is left open.
 pub record IsPlayer (z : Size) (agreed : Difference → Bool) (p : Behaviour) : Type 0 where
   pub shows_the_same : (m : p.Memory) (h : Stand) (at : Position) → p.StandsFor m h → IsStated z at
       → p.shows m at ≡ cell_at z h.state.screen at

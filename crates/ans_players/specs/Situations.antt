@@ -1,4 +1,4 @@
--- Where players may part.
+-- Where players may differ.
 use Rattle.std.specs.Prelude.{◌≡◌, ℕ, ◌+◌, Bool, false, not, ◌&&◌, ◌||◌, ◌==◌, nat_lt, List, [], ◌∷◌, ◌++◌}
 use Rattle.std.specs.Prelude.{fold, take, slice_get, Some, if◌then◌else◌, IsTrue}
 use Rattle.std.specs.List.{list_all}
@@ -24,11 +24,11 @@ kind_if test kind = if test then kind ∷ [] else []
 abbrev pub is_common_colour : ℕ → Bool
 is_common_colour n = n == 0 || n == 1 || n == 5 || is_within 30 37 n || is_within 40 47 n
 
--- a printed control byte in which players of code page 437 part too; 07h and 08h are tokens of their own
+-- a printed control byte in which players of code page 437 differ too; 07h and 08h are tokens of their own
 abbrev pub is_page_control : ℕ → Bool
 is_page_control byte = byte == 0x00 || byte == 0x0B || byte == 0x0C
 
--- One that terminals alone do not draw. 1Ah ends the content of a file, and 1Bh begins a sequence.
+-- One that every player draws except terminals. 1Ah ends the content of a file, and 1Bh begins a sequence.
 abbrev pub is_terminal_control : ℕ → Bool
 is_terminal_control byte =
     is_within 0x01 0x06 byte || is_within 0x0E 0x19 byte || is_within 0x1C 0x1F byte || byte == 0x7F
@@ -78,7 +78,7 @@ own_kinds z s x = token_kinds z s x.token ++ spelling_kinds s x.token x.text
 abbrev pub name_kinds : Names → TokenKind → List Difference
 name_kinds n t = kind_if (paints t && not (are_both n)) OwnColours
 
--- The kinds in which players that stand so may part at the token: mostly none.
+-- The kinds in which players with this `Stand` may differ at the token: mostly none.
 abbrev pub situations : Size → Stand → Spelled → List Difference
 situations z h x =
     (if is_same_for_all h.sync x.token then [] else unsure_kinds h.sync)
@@ -88,11 +88,11 @@ situations z h x =
 abbrev pub is_agreed : (Difference → Bool) → Size → Stand → Spelled → Bool
 is_agreed agreed z h x = list_all agreed (situations z h x)
 
--- the stand behind a spelled token
+-- the `Stand` after a spelled token
 abbrev pub stand_behind : Size → Stand → Spelled → Stand
 stand_behind z h x = stand_after z h x.token
 
--- the stand behind these tokens, from where players are in sync
+-- the `Stand` after these tokens, where players are in sync at first
 abbrev pub stand_of : Size → State → List Spelled → Stand
 stand_of z start xs = fold (stand_behind z) (synced start) xs
 

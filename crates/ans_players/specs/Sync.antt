@@ -77,7 +77,7 @@ pub record Stand : Type 0 where
 abbrev pub synced : State → Stand
 synced s = record { sync = InSync; names = unnamed; state = s }
 
--- the stand behind a token
+-- the `Stand` after a token
 abbrev pub stand_after : Size → Stand → TokenKind → Stand
 stand_after z h t =
     record { sync = sync_after z h.sync h.state t; names = names_after h.names t; state = step z h.state t }

@@ -1,11 +1,11 @@
-//! In what players part.
+//! The kinds in which players differ.
 
 ghost use Rattle.std.specs.Prelude.{◌≡◌, Some, slice_get};
 ghost use Rattle.ans_players.specs.declared.difference.Difference.{Difference};
 ghost use Rattle.ans_players.specs.declared.difference.TheConstants.Difference as kind_constants;
 ghost use Rattle.ans_players.specs.Kinds.{all_kinds, kind_number, kind_word};
 
-/// A kind of behaviour in which players part: what the profile does, and what some players do otherwise.
+/// A kind of behaviour in which players differ: what the profile does, and what some players do instead.
 #[derive(Debug, Clone, Copy, PartialEq, Eq)]
 pub enum Difference {
     /// A byte printed in the last column takes the cursor to the next row at once. Terminals wait there
@@ -36,7 +36,7 @@ pub enum Difference {
     /// 00h, 0Bh and 0Ch are drawn, 07h does nothing and 08h goes back. Some players of code page 437 do
     /// otherwise, as terminals do.
     PageControls,
-    /// 01h to 06h, 0Eh to 19h, 1Ch to 1Fh and 7Fh are drawn. Terminals alone do not draw them.
+    /// 01h to 06h, 0Eh to 19h, 1Ch to 1Fh and 7Fh are drawn. Only terminals do not draw them.
     TerminalControls,
     /// 0 and an omitted number set white on black, as 37 and 40 do, and so it is at a start. Terminals have
     /// a white and a black of their own there.
@@ -61,7 +61,7 @@ impl Difference {
         Difference::OwnColours,
     ];
 
-    /// Where a kind stands in `Difference::ALL`, counted from 0.
+    /// The position of a kind in `Difference::ALL`, counted from 0.
     pub fn number(self) -> usize
         ensures { result ≡ kind_number self }
     {
@@ -104,7 +104,7 @@ impl Difference {
     }
 }
 
-/// `Difference::ALL` has the kinds of the definitions in their order, and each kind stands at its number there.
+/// `Difference::ALL` has the kinds of the definitions in their order, and each kind is at its number there.
 pub fn kinds_are_listed()
     ensures list { kind_constants.ALL ≡ all_kinds }
     ensures each { (kind : Difference) → slice_get kind_constants.ALL (kind_number kind) ≡ Some kind }

@@ -13,8 +13,8 @@ pub trait Family {
     ghost size: { Size };
     // the kinds in which it does as the profile does
     ghost agreed: { Difference → Bool };
-    // its memory, the cells that it shows, how it plays a spelled token, and for which states of the
-    // profile it stands, and in which sync
+    // its memory, the cells that it shows, how it plays a spelled token, and which states of the profile
+    // its memory stands for, and in which sync
     ghost behaviour: { Behaviour };
     // it has a memory that is in sync with each state of a start, so what is proved of those is not empty
     ghost stands: { StandsForStarts size behaviour };

@@ -1,9 +1,9 @@
-//! Players that part from the profile, and the drawings that show the same on all of them.
+//! Players that differ from the profile, and the drawings that show the same on all of them.
 //!
-//! The profile is one player of drawings. Viewers, emulators and terminals are others, and part from it in
-//! thirteen known ways: the kinds of [`kind::Kind`]. No real player is described here. A player is whatever
-//! does as the profile does wherever no kind arises but those in which it is free to do otherwise
-//! ([`player::Player`]). So what is proved of all players holds of each that does as the profile does
+//! The profile is one player of drawings. Viewers, emulators and terminals are others, and differ from it in
+//! thirteen known ways: the kinds of [`difference::Difference`]. No real player is described here. A player is
+//! whatever does as the profile does, except where a kind arises in which it is free to do otherwise
+//! ([`family::Family`]). So what is proved of all players holds of each that does as the profile does
 //! there, whatever it does elsewhere.
 //!
 //! This is narrower than every screen and every start:
@@ -13,9 +13,9 @@
 //!   at a line end in the last row it scrolls, and at an `ESC[nB` onto the spare row it stops above it, and
 //!   these are of no kind.
 //! - A start has the cursor and the saved place on the stated lines or in the spare row. Nothing is said of a
-//!   cursor that stands further down on a taller screen.
-//! - A cell is a byte and an attribute, and all players draw a byte from 20h on, but for 7Fh, as the character
-//!   of code page 437. A terminal that reads UTF-8 is a player only behind a conversion.
+//!   cursor further down on a taller screen.
+//! - A cell is a byte and an attribute, and all players draw a byte from 20h on, except for 7Fh, as the character
+//!   of code page 437. A terminal that reads UTF-8 is a player only if its input is converted first.
 //! - The laws speak of the memories that are in sync with a start. Each player has one for each state of a
 //!   start, and of its other memories nothing is said.
 //!

@@ -33,7 +33,7 @@ abbrev pub LeastSameIsOne : Type 0
 LeastSameIsOne = (agreed : Difference → Bool) (z : Size) (content : List ℕ) (a b : Start)
     → IsLeastSame agreed z content a → IsLeastSame agreed z content b → a ≡ b
 
--- ---- behind the mending
+-- ---- after the mending
 -- an agreed kind, or own-colours
 abbrev pub or_own : (Difference → Bool) → Difference → Bool
 or_own agreed kind = is_kind OwnColours kind || agreed kind
@@ -46,15 +46,15 @@ MendingIsRead =
     ++ (escape ∷ codes "[s"))
     (map (λ x. x.token) mending_spelled) (map (λ x. x.text) mending_spelled)
 
--- No kind arises in the mending, and behind it those that arise from the cleared start, for whichever class. But
--- own-colours may go, since the mending names both colours.
+-- No kind arises in the mending, and after it the same kinds arise from any class as from the cleared start, except
+-- that own-colours may go, since the mending names both colours.
 abbrev pub MendedIsAgreed : Type 0
 MendedIsAgreed = (agreed : Difference → Bool) (z : Size) (class : Start) (xs : List Spelled) → 0 < z.width
     → (AreAgreed agreed z all_known xs → AreAgreed agreed z class (mending_spelled ++ xs))
     × (AreAgreed agreed z class (mending_spelled ++ xs) → AreAgreed (or_own agreed) z all_known xs)
 
--- Good content in which no kinds but agreed ones arise from the cleared start shows its picture behind the mending,
--- from every start.
+-- Good content in which only agreed kinds arise from the cleared start shows its picture after the mending, from every
+-- start.
 abbrev pub MendedIsShown : Behaviour → Size → (Difference → Bool) → Type 0
 MendedIsShown p z agreed = (content : List ℕ) (picture : Picture) (good : GoodWith z all_known content picture)
     → AreAgreed agreed z all_known (spelled good.tokens good.reads.0)

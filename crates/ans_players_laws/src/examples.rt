@@ -1,6 +1,6 @@
 //! Examples of where kinds arise, one a clause, worked out apart from the definitions: from the cleared start,
-//! and on a screen of four columns and three lines but for `kinds_alone`. All but those of own colours begin
-//! with `ESC[37;40m`.
+//! and on a screen of four columns and three lines, except in `kinds_alone`. All except those of own colours
+//! begin with `ESC[37;40m`.
 
 ghost use Rattle.std.specs.Prelude.{[], ◌∷◌, ◌++◌, codes, true, false};
 ghost use Rattle.ans_model.specs.Screen.State.{sized};
@@ -49,7 +49,7 @@ pub fn kinds_alone()
     ensures own_colours { AriseAtOnceOn (sized 1 1) (bytes (codes "A")) (OwnColours ∷ []) }
 {}
 
-/// CR LF, LF CR and CR CR LF are one on all players. A line feed alone is not, nor is a return alone.
+/// CR LF, LF CR and CR CR LF are the same on all players. A lone line feed is not, nor is a lone return.
 pub fn line_ends_alone()
     ensures return_and_feed { Arise (bytes (codes "A\r\nB")) [] }
     ensures feed_and_return { Arise (bytes (codes "A\n\rB")) [] }
@@ -61,7 +61,7 @@ pub fn line_ends_alone()
     ensures feed_and_place { Arise (bytes (codes "A\n") ++ sequence (Place 1 1) (codes "[H") ∷ bytes (codes "B")) [] }
 {}
 
-/// Behind a full row a byte, a place, colours and a bell are the same on all players, and nothing else is.
+/// After a full row a byte, a place, colours and a bell are the same on all players, and nothing else is.
 pub fn full_rows()
     ensures byte { Arise (bytes (codes "ABCDE")) [] }
     ensures place { Arise (bytes (codes "ABCD") ++ sequence (Place 3 1) (codes "[3H") ∷ bytes (codes "E")) [] }

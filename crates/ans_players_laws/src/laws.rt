@@ -19,8 +19,9 @@ use ans_players::family::Family;
 /// of the class.
 ///
 /// Each such player has the stated lines and a spare row, so a screen of exactly the stated lines is none for
-/// a drawing that enters the spare row. A start has its cursor on these rows. The bytes from 20h on, but for
-/// 7Fh, are of code page 437 on all of them, so a terminal that reads UTF-8 is one only behind a conversion.
+/// a drawing that enters the spare row. A start has its cursor on these rows. The bytes from 20h on, except for
+/// 7Fh, are of code page 437 on all of them, so a terminal that reads UTF-8 is one only if its input is
+/// converted first.
 pub fn shows_everywhere<P: Family>()
     ensures { (class : Start) (content : List ℕ) (picture : Picture)
         → (good : GoodWith P.size class content picture)
@@ -73,14 +74,14 @@ pub fn mended_tokens_are_agreed()
     ensures agreed { MendedIsAgreed }
 {}
 
-/// So good content in which no kinds but agreed ones arise from the cleared start shows its picture behind
-/// these bytes on every player that does as the profile does in those, from every memory that is in sync
-/// with any start.
+/// So good content in which only agreed kinds arise from the cleared start shows its picture after these
+/// bytes on every player that does as the profile does in those, from every memory that is in sync with any
+/// start.
 ///
 /// Here too a player has the stated lines and a spare row and draws code page 437, and a start has its cursor
-/// on these rows: see `shows_everywhere`. So nothing is said of a screen of exactly the stated lines where the
-/// drawing enters the spare row, of a cursor that stands below the spare row of a taller screen, or of a
-/// terminal that reads UTF-8 with no conversion before it.
+/// on these rows: see `shows_everywhere`. So nothing is said of a screen of exactly the stated lines if the
+/// drawing enters the spare row, of a cursor below the spare row of a taller screen, or of a terminal that
+/// reads UTF-8 with no conversion before it.
 pub fn mended_content_shows_everywhere<P: Family>()
     ensures { MendedIsShown P.behaviour P.size P.agreed }
 {}

@@ -21,10 +21,10 @@ fn overwrite(sauce: &mut [u8], at: usize, bytes: &[u8])
     }
 }
 
-/// What stands before the record, and then the plain record with these bytes changed: each edit is
+/// What comes before the record, and then the plain record with these bytes changed: each edit is
 /// an offset in the record and the bytes from there on. An edit that does not fit is left out.
 ///
-/// Fails where memory runs out.
+/// Fails if memory runs out.
 pub fn sample_file(
     alloc: Global,
     front: &[u8],

@@ -1,6 +1,6 @@
 //! Files whose record or layout is refused, and files that are accepted, with their notes.
 //!
-//! Each is made by [`sample_file`](crate::sample_file) of what stands before the record and of the
+//! [`sample_file`](crate::sample_file) makes each from what comes before the record and from the
 //! fields of the plain record that are changed.
 
 use ans_model::fault::Cause;
@@ -14,7 +14,7 @@ pub type Edits = &'static [(usize, &'static [u8])];
 pub struct RefusedFile {
     /// What is odd about it.
     pub what: &'static str,
-    /// What stands before the record.
+    /// What comes before the record.
     pub front: &'static [u8],
     /// The fields changed.
     pub edits: Edits,
@@ -29,7 +29,7 @@ pub struct RefusedFile {
 pub struct AcceptedFile {
     /// What is odd about it.
     pub what: &'static str,
-    /// What stands before the record.
+    /// What comes before the record.
     pub front: &'static [u8],
     /// The fields changed.
     pub edits: Edits,

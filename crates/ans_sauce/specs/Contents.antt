@@ -3,7 +3,7 @@ use Rattle.std.specs.Prelude.{ℕ, List, ◌++◌, length, drop}
 use Rattle.ans_model.specs.File.Layout.{content}
 use Rattle.ans_sauce.specs.Found.{body_in}
 
--- what stands before the first end mark of the body
+-- what comes before the first end mark of the body
 abbrev pub content_in : List ℕ → List ℕ
 content_in file = content (body_in file)
 

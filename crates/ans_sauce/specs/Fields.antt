@@ -1,4 +1,4 @@
--- Fields of a record that are set anew (SAUCE 00.5, record layout).
+-- Fields of a record that are set (SAUCE 00.5, record layout).
 use Rattle.std.specs.Prelude.{ℕ, ◌+◌, ◌-◌, ◌/◌, ◌%◌, Bool, List, [], ◌∷◌, ◌++◌, if◌then◌else◌, length, take, drop}
 use Rattle.ans_model.specs.File.Layout.{FileParts, file_parts}
 use Rattle.ans_model.specs.File.Record.{flags}

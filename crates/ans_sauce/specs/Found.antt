@@ -1,4 +1,4 @@
--- What stands in a file where its record or its layout is refused.
+-- What is in a file whose record or layout is refused.
 use Rattle.std.specs.Prelude.{◌≡◌, ◌⊎◌, ℕ, ◌+◌, ◌-◌, ◌<◌, ◌≤◌, ◌↔◌, IsTrue, List, length, take, drop, codes}
 use Rattle.std.specs.Prelude.{Option, None, Some}
 use Rattle.memchr.specs.Find.{OccursAt, IsLast}
@@ -12,7 +12,7 @@ use Rattle.ans_model.specs.File.Refusals.{block_size}
 use Rattle.ans_sauce.specs.declared.found.Found.{Found}
 use Rattle.ans_sauce.specs.declared.found.Found.TheVariants as found
 
--- `SAUCE00` and 121 more bytes stand here
+-- `SAUCE00` and 121 more bytes are here
 pub record IsRecordAt (bytes : List ℕ) (place : ℕ) : Type 0 where
   pub id : OccursAt bytes (codes "SAUCE00") place
   pub whole : place + 128 ≤ length bytes
@@ -26,7 +26,7 @@ pub record CountsAt (bytes : List ℕ) (place : ℕ) : Type 0 where
 abbrev pub IsLastRecord : List ℕ → Option ℕ → Type 0
 IsLastRecord bytes place = IsLast (CountsAt bytes) 0 (length bytes) place
 
--- somewhere a record of version 00 stands
+-- there is a record of version 00 somewhere
 abbrev pub HoldsRecord : List ℕ → Type 0
 HoldsRecord bytes = (place : ℕ) × IsRecordAt bytes place
 

@@ -12,18 +12,18 @@ pub record IsSplit (file : List ℕ) (parts : Parts) : Type 0 where
   pub accepts : Accepts file apart
   pub shows : ShowsParts apart parts
 
--- the last 128 bytes of the file are a record, and the front stands before them
+-- the last 128 bytes of the file are a record, and the front is what comes before them
 pub record EndsInRecord (file front record_bytes : List ℕ) : Type 0 where
   pub found : IsTrue (has_record file)
   pub front_is : front ≡ take (length file - 128) file
   pub record_is : record_bytes ≡ drop (length file - 128) file
 
--- what stands before the record is the body and the block of this many comments
+-- what comes before the record is the body and the block of this many comments
 pub record IsCut (count : ℕ) (front body comment_bytes : List ℕ) : Type 0 where
   pub comments : length comment_bytes ≡ 64 * count
   pub whole : front ≡ body ++ comment_block count comment_bytes
 
--- F2 to F7, the refusals of a file with a record but for the last
+-- F2 to F7, the refusals of a file with a record except for the last
 abbrev pub record_refusals : List ℕ → List ℕ → List Refusal
 record_refusals front record_bytes = take 6 (refusals front record_bytes)
 

@@ -1,4 +1,4 @@
--- A file that is refused since it states no lines, and would else be accepted.
+-- A file that is refused since it states no lines, and would otherwise be accepted.
 use Rattle.std.specs.Prelude.{◌≡◌, Bool, not, ◌&&◌, List, ℕ, nat_lt}
 use Rattle.ans_model.specs.Bytes.{most_columns}
 use Rattle.ans_model.specs.File.Layout.{content, is_clean_end}
@@ -8,7 +8,7 @@ use Rattle.ans_sauce.specs.Found.{body_in, record_in}
 use Rattle.ans_sauce.specs.RecordBytes.{sauce_bytes}
 use Rattle.ans_sauce.specs.declared.no_lines.WithoutLines.{WithoutLines}
 
--- Behind F5 neither F6 nor F8 would follow: the width is within the limit, and there are only end marks after the
+-- After F5 neither F6 nor F8 would follow: the width is within the limit, and there are only end marks after the
 -- content.
 abbrev pub lacks_lines_alone : List ℕ → Bool
 lacks_lines_alone file =

@@ -1,4 +1,4 @@
-//! What stands in a file where its record or its layout is refused.
+//! What is in a file whose record or layout is refused.
 ghost use Rattle.std.specs.Prelude.{◌≡◌, ◌+◌, ◌-◌, ◌≤◌, ℕ, List, Some, length};
 ghost use Rattle.memchr.specs.Find.{IsLast};
 ghost use Rattle.ans_model.specs.File.Refusals.{record_fault};
@@ -12,13 +12,13 @@ use crate::record::Record;
 use ans_model::fault::{Cause, Fault};
 use memchr::arch::all::twoway::FinderRev;
 
-/// What stands in a file where its record or its layout is refused: the field's value, and for F1 and
-/// F8 whether a record of version 00 stands where it does not count.
+/// What is in a file whose record or layout is refused: the field's value, and for F1 and F8 whether
+/// there is a record of version 00 where it does not count.
 #[derive(Debug, Clone, Copy, PartialEq, Eq)]
 pub enum Found<'a> {
-    /// F1: no record stands anywhere.
+    /// F1: there is no record anywhere.
     NoRecord,
-    /// F1: the last record, by its offset in the file, and how many bytes stand behind it.
+    /// F1: the last record, by its offset in the file, and how many bytes come after it.
     Record { offset: usize, behind: usize },
     /// F2: the version's two bytes.
     Version(&'a [u8]),
@@ -30,8 +30,8 @@ pub enum Found<'a> {
     Width(u16),
     /// F5 and F7: TInfo2.
     Lines(u16),
-    /// F8: the bytes between the first end mark and the comment block or the record, and whether a record
-    /// stands among them.
+    /// F8: the bytes between the first end mark and the comment block or the record, and whether there is
+    /// a record among them.
     AfterEndMark { bytes: &'a [u8], record: bool },
 }
 
@@ -59,9 +59,9 @@ fn overlapped(bytes: &[u8], place: usize) -> Option<usize>
     }
 }
 
-/// The last place at which `SAUCE00` and 121 more bytes stand, in bytes from the first one: a record of
-/// version 00, whatever follows it. One counts only if none begins in the 127 bytes before it: it may be in
-/// a text of that record.
+/// The last place of `SAUCE00` and 121 more bytes, in bytes from the first one: a record of version 00,
+/// whatever follows it. One counts only if none begins in the 127 bytes before it: it may be in a text of
+/// that record.
 pub fn last_record_place(bytes: &[u8]) -> Option<usize>
     ensures { IsLastRecord bytes.now result }
 {
@@ -108,8 +108,8 @@ fn found_after(after: &[u8]) -> Found<'_>
     }
 }
 
-/// What stands in a file that is refused for its record or its layout, F1 to F8, where something
-/// else should stand. It takes no memory.
+/// What a file that is refused for its record or its layout, F1 to F8, has instead of what it should have.
+/// It takes no memory.
 pub fn find(file: &[u8], fault: Fault) -> Found<'_>
     requires { record_fault file.now ≡ Some fault }
     ensures { IsFound file.now result fault.cause }

@@ -22,7 +22,7 @@ fn fault(offset: usize, cause: Cause) -> Fault
     Fault { offset, cause }
 }
 
-/// What stands before the record, and the record, where there is one.
+/// What comes before the record, and the record, if there is one.
 pub fn cut_record(file: &[u8]) -> Option<(&[u8], Record<'_>)>
     ensures cut { IfSome result (λ cut. EndsInRecord file.now cut.0.now (sauce_bytes cut.1)) }
     ensures none { IfNone result (IsFalse (has_record file.now)) }
@@ -58,8 +58,8 @@ fn cut_block(front: &[u8], count: u8) -> Option<(&[u8], &[u8])>
     Some((body, block.strip_prefix(b"COMNT")?))
 }
 
-/// What stands before a record and before where the comment block that it counts would begin (SAUCE
-/// 00.5, file layout). `front` is what stands before the record.
+/// What comes before a record and before where the comment block that it counts would begin (SAUCE
+/// 00.5, file layout). `front` is what comes before the record.
 pub fn body_before<'a>(front: &'a [u8], sauce: &Record<'_>) -> &'a [u8]
     ensures { result.now ≡ take (length front.now - block_size (comment_count (sauce_bytes sauce.now)))
         front.now }
@@ -104,7 +104,7 @@ fn first_end_mark(body: &[u8]) -> Option<usize>
     memchr(END_MARK, body)
 }
 
-/// The content of a body, and what stands behind it, from the first end mark on.
+/// The content of a body, and what comes after it, from the first end mark on.
 pub fn cut_content(body: &[u8]) -> (&[u8], &[u8])
     ensures content { result.0.now ≡ content body.now }
     ensures rest { result.1.now ≡ after_content body.now }

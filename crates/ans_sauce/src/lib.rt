@@ -1,13 +1,13 @@
-//! The SAUCE record of a file (SAUCE 00.5): where it stands, what it says of the file, and the
-//! comments and the content before it.
+//! The SAUCE record of a file (SAUCE 00.5): where it is, what it says of the file, and the comments
+//! and the content before it.
 //!
-//! `split` takes a file apart. Others rely on its contract: it returns `Ok` exactly where some
+//! `split` takes a file apart. Others rely on its contract: it returns `Ok` exactly if some
 //! body, comments and record lay the file out and nothing in it is refused, with the parts that
 //! they determine; otherwise the first refusal that applies, in the order of its table. Which parts
 //! belong to which file is in `specs/Split.antt`, and what the parts show in `specs/Parts.antt` and
 //! `specs/RecordBytes.antt`, over the definitions of `ans_model`: its `Layout`, `Record`, `Refusals`
-//! and `NoteConditions`. `find` tells what stands in a file that is refused, and `without_lines` what
-//! there is of one that lacks nothing but the number of its lines.
+//! and `NoteConditions`. `find` returns what is in a file that is refused, and `without_lines` the
+//! content and the record of one that lacks nothing but the number of its lines.
 #![tactic(auto)]
 
 pub mod fields;

@@ -18,9 +18,9 @@ pub struct WithoutLines<'a> {
     pub sauce: Record<'a>,
 }
 
-/// What there is of a file but for its lines, where it has a record, its width is within the limit, and
-/// nothing but end marks follows its content. That it is refused for F5 is the caller's to know: version,
-/// kind, comments and lines are not looked at. It takes no memory.
+/// The content and the record of a file, if it has a record, its width is within the limit, and nothing but
+/// end marks follows its content. The caller must know that it is refused for F5: version, kind, comments and
+/// lines are not looked at. It takes no memory.
 pub fn without_lines(file: &[u8]) -> Option<WithoutLines<'_>>
     ensures some { IfSome result (IsWithoutLines file.now) }
     ensures lacks { IfSome result (λ found. lacks_lines_alone file.now ≡ true) }

@@ -1,4 +1,4 @@
-//! Fields of a record that are set anew.
+//! Setting fields of a record.
 
 ghost use Rattle.std.specs.Prelude.{◌≡◌, ◌+◌, ◌-◌, ◌%◌, ◌≤◌, length, if◌then◌else◌};
 ghost use Rattle.ans_model.specs.File.Record.{flags};
@@ -8,7 +8,7 @@ ghost use Rattle.ans_sauce.specs.Found.{record_in};
 use crate::fields::{FILE_SIZE, FLAGS, RECORD_SIZE, TINFO_2};
 use crate::record::Record;
 
-/// A number in a record that was set anew, to the same or to another one.
+/// A number in a record that was set, to the same or to another one.
 #[derive(Debug, Clone, Copy, PartialEq, Eq)]
 pub struct Reset {
     pub was: u32,

@@ -240,7 +240,7 @@ fn the_earlier_of_overlapping_records_counts(rt: HostRuntime) -> Result<(), Fail
     Ok(())
 }
 
-/// What stands before a record that states no lines, another field of it, and the content where the file lacks nothing
+/// What comes before a record that states no lines, another field of it, and the content if the file lacks nothing
 /// but its lines.
 static UNSTATED: [(&[u8], usize, &[u8], Option<&[u8]>); 6] = [
     (b"Hi\x1a", 98, b"\0\0", Some(b"Hi")),

@@ -17,7 +17,7 @@ pub record IsSpelling (bytes : List ℕ) (count : ℕ) (text : List ℕ) : Type 
   pub short : count ≤ 4
   pub spells : take count bytes ≡ text
 
--- at each byte stands its character
+-- the entry at each byte is its character
 abbrev pub ShowsBytes : List (List ℕ) → List ℕ → Type 0
 ShowsBytes bytes counts =
     (b : ℕ) (d : List ℕ) (k : ℕ) → b < 256
@@ -27,6 +27,6 @@ ShowsBytes bytes counts =
 abbrev pub IsAscii : ℕ → Type 0
 IsAscii b = (0x20 ≤ b) × (b < 0x7F)
 
--- at each byte stand its two digits
+-- the entry at each byte is its two digits
 abbrev pub TellsBytes : List (List ℕ) → Type 0
 TellsBytes table = (b : ℕ) (d : List ℕ) → b < 256 → slice_index_or table b d ≡ hex_byte b

@@ -6,9 +6,9 @@
 //! and at a failure a prefix of it (`specs/Puts.antt`; `specs/Writes.antt` says what a device holds
 //! after a writing).
 //!
-//! Beside them stands how bytes are written: by characters ([`glyph_text`], [`put_characters`]), by
-//! hexadecimal digits ([`hex_byte`]), and by [`Tables`] of both where a text is long. The characters
-//! and digits are defined in `ans_model`.
+//! The crate also has the ways to write bytes: as characters ([`glyph_text`], [`put_characters`]), as
+//! hexadecimal digits ([`hex_byte`]), and by [`Tables`] of both if a text is long. The characters and
+//! digits are defined in `ans_model`.
 #![tactic(auto)]
 
 mod character_table;

@@ -59,7 +59,7 @@ impl<'a, W: Write> Outbox<'a, W> {
         self.waiting.as_slice()
     }
 
-    /// Puts a text behind what waits. Where there is no room for it, what waits is written first.
+    /// Puts a text after what waits. If there is no room for it, what waits is written first.
     #[inline(always)]
     pub fn put(&mut self, text: &[u8])
         ensures { Puts W.contents self.old self.new text.now }

@@ -20,7 +20,7 @@ pub struct Tables {
 }
 
 impl Tables {
-    /// The tables, made anew.
+    /// Makes the tables.
     pub fn new() -> Tables {
         Tables {
             characters: CharacterTable::new(),
@@ -29,7 +29,7 @@ impl Tables {
     }
 
     /// Writes the characters of bytes to the start of a text in UTF-8, up to four bytes for each, and
-    /// returns where they end. Behind them the text is anything.
+    /// returns where they end. After them the text may be anything.
     pub fn write_characters(&self, bytes: &[u8], text: &mut [u8]) -> usize
         requires { 4 * length bytes.now ≤ length text.old }
         ensures within { result ≤ 4 * length bytes.now }
@@ -39,7 +39,7 @@ impl Tables {
     }
 
     /// Writes the digits of cells to the start of a text, four for each: two for its byte, then two
-    /// for its attribute. Behind them the text is anything.
+    /// for its attribute. After them the text may be anything.
     pub fn write_digits(&self, bytes: &[u8], attributes: &[u8], text: &mut [u8])
         requires same { length attributes.now ≡ length bytes.now }
         requires room { 4 * length bytes.now ≤ length text.old }

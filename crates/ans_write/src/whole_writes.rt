@@ -1,7 +1,7 @@
 //! Writes of all of some bytes, which may take several calls.
 //!
-//! They stand apart from `tried.rt`, whose fields cannot be reached from here. So a device is only
-//! called by `write_some`, which is not to be given one that has failed.
+//! They are kept out of `tried.rt`, whose fields cannot be reached from here. So a device is only
+//! called by `write_some`, which must not be given one that has failed.
 ghost use Rattle.std.specs.Prelude.{◌≡◌, ◌+◌, ◌≤◌, ◌↔◌, false, length, IsTrue, IsErr};
 ghost use Rattle.ans_write.specs.Tried.{has_failed, call_count, inner_of};
 ghost use Rattle.ans_write.specs.Writes.{AppendsUnless};

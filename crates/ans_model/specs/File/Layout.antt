@@ -8,7 +8,7 @@ use Rattle.ans_model.specs.File.Record.{comment_count}
 abbrev pub comment_block : ℕ → List ℕ → List ℕ
 comment_block count comment_bytes = if count == 0 then [] else codes "COMNT" ++ comment_bytes
 
--- a file taken apart: what stands before the comments and the record, the comments' lines, and the record
+-- the parts of a file: what comes before the comments and the record, the comments' lines, and the record
 pub record FileParts : Type 0 where
   pub body : List ℕ
   pub comment_bytes : List ℕ
@@ -39,7 +39,7 @@ is_end_mark b = b == end_mark
 abbrev pub content : List ℕ → List ℕ
 content body = before_first is_end_mark body
 
--- what stands after the content in the body
+-- what follows the content in the body
 abbrev pub after_content : List ℕ → List ℕ
 after_content body = drop (length (content body)) body
 

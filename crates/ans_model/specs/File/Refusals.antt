@@ -54,7 +54,7 @@ has_block count front = count == 0 || (nat_le (block_size count) (length front)
 abbrev pub has_record : List ℕ → Bool
 has_record file = nat_le 128 (length file) && bytes_eq (take 5 (drop (length file - 128) file)) (codes "SAUCE")
 
--- the refusals of a file with a record, in their order; front is what stands before the record
+-- the refusals of a file with a record, in their order; front is what comes before the record
 abbrev pub refusals : List ℕ → List ℕ → List Refusal
 refusals front record_bytes =
     let at = length front in

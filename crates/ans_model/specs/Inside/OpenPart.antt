@@ -75,11 +75,11 @@ members_of done current = done ++ member_of current ∷ []
 abbrev pub raw_of : Part → ℕ → Raw
 raw_of part letter = record { mark = part.mark; members = members_of part.done part.current; letter = letter }
 
--- what may stand after a whole member: `;` or a letter
+-- what may follow a whole member: `;` or a letter
 abbrev pub is_stop : ℕ → Bool
 is_stop c = c == semicolon || is_ascii_alphabetic c
 
--- the byte may stand after what there is of the member
+-- the byte may follow what there is of the member
 abbrev pub may_follow : Current → ℕ → Bool
 may_follow Fresh b = is_stop b || (is_ascii_digit b || is_quote b)
 may_follow (InNumber n) b = is_stop b || is_ascii_digit b

@@ -1,4 +1,4 @@
--- The bytes that make a drawing safe to show behind anything.
+-- The bytes that make a drawing safe to show after anything.
 use Rattle.std.specs.Prelude.{◌≡◌, true, List, ℕ, [], ◌∷◌, codes}
 use Rattle.std.specs.List.{concat}
 use Rattle.ans_model.specs.Bytes.{escape}
@@ -7,8 +7,8 @@ use Rattle.ans_model.specs.Screen.State.{Size, State}
 use Rattle.ans_model.specs.Screen.Step.{final}
 use Rattle.ans_model.specs.Screen.StartClass.{cleared}
 
--- Wrap on, white on black by name, a blank screen, the cursor at home, and saved there. Clear takes it home too in
--- ANSI.SYS, and in no terminal of today.
+-- Wrap on, white on black by name, a blank screen, and the cursor at home and saved there. In ANSI.SYS, Clear takes it
+-- home too; in modern terminals it does not.
 abbrev pub mending_tokens : List TokenKind
 mending_tokens = Wrap true ∷ Colours (0 ∷ 37 ∷ 40 ∷ []) ∷ Clear ∷ Place 1 1 ∷ Save ∷ []
 

@@ -77,7 +77,7 @@ start_with z class s = record {
   wrap = if class.wrap then (cleared z).wrap else s.wrap;
 }
 
--- each cell has this byte and this attribute, which is the current one, and both cursors stand here
+-- each cell has this byte and this attribute, which is also the current one, and both cursors are at this corner
 abbrev pub uniform_state : Size → ℕ → Position → Bool → State
 uniform_state z byte corner wrap = record {
   screen = replicate (cell_count z) (cell byte byte);

@@ -45,7 +45,7 @@ cell byte attribute = record { byte = byte; attribute = attribute }
 abbrev pub cell_count : Size → ℕ
 cell_count z = (z.lines + 1) * z.width
 
--- where a position stands in row order
+-- the index of a position in row order
 abbrev pub index : Size → Position → ℕ
 index z p = p.row * z.width + p.column
 
@@ -65,7 +65,7 @@ IsStated z p = (p.row < z.lines) × (p.column < z.width)
 abbrev pub IsByteCell : Cell → Type 0
 IsByteCell c = IsByte c.byte × IsByte c.attribute
 
--- the cells are those of the screen, and both cursors stand on it
+-- there are as many cells as the screen has, and both cursors are on it
 pub record FitsScreen (z : Size) (s : State) : Type 0 where
   pub cells : length s.screen ≡ cell_count z
   pub cursor : IsOnScreen z s.cursor

@@ -68,7 +68,7 @@ colours (m ∷ ms) = Colours (map colour_number (m ∷ ms))
 abbrev pub only_if : Bool → TokenKind → Result TokenKind Cause
 only_if test token = if test then Ok token else Err WrongParameters
 
--- a marked 7 alone is wrap; all else is a screen mode
+-- a marked 7 by itself is wrap; anything else is a screen mode
 abbrev pub wrap_or_mode : Raw → Bool → TokenKind
 wrap_or_mode raw on = if is_marked raw.mark && is_just 7 raw.members then Wrap on else Mode
 
@@ -113,7 +113,7 @@ look_up (e ∷ es) letter = if is_one_of e.letters letter then e.means else look
 abbrev pub has_a_meaning : Raw → Bool
 has_a_meaning raw = list_any (λ e. is_one_of e.letters raw.letter) (table raw)
 
--- A mark stands with `h` and `l` alone, and a string with `p` alone.
+-- Only `h` and `l` may have a mark, and only `p` may have a string.
 abbrev pub meaning : Raw → Result TokenKind Cause
 meaning raw =
     if not (has_a_meaning raw) then Err UnknownSequence

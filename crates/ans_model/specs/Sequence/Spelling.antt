@@ -34,7 +34,7 @@ is_mark_byte b = b == 0x3D || b == 0x3F
 abbrev pub is_quote : ℕ → Bool
 is_quote b = b == double_quote || b == single_quote
 
--- An omitted member is no byte, a number is one or more digits with that value, and a string stands between two
+-- An omitted member has no bytes, a number is one or more digits with that value, and a string is enclosed in two
 -- equal quotes and does not contain that quote.
 abbrev pub SpellsMember : Member → List ℕ → Type 0
 SpellsMember Omitted bytes = bytes ≡ []

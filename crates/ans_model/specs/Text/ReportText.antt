@@ -78,7 +78,7 @@ picture_text picture = line_of (codes "picture:") ++ flat_map picture_line (rows
 abbrev pub cells_text : Picture → List ℕ
 cells_text picture = line_of (codes "cells:") ++ flat_map cells_line (rows_of picture)
 
--- the text of a refusal alone
+-- the text of a refusal by itself
 abbrev pub refusal_text : Fault → List ℕ
 refusal_text fault = line_of (codes "verdict: refused") ++ fault_line fault
 

@@ -36,7 +36,7 @@ pub record IsBroken (text : List ℕ) (cause : Cause) : Type 0 where
   pub not_prefix : ¬ IsPrefixOfSpelling text
   pub why : IsWhy text byte cause
 
--- what the reading alone refuses, whatever the tokens before it
+-- what is refused on reading it, whatever tokens come before
 abbrev pub IsRefused : List ℕ → Cause → Type 0
 IsRefused text cause = IsRefusedByMeaning text cause ⊎ IsBroken text cause
 

@@ -34,8 +34,8 @@ pub record PrintsWell (z : Size) (class : Start) (played : List TokenKind) : Typ
   pub at_one_position : SamePosition z class played
   pub never_below : FromEvery z class (λ s. ¬ IsInSpareRow z played s)
 
--- No token has a static fault, none scrolls or prints below the stated lines from any start, and what is printed
--- or erased stands at one position. A tab prints as each of its blanks does.
+-- No token has a static fault, none scrolls or prints below the stated lines from any start, and whatever is printed or
+-- erased is at the same position from every start. A tab prints as each of its blanks does.
 pub record PlaysWell (z : Size) (class : Start) (tokens : List TokenKind) : Type 0 where
   pub no_static_fault : (k : ℕ) (t : TokenKind) (cause : Cause) → slice_get tokens k ≡ Some t
       → ¬ HasStaticFault z t cause

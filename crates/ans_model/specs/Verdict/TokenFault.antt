@@ -11,7 +11,7 @@ use Rattle.ans_model.specs.declared.fault.Cause.TheVariants.{KeyReassigned, Scre
 use Rattle.ans_model.specs.declared.fault.Cause.TheVariants.{OutsideScreen, PrintBelow, Scrolls, PrintUnknownPlace}
 use Rattle.ans_model.specs.declared.fault.Cause.TheVariants.{EraseUnknownPlace, MayScroll}
 
--- a fault that a token has wherever it stands
+-- a fault that a token has wherever it occurs
 abbrev pub HasStaticFault : Size → TokenKind → Cause → Type 0
 HasStaticFault z Keys KeyReassigned = Unit {0}
 HasStaticFault z Mode ScreenMode = Unit {0}
@@ -37,7 +37,7 @@ abbrev pub PositionsDiffer : Size → Start → List TokenKind → Type 0
 PositionsDiffer z class played =
     (s t : State) × IsStart z class s × IsStart z class t × ((final z s played).cursor ≢ (final z t played).cursor)
 
--- after these tokens from this start, the cursor stands in the spare row
+-- after these tokens from this start, the cursor is in the spare row
 abbrev pub IsInSpareRow : Size → List TokenKind → State → Type 0
 IsInSpareRow z played start = (final z start played).cursor.row ≡ z.lines
 

@@ -35,7 +35,7 @@ pub record CursorsDifferInTab (z : Size) (class : Start) (tokens : List TokenKin
   pub fault : HasTabFault z class tokens PrintUnknownPlace
   pub differ : CursorsDiffer z class (then_blanks tokens fault.blanks_before)
 
--- from exactly one of the two starts the cursor stands in the spare row, where a line feed scrolls
+-- from exactly one of the two starts the cursor ends in the spare row, where a line feed scrolls
 abbrev pub OneIsInSpareRow : Size → Start → List TokenKind → Type 0
 OneIsInSpareRow z class tokens =
     (IsInSpareRow z tokens (low_start z class) × ¬ IsInSpareRow z tokens (high_start z class))

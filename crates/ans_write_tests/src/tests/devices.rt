@@ -27,7 +27,7 @@ fn a_read_that_fails_is_not_made_again(rt: HostRuntime) {
     }
 }
 
-/// A read of nothing tells the end of the input.
+/// A read of nothing means the end of the input.
 #[test]
 fn a_read_of_nothing_is_no_failure(rt: HostRuntime) {
     let input: &[u8] = b"a";
