@@ -25,15 +25,15 @@ pub record IsBegun (walk : AgreedWalk) (s : State) : Type 0 where
   pub cleared_sync : walk.cleared_sync ≡ InSync
   pub names : shown_names walk.names ≡ unnamed
 
--- Two pens are one but for the place that was saved, and that counts only if it may be gone back to.
+-- Two pens are the same except for the saved place, which counts only if it may be restored.
 pub record AreAlike (restores : Bool) (pen other : Pen) : Type 0 where
   pub cursor : pen.cursor ≡ other.cursor
   pub saved : restores ≡ true → pen.saved ≡ other.saved
   pub attribute : pen.attribute ≡ other.attribute
   pub wrap : pen.wrap ≡ other.wrap
 
--- The plays of the walk, that from its start and that from the cleared one, stand alike. A restore is itself of a kind
--- in which players part.
+-- The two plays of the walk, from its start and from the cleared one, are alike. A restore is itself of a kind in which
+-- players differ.
 pub record PlaysAlike (walk : AgreedWalk) : Type 0 where
   pub pen : AreAlike (is_used walk.used.now SavePlaceOnly) walk.pen walk.cleared
   pub sync : walk.sync ≡ walk.cleared_sync
@@ -46,9 +46,8 @@ HasOnlyAgreedTo agreed z s xs true walk =
     × StandsAt walk.cleared walk.cleared_sync walk.names (stand_of z (cleared z) xs)
 HasOnlyAgreedTo agreed z s xs false walk = ¬ IsAgreedFrom agreed z s xs
 
--- over the front of its content the first, which was in sync, has become the other, which goes on as long as no kinds
--- arise but those that are used
--- and the plays do not stand alike
+-- over the front of its content the first, which was in sync, has become the other, which goes on as long as only kinds
+-- that are used arise and the plays are not alike
 pub record HasStayedAgreed (first : AgreedWalk) (front : Front) (goes_on : Bool) (now : AgreedWalk) : Type 0 where
   pub size : now.size ≡ first.size
   pub content : now.content.now ≡ first.content.now
@@ -60,7 +59,7 @@ pub record HasStayedAgreed (first : AgreedWalk) (front : Front) (goes_on : Bool)
   pub only_agreed : (s : State) → IsBegun first s
       → HasOnlyAgreedTo (is_used first.used.now) first.size s (spelled front.tokens front.texts) now.has_only_agreed now
 
--- players are in sync in both plays, all that arises at a plain byte is of a kind that is used, and so many bytes
+-- players are in sync in both plays, all that arises at a plain byte is of a kind that is used, and this many bytes
 -- that are printed next stay in their rows
 pub record StaysAgreedInRow (walk : AgreedWalk) (count : ℕ) : Type 0 where
   pub in_sync : walk.sync ≡ InSync

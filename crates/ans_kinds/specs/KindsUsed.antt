@@ -1,4 +1,4 @@
--- What is told of the kinds in which players part.
+-- What is said of the kinds in which players differ.
 use Rattle.std.specs.Prelude.{ℕ, ◌<◌, Bool, is_some, List, map, Option, None, Some, slice_index_or}
 use Rattle.std.specs.List.{filter}
 use Rattle.ans_model.specs.Screen.State.{Size}
@@ -8,7 +8,7 @@ use Rattle.ans_players.specs.declared.difference.Difference.{Difference}
 use Rattle.ans_kinds.specs.declared.kinds.KindsUsed.{KindsUsed}
 use Rattle.ans_pens.specs.declared.times.Times.{Times}
 
--- what is told of the kind of this number
+-- what is said of the kind of this number
 abbrev pub used_at : KindsUsed → ℕ → Option Times
 used_at used number = slice_index_or used.times number None
 
@@ -24,7 +24,7 @@ is_used used kind = is_some (used_of used kind)
 abbrev pub words_used : KindsUsed → List (List ℕ)
 words_used used = map kind_word (filter (is_used used) all_kinds)
 
--- From the cleared start the kind arises so often in the content, and there first; none is told where it never arises.
+-- From the cleared start the kind arises this often in the content, and first there; `None` says that it never arises.
 abbrev pub IsTold : Size → List ℕ → Difference → Option Times → Type 0
 IsTold z content kind None = IsNamed z content kind 0 0
 IsTold z content kind (Some times) = (0 < times.count) × IsNamed z content kind times.count times.first

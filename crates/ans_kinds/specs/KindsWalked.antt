@@ -1,4 +1,4 @@
--- What the walk over the kinds in which players part has found so far. Only private contracts cite it.
+-- What the walk over the kinds in which players differ has found so far. Only private contracts cite it.
 use Rattle.std.specs.Prelude.{◌≡◌, ℕ, ◌+◌, ◌<◌, ◌≤◌, Bool, is_none, IsTrue, List, ◌++◌, length, take, Option, None}
 use Rattle.std.specs.Prelude.{Some, not, ◌&&◌, ◌||◌, ◌==◌}
 use Rattle.std.specs.List.{concat, list_all}
@@ -32,7 +32,7 @@ AreFew used most = (number : ℕ) → number < 13 → count_of (used_at used num
 abbrev pub has_no_others : KindsUsed → Bool
 has_no_others used = list_all is_none (take 12 used.times)
 
--- from the cleared start the kind arises so often at the tokens, and there first
+-- from the cleared start the kind arises this often at the tokens, and first there
 pub record AriseFrom (z : Size) (xs : List Spelled) (kind : Difference) (times : Times) : Type 0 where
   pub some : 0 < times.count
   pub count : times_cleared kind z xs ≡ times.count
@@ -43,14 +43,14 @@ abbrev pub IsFound : Size → List Spelled → Difference → Option Times → T
 IsFound z xs kind None = times_cleared kind z xs ≡ 0
 IsFound z xs kind (Some times) = AriseFrom z xs kind times
 
--- the pen, the sync and the names are those of this stand
+-- the pen, the sync and the names are those of this `Stand`
 pub record StandsAt (pen : Pen) (sync : Sync) (names : Names) (h : Stand) : Type 0 where
   pub pen_is : pen ≡ pen_of h.state
   pub sync_is : shown_sync sync ≡ h.sync
   pub names_are : shown_names names ≡ h.names
 
--- Over the front of its content the first has become the other, which goes on: it stands where the front's tokens lead
--- from the cleared start, has found what arises at them, and knows whether one moves the cursor by rows.
+-- Over the front of its content the first has become the other, which goes on: it is where the front's tokens lead from
+-- the cleared start, has found what arises at them, and knows whether one moves the cursor by rows.
 pub record HasFoundKinds (first : KindsWalk) (front : Front) (goes_on : Bool) (now : KindsWalk) : Type 0 where
   pub never_stops : IsTrue goes_on
   pub size : now.size ≡ first.size
@@ -67,13 +67,13 @@ pub record IsReadyFor (walk : KindsWalk) (offset : ℕ) : Type 0 where
   pub stands : StandsOn walk.size walk.pen
   pub few : AreFew walk.used offset
 
--- players are in sync, and so many bytes that are printed next stay in their row
+-- players are in sync, and this many bytes that are printed next stay in their row
 pub record StaysSyncedInRow (walk : KindsWalk) (count : ℕ) : Type 0 where
   pub in_sync : walk.sync ≡ InSync
   pub stays : walk.pen.cursor.column + count < walk.size.width
 
--- players may part at a sequence of colours: not all its numbers are common, or one is omitted, and it is none that
--- leaves white on black as it is
+-- players may differ at a sequence of colours: not all its numbers are common, or one is omitted and it is not a
+-- sequence that leaves white on black as it is
 abbrev pub parts_at : Bool → Bool → ColourSequence → Bool
 parts_at are_common is_grey colours =
     not are_common || (colours.omits && not (is_grey && list_all (λ n. n == 0) colours.numbers.now))

@@ -28,7 +28,7 @@ abbrev pub IsSameWhereCleared : Size → List ℕ → Type 0
 IsSameWhereCleared z content = (agreed : Difference → Bool) → IsSame agreed z all_known content
     → IsSame agreed z none_known content
 
--- So is what is good from the cleared start, behind the mending.
+-- So is the mending followed by any content that is good from the cleared start.
 abbrev pub MendedIsSameWhereCleared : Type 0
 MendedIsSameWhereCleared = (z : Size) (content : List ℕ) → IsGood z all_known content
     → IsSameWhereCleared z (mending ++ content)

@@ -60,8 +60,8 @@ struct AgreedWalk<'a> {
 }
 
 impl AgreedWalk<'_> {
-    /// Whether both plays stand alike: the same kinds arise in both from here on. A saved place counts if
-    /// something is restored, which is of a kind itself.
+    /// Whether both plays are alike: the same kinds arise in both from here on. A saved place counts if
+    /// something is restored, which is itself of a kind.
     fn stand_alike(&self) -> bool
         ensures { IsTrue result → PlaysAlike self.now }
     {
@@ -140,9 +140,9 @@ impl Walker for AgreedWalk<'_> {
     }
 }
 
-/// Whether no kinds but those that are used arise in a content that is read as tokens, from a state with
-/// this pen in which players are in sync, where none arises from the cleared start. It reads no further than
-/// to the first other kind, or to where the two plays stand alike.
+/// Whether only kinds that are used arise in a content that is read as tokens, from a state with this pen in
+/// which players are in sync, if no others arise from the cleared start. It reads no further than to the first
+/// other kind, or to where the two plays are alike.
 fn has_only_agreed_from(size: Size, pen: Pen, used: &KindsUsed, content: &[u8]) -> bool
     requires length { length content.now ≤ longest_file }
     requires stands { StandsOn size pen }

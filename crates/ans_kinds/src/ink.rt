@@ -78,7 +78,7 @@ macro_rules! other {
 
 const NOTHING: Effect = other!(0xFF, 0x00);
 
-/// What each number from 0 on does. Those behind the last do nothing.
+/// What each number from 0 on does. Those after the last one do nothing.
 const EFFECTS: &[Effect; 48] = &[
     common!(0x00, 0x07, true), // 0
     common!(0xFF, 0x08, false), // 1
@@ -149,9 +149,9 @@ fn effect_of(number: u8) -> Effect
 /// Where the numbers of a colour sequence lead, and what they are like.
 #[derive(Clone, Copy)]
 pub struct Inked {
-    /// The attribute behind them.
+    /// The attribute after them.
     pub attribute: u8,
-    /// The colours that are named behind them.
+    /// The colours that are named after them.
     pub names: Names,
     /// Whether all players take each of them alike.
     pub are_common: bool,

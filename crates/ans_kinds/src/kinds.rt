@@ -1,4 +1,4 @@
-//! In which kinds players part that a content makes use of.
+//! The kinds in which players differ that arise in a content.
 
 ghost use Rattle.std.specs.Prelude.{◌≡◌, ◌↔◌, ◌≤◌, ◌<◌, ◌+◌, ◌++◌, ℕ, List, IsTrue, None, length};
 ghost use Rattle.std.specs.List.{list_all, list_any};
@@ -33,7 +33,7 @@ use arrayvec::ArrayVec;
 /// The number of own colours, the last of the kinds.
 const OWN_COLOURS: usize = 12;
 
-/// Whether players may part at a sequence of colours.
+/// Whether players may differ at a sequence of colours.
 #[inline(always)]
 fn parts_at(are_common: bool, is_grey: bool, colours: &ColourSequence<'_>) -> bool
     ensures { result ≡ parts_at are_common is_grey colours.now }
@@ -41,7 +41,7 @@ fn parts_at(are_common: bool, is_grey: bool, colours: &ColourSequence<'_>) -> bo
     !are_common || (colours.omits && !(is_grey && are_zero(colours.numbers)))
 }
 
-/// How often each kind in which players part arises in a content, and where first.
+/// How often each kind in which players differ arises in a content, and where first.
 #[derive(Debug, Clone, Copy, PartialEq, Eq)]
 pub struct KindsUsed {
     // by the kinds' numbers
@@ -110,7 +110,7 @@ impl KindsUsed {
             && (!situations.unnamed || self.times[OWN_COLOURS].is_some())
     }
 
-    /// Whether the kind of a sequence of colours arises, if players may part at it.
+    /// Whether the kind of a sequence of colours arises, if players may differ at it.
     #[inline(always)]
     pub(crate) fn have_colours(
         &self,
@@ -136,7 +136,7 @@ impl KindsUsed {
         }
     }
 
-    /// One time more of DOS colours if players may part at a sequence of colours: not all its numbers are
+    /// One time more of DOS colours if players may differ at a sequence of colours: not all its numbers are
     /// common, or one is omitted, and then they are not all 0 in white on black.
     #[inline(always)]
     pub fn count_colours(&mut self, is_grey: bool, are_common: bool, colours: &ColourSequence<'_>)
@@ -173,7 +173,7 @@ impl KindsUsed {
         self.count_kind(unless(unless(unless(unnamed, other), own), unsure), offset);
     }
 
-    /// Own colours arise at each of so many bytes from this offset on, or nothing does.
+    /// Own colours arise at each of this many bytes from this offset on, or nothing does.
     #[inline(always)]
     pub fn count_run(&mut self, is_unnamed: bool, more: usize, offset: usize)
         requires room { offset + more ≤ longest_file }
@@ -216,7 +216,7 @@ pub struct KindsWalk<'a> {
     pub moves_rows: bool,
 }
 
-/// The bytes of the content from an offset to those that stand behind.
+/// The bytes of the content from an offset up to those of `behind`, at its end.
 #[inline(always)]
 pub fn text_at<'a>(content: &'a [u8], start: usize, behind: &[u8]) -> &'a [u8]
     ensures { (before text : List ℕ) → content.now ≡ before ++ (text ++ behind.now)
@@ -303,9 +303,9 @@ impl<'a> KindsWalk<'a> {
     }
 }
 
-/// The kinds in which players part that a content makes use of, in the play from the cleared start:
-/// how often each arises, and where first. Where the content does not pass from there, nothing is
-/// promised. It reads the bytes once, and takes no memory.
+/// The kinds in which players differ that arise in a content, in the play from the cleared start: how
+/// often each arises, and where first. If the content does not pass from there, nothing is promised.
+/// It reads the bytes once, and takes no memory.
 pub fn kinds_used(size: Size, content: &[u8]) -> KindsUsed
     requires length { length content.now ≤ longest_file }
     ensures { IsGood size all_known content.now

@@ -20,10 +20,10 @@ pub enum Players {
     /// On every player, from the starts of this class: the least such.
     Any(Start),
     /// On every player whose own white and black are those that 37 and 40 set, from the starts of this
-    /// class: the least such. No kind arises but own colours, which does so often, and there first.
+    /// class: the least such. Only own colours arise, this often, and first there.
     InNamedColours(Start, Times),
-    /// From the cleared start, on those that do as the profile does in these kinds, of which it makes use
-    /// of at least one besides own colours.
+    /// From the cleared start, on those that do as the profile does in these kinds. At least one of the
+    /// kinds that arise is not own colours.
     Agreeing(KindsUsed),
 }
 
@@ -38,7 +38,7 @@ impl Players {
         Players::by(size, needs, kinds_used(size, content), content)
     }
 
-    /// The same, from what is told of each kind: how often it arises from the cleared start, and where first.
+    /// The same, from what is said of each kind: how often it arises from the cleared start, and where first.
     pub(crate) fn by(size: Size, needs: Start, used: KindsUsed, content: &[u8]) -> Players
         requires length { length content.now ≤ longest_file }
         requires needs { IsLeast size content.now needs }
@@ -56,10 +56,10 @@ impl Players {
     }
 }
 
-/// Whether a content passes from every start, and from none a kind arises in which players part but those
-/// that arise from the cleared one. So it shows its picture from every start on each player that does as the
-/// profile does in these. `needs` is the least class of starts from which it passes. It takes no memory, and
-/// reads the bytes at most six times.
+/// Whether a content passes from every start, and no kind in which players differ arises from any start unless
+/// it arises from the cleared one. So it shows its picture from every start on each player that does as the
+/// profile does in these kinds. `needs` is the least class of starts from which it passes. It takes no memory,
+/// and reads the bytes at most six times.
 pub fn is_same_where_cleared(size: Size, needs: Start, content: &[u8]) -> bool
     requires length { length content.now ≤ longest_file }
     requires needs { IsLeast size content.now needs }

@@ -39,7 +39,7 @@ impl Reach {
         Reach::by(size, needs, kinds.used, kinds.moves_rows, content)
     }
 
-    /// The same, from what is told of each kind, and whether some sequence moves the cursor by rows.
+    /// The same, from what is said of each kind, and whether some sequence moves the cursor by rows.
     pub fn by(size: Size, needs: Start, used: KindsUsed, has_moves: bool, content: &[u8]) -> Reach
         requires length { length content.now ≤ longest_file }
         requires needs { IsLeast size content.now needs }

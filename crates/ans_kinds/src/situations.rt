@@ -1,4 +1,4 @@
-//! In which kinds players may part at a token.
+//! The kinds in which players may differ at a token.
 
 ghost use Rattle.std.specs.Prelude.{◌≡◌, ◌==◌, ◌||◌, ◌&&◌, ◌++◌, ◌↔◌, not, IsTrue};
 ghost use Rattle.std.specs.List.{list_all, list_any};

@@ -28,7 +28,7 @@ WritesAbove z s Tab = (n : ℕ) → n < tab_blanks s.cursor.column
     → (fold (put z) s (replicate n blank)).cursor.row < z.lines
 WritesAbove z s _ = ⊤
 
--- both cursors of both plays stand on the screen
+-- both cursors of both plays are on the screen
 pub record BothStandOn (z : Size) (w : TwoCellPlays) : Type 0 where
   pub low : StandsOn z w.low.pen
   pub high : StandsOn z w.high.pen

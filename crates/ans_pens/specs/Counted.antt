@@ -13,7 +13,7 @@ counted times false offset = times
 counted None true offset = Some (record { count = 1; first = offset })
 counted (Some times) true offset = Some (record { count = times.count + 1; first = times.first })
 
--- so many times more where the test holds, the first of them at this offset
+-- this many times more if the test holds, the first of them at this offset
 abbrev pub counted_times : Option Times → Bool → ℕ → ℕ → Option Times
 counted_times times false more offset = times
 counted_times times true zero offset = times
@@ -21,7 +21,7 @@ counted_times None true (suc more) offset = Some (record { count = suc more; fir
 counted_times (Some times) true (suc more) offset =
     Some (record { count = times.count + suc more; first = times.first })
 
--- one time more at each of so many bytes where the test holds, the first of which stands at this offset
+-- one time more at each of this many bytes where the test holds, the first of them at this offset
 abbrev pub counted_along : Option Times → (ℕ → Bool) → ℕ → ℕ → Option Times
 counted_along times holds offset zero = times
 counted_along times holds offset (suc k) = counted (counted_along times holds offset k) (holds k) (offset + k)

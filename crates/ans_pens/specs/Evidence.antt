@@ -1,4 +1,4 @@
--- What the plays from the low and the high start show of a fault: where their cursors stand before its token, and the
+-- What the plays from the low and the high start show of a fault: where their cursors are before its token, and the
 -- cell in which they differ.
 use Rattle.std.specs.Prelude.{◌≡◌, ℕ, ◌+◌, Bool, true, false, ◌==◌, List, [], ◌∷◌, Option, None, Some, ⊤}
 use Rattle.ans_model.specs.Sequence.TokenKind.{TokenKind}
@@ -32,7 +32,7 @@ pub record StandsBefore (z : Size) (class : Start) (content : List ℕ) (fault :
   pub read : IsReadUpTo content fault.offset tokens rest
   pub before : IsPlayedBefore z class tokens (begins_with_tab rest) fault.cause played
 
--- before the fault the cursors of the two plays stand at these positions
+-- before the fault the cursors of the two plays are at these positions
 pub record ShowsCursors (z : Size) (class : Start) (content : List ℕ) (fault : Fault)
     (low high : Position) : Type 0 where
   pub played : List TokenKind

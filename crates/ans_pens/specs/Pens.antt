@@ -14,12 +14,12 @@ pen_of s = record { cursor = s.cursor; saved = s.saved; attribute = s.attribute;
 abbrev pub cleared_pen : Pen
 cleared_pen = pen_of (cleared (sized 0 0))
 
--- both cursors stand on the screen
+-- both cursors are on the screen
 pub record StandsOn (z : Size) (pen : Pen) : Type 0 where
   pub cursor : IsOnScreen z pen.cursor
   pub saved : IsOnScreen z pen.saved
 
--- so many columns further in its row
+-- this many columns further in its row
 abbrev pub further : Pen → ℕ → Pen
 further pen count = record pen { cursor = at pen.cursor.row (pen.cursor.column + count) }
 

@@ -37,7 +37,7 @@ IsPlayed z tokens false pen = ¬ IsClean z all_known tokens
 abbrev pub HasPlayed : ClearedPlay → List TokenKind → Bool → ClearedPlay → Type 0
 HasPlayed first tokens goes_on now = (now.size ≡ first.size) × IsPlayed first.size tokens goes_on now.pen
 
--- so many bytes that are printed next stay in their row, which is a stated one
+-- this many bytes that are printed next stay in their row, which is a stated one
 pub record StaysAbove (play : ClearedPlay) (count : ℕ) : Type 0 where
   pub above : play.pen.cursor.row < play.size.lines
   pub stays : play.pen.cursor.column + count < play.size.width
@@ -70,7 +70,7 @@ pub record HasMoved (first : Moves) (tokens : List TokenKind) (goes_on : Bool) (
       → first.high ≡ pen_of (high_start first.size class) → All PrintsByte tokens → IsClean first.size class tokens
       → MoveFreelyTo first.size class tokens goes_on now.low now.high
 
--- so many bytes that are printed next stay in the rows of both plays
+-- this many bytes that are printed next stay in the rows of both plays
 pub record StayInRows (moves : Moves) (count : ℕ) : Type 0 where
   pub low : moves.low.cursor.column + count < moves.size.width
   pub high : moves.high.cursor.column + count < moves.size.width

@@ -75,8 +75,8 @@ fn begins_with_tab(bytes: &[u8]) -> bool
     matches!(bytes, [b'\t', ..])
 }
 
-/// Where the cursor stands before a fault in the plays from the low and from the high start of a
-/// class: before the fault's token, and in a tab before the blank that decides. It takes no memory.
+/// Where the cursor is before a fault in the plays from the low and from the high start of a class:
+/// before the fault's token, and in a tab before the blank that decides. It takes no memory.
 pub fn cursors_before(
     size: Size,
     start: Start,

@@ -1,11 +1,11 @@
-//! Plays without a screen: of the cursors, the colours and wrap alone.
+//! Plays without a screen: of only the cursors, the colours and wrap.
 //!
-//! A [`pen::Pen`] is all of a state but its cells. No cell tells where a token takes it, so it goes on
-//! without them, also where the screen scrolls (`specs/Pens.antt`). Of a fault that is deserved,
+//! A [`pen::Pen`] is all of a state except its cells. Where a token takes it depends on no cell, so it goes on
+//! without them, even if the screen scrolls (`specs/Pens.antt`). For a fault that is deserved,
 //! [`cursors_before`] and [`cells_of_fault`] give what the plays from the low and the high start of a class
 //! show, with one cell of each. [`is_good`] says whether a content passes from the cleared start,
 //! [`least_lines`] with how many lines it does, and [`is_taller`] whether it plays on taller screens as on the
-//! stated one. How often something comes, and where first, is [`Times`]. Nothing here takes memory. What is
+//! stated one. [`Times`] is how often something occurs, and where first. Nothing here takes memory. What is
 //! proved of these plays is in `ans_play_laws`.
 #![tactic(auto)]
 

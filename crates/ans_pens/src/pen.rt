@@ -19,7 +19,7 @@ use ans_model::tab::tab_blanks;
 /// The first column of the first row.
 pub const HOME: Position = Position { row: 0, column: 0 };
 
-/// All of a state but its screen: where the cursor stands and where it was saved, by rows and columns
+/// All of a state except its screen: where the cursor is and where it was saved, by rows and columns
 /// from 0, the attribute as ANSI.SYS keeps it, and whether wrap is on.
 #[derive(Debug, Clone, Copy, PartialEq, Eq)]
 pub struct Pen {
@@ -51,7 +51,7 @@ impl Pen {
         columns.saturating_sub(1)
     }
 
-    /// So many bytes are printed, which take the cursor no further than to the last column.
+    /// This many bytes are printed, which take the cursor no further than to the last column.
     #[inline(always)]
     pub fn go_on(&mut self, size: Size, count: usize)
         requires stays { self.old.cursor.column + count < size.width }
@@ -95,7 +95,7 @@ impl Pen {
         }
     }
 
-    /// So many blanks are printed, at most as many as a tab prints.
+    /// This many blanks are printed, at most as many as a tab prints.
     fn blanks(&mut self, size: Size, count: usize)
         requires few { count ≤ 8 }
         requires stands { StandsOn size self.old }

@@ -27,8 +27,8 @@ pub fn moved_with(moved: bool, kind: &Kind) -> bool
     }
 }
 
-/// Whether a token is no move up or down, or one that nothing stops, where the cursors of the low and
-/// the high start stand so.
+/// Whether a token is no move up or down, or one that nothing stops, with the cursors of the plays from
+/// the low and the high start where they are.
 #[inline(always)]
 fn is_free(size: Size, low: &Pen, high: &Pen, kind: &Kind) -> bool
     requires low { StandsOn size low.now }

@@ -12,7 +12,7 @@ pub struct Times {
     pub first: usize,
 }
 
-/// One time more where it comes at this offset.
+/// One time more if it comes at this offset.
 #[inline(always)]
 pub fn count(times: &mut Option<Times>, comes: bool, offset: usize)
     requires { count_of times.old ≤ longest_file }
@@ -33,7 +33,7 @@ pub fn count(times: &mut Option<Times>, comes: bool, offset: usize)
     }
 }
 
-/// So many times more, where it comes at each byte from this offset on.
+/// This many times more, if it comes at each byte from this offset on.
 #[inline(always)]
 pub fn count_times(times: &mut Option<Times>, comes: bool, more: usize, offset: usize)
     requires { count_of times.old + more ≤ longest_file }

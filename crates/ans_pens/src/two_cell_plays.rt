@@ -51,8 +51,7 @@ impl TwoCellPlays {
         self.high.step(size, at, kind);
     }
 
-    /// Whether a byte that is printed next has a fault: the cursors differ, or stand in the spare
-    /// row.
+    /// Whether a byte that is printed next has a fault: the cursors differ, or are in the spare row.
     fn decides(&self, size: Size) -> bool
         ensures { IsTrue result ↔ (self.now.low.pen.cursor ≢ self.now.high.pen.cursor)
             ⊎ (self.now.low.pen.cursor.row ≡ size.lines) }

@@ -13,7 +13,7 @@ glyph_line offset byte = token_line offset (Glyph byte) (byte ∷ [])
 abbrev pub line_end : ℕ → ℕ → List ℕ
 line_end last byte = (48 + last) ∷ (codes " 1 glyph " ++ (hex_byte byte ++ codes "\n"))
 
--- the lines of the glyphs of a run whose first byte stands at the offset
+-- the lines of the glyphs of a run whose first byte is at the offset
 abbrev pub run_lines : ℕ → List ℕ → List ℕ
 run_lines offset run = token_lines offset (map (λ b. Glyph b) run) (map (λ b. b ∷ []) run)
 

@@ -12,7 +12,7 @@ use Rattle.ans_report.specs.declared.meanings.Help.{Help}
 use Rattle.ans_report.specs.declared.meanings.Help.TheVariants.{LeastLines, Look, Place, Record, Rows, TakeOut}
 use Rattle.ans_report.specs.declared.meanings.TheConstants.{FAULTS, NOTES}
 
--- where the row of a fault stands: there is no F18
+-- where the row of a fault is: there is no F18
 abbrev pub fault_place : Cause → ℕ
 fault_place cause = if nat_lt (cause_number cause) 18 then cause_number cause - 1 else cause_number cause - 2
 

@@ -17,7 +17,7 @@ abbrev pub IsFitting : {G : Type 0} → Report G → Type 0
 IsFitting (Pass parts start picture cells) = picture.now.size ≡ size_of parts.now
 IsFitting (Refused parts start fault) = Unit {0}
 
--- the text of a refusal; without parts it is that of the fault alone
+-- the text of a refusal; without parts it is that of just the fault
 abbrev pub refused_text : Option Parts → Start → Fault → List ℕ
 refused_text None start fault = refusal_text fault
 refused_text (Some parts) start fault = report_text (heading_of parts (Some start)) (RefusedFor fault)
@@ -35,7 +35,7 @@ pub record EndsInCells (picture : Picture) (text : List ℕ) : Type 0 where
   pub whole : text ≡ front ++ (line_of (codes "cells:") ++ digits)
   pub read_back : picture_back picture.size.width picture.size.lines digits ≡ picture.cells
 
--- the report of a pass with its cells tells them
+-- the cells of a pass can be read back from its report, if the report has them
 abbrev pub TellsCells : {G : Type 0} → Report G → Type 0
 TellsCells (Pass parts start picture true) =
     EndsInCells picture.now (report_text (heading_of parts.now (Some start)) (Passed picture.now true))

@@ -40,7 +40,7 @@ token_text t =
     line_of (decimal (start_of t)
     ++ (codes " " ++ (decimal (length_of t) ++ (codes " " ++ token_name (shown_kind (kind_of t))))))
 
--- The text of the content's tokens was put, and told is the fault that ends it unless the device has failed.
+-- The text of the content's tokens was put, and `told` is the fault that ends it unless the device has failed.
 pub record PutsTokens {W : Type 0} (contents : W → Option (List ℕ)) (old new : Outbox W) (content : List ℕ)
     (told : Option Fault) : Type 0 where
   pub fault : Option Fault

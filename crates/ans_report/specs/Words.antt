@@ -1,4 +1,4 @@
--- A word behind another.
+-- A word after another.
 use Rattle.std.specs.Prelude.{ℕ, List, ◌∷◌}
 use Rattle.std.specs.Borrow.{Bor}
 use Rattle.ans_model.specs.Bytes.{blank}

@@ -2,15 +2,15 @@
 //!
 //! Each text is put into an outbox of `ans_write`, by a call whose contract says which text it is. The
 //! four `write_` calls make an outbox of their own: at `Ok` exactly the text was appended, at `Err` a
-//! prefix of it, and `Err` comes exactly where the device failed in the call. The texts are defined in
-//! `ans_model`; which of them tells what is in `specs/ReportBytes.antt`, `specs/NeedsBytes.antt`,
-//! `specs/RecordLines.antt` and `specs/TokenLines.antt`, and that of the line that says why there is no
-//! answer in `specs/Message.antt`. What a fault or a note means stands in `src/meanings.rt`, which
+//! prefix of it, and `Err` comes exactly if the device failed in the call. The texts are defined in
+//! `ans_model`; which of them says what is in `specs/ReportBytes.antt`, `specs/NeedsBytes.antt`,
+//! `specs/RecordLines.antt` and `specs/TokenLines.antt`, and the line that says why there is no answer is
+//! in `specs/Message.antt`. What a fault or a note means is in `src/meanings.rt`, which
 //! `specs/Meanings.antt` cites.
 //!
-//! The text of `why` (`ans_why`) is put by some of the same lines. How bytes are quoted stands in `specs/Quoted.antt`,
-//! and how many there are of a thing, and how often it comes, in `specs/Counted.antt`. Two lines of what was changed of
-//! a file, which `mend` and `redraw` share, stand in `specs/Changes.antt`.
+//! The text of `why` (`ans_why`) has some of the same lines. How bytes are quoted is in `specs/Quoted.antt`, and how
+//! many there are of a thing, and how often it comes, in `specs/Counted.antt`. Two lines that report changes to a file,
+//! which `mend` and `redraw` share, are in `specs/Changes.antt`.
 #![tactic(auto)]
 
 mod changes;

@@ -26,7 +26,7 @@ pub fn put_quoted_byte<W: Write>(out: &mut Outbox<'_, W>, byte: u8)
     }
 }
 
-/// Puts all of the bytes, quoted, one behind the other.
+/// Puts all of the bytes, quoted, one after the other.
 pub fn put_quoted_bytes<W: Write>(out: &mut Outbox<'_, W>, bytes: &[u8])
     ensures { Puts W.contents out.old out.new (flat_map quoted_byte bytes.now) }
 {

@@ -56,9 +56,9 @@ pub fn put_record<W: Write>(out: &mut Outbox<'_, W>, parts: &Parts<'_>)
 
 /// Writes what the record says (SAUCE 00.5, record layout): its title, author, group and date, the
 /// stated size in columns and lines, the flags as two hexadecimal digits, the font, the stated file
-/// size in bytes, how many comments there are, the comments, and the notes on the record. Each
-/// stands on a line of its own. Texts come without their trailing blanks and zero bytes, each byte
-/// by its character.
+/// size in bytes, how many comments there are, the comments, and the notes on the record. Each is on
+/// a line of its own. Texts come without their trailing blanks and zero bytes, each byte by its
+/// character.
 ///
 /// `Err` comes exactly where the device failed in the call, and then a prefix of the text was
 /// written.

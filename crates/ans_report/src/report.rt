@@ -109,7 +109,7 @@ pub fn write_report<W: Write, G: Screen>(
     out.finish()
 }
 
-/// Writes the two lines of a refusal alone.
+/// Writes just the two lines of a refusal.
 ///
 /// `Err` comes exactly where the device failed in the call, and then a prefix of them was written.
 pub fn write_refusal<W: Write>(w: &mut Tried<W>, f: &Fault) -> Result<(), WriteFault>

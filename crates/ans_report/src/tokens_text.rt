@@ -101,7 +101,7 @@ fn put_rest<W: Write>(out: &mut Outbox<'_, W>, length: usize, kind: &Kind)
     out.put(b"\n");
 }
 
-/// Ten offsets that differ in their last digit only, and what stands before it: nothing below 10, and
+/// Ten offsets that differ only in their last digit, and what comes before it: nothing below 10, and
 /// the digits of the tens from there on.
 #[derive(Drop)]
 struct Tens {

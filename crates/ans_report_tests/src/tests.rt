@@ -37,7 +37,7 @@ static SOME_KNOWN: [(Start, &str); 10] = [
     ),
 ];
 
-/// A file of 127 bytes is refused so, and this is all that is told of it.
+/// A file of 127 bytes is refused so, and this is all that is said of it.
 const NO_RECORD: Fault = Fault {
     offset: 127,
     cause: Cause::NoRecord,

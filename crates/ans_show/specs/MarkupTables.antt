@@ -6,11 +6,11 @@ use Rattle.ans_show.specs.declared.short_text.ShortText.{ShortText}
 use Rattle.ans_show.specs.Markups.{break_in, character_in}
 use Rattle.ans_show.specs.ShortTexts.{short_bytes}
 
--- at each byte stands its text
+-- the entry at each byte is its text
 abbrev pub IsTableOf : {N : ℕ} → (ℕ → List ℕ) → List (ShortText N) → Type 0
 IsTableOf {N} text table = (b : ℕ) (d : ShortText N) → b < 256 → short_bytes (slice_index_or table b d) ≡ text b
 
--- cells behind one of the attribute `last`: where another attribute comes, a run ends and another begins
+-- cells after one of the attribute `last`: where another attribute comes, a run ends and another begins
 abbrev pub cells_shown : Markup → ℕ → List Cell → List ℕ
 cells_shown markup last [] = []
 cells_shown markup last (c ∷ cells) =

@@ -61,20 +61,20 @@ background_style =
     ++ (codes ".b8{background:#555}.b9{background:#55f}.b10{background:#5f5}.b11{background:#5ff}\n"
     ++ codes ".b12{background:#f55}.b13{background:#f5f}.b14{background:#ff5}.b15{background:#fff}\n"))
 
--- what blinks, unless the reader wants no motion
+-- what blinks, unless the reader prefers no motion
 abbrev pub blink_style : List ℕ
 blink_style =
     codes ".k{animation:k 1s step-end infinite}\n@keyframes k{50%{color:transparent}}\n"
     ++ codes "@media (prefers-reduced-motion:reduce){.k{animation:none}}\n"
 
--- between the title and the first line, which stands right behind `<pre>`
+-- between the title and the first line, which directly follows `<pre>`
 unfoldable pub page_style : List ℕ
 page_style =
     codes "</title>\n<style>\nbody{background:#000}\n"
     ++ (codes "pre{margin:0;font-family:monospace;line-height:1;color:#aaa}\n"
     ++ (foreground_style ++ (background_style ++ (blink_style ++ codes "</style>\n</head>\n<body>\n<pre>"))))
 
--- behind the last line
+-- after the last line
 unfoldable pub page_end : List ℕ
 page_end = codes "</pre>\n</body>\n</html>\n"
 

@@ -11,7 +11,7 @@ pub record Run : Type 0 where
 abbrev pub run : ℕ → List ℕ → Run
 run attribute bytes = record { attribute = attribute; bytes = bytes }
 
--- a cell in front of runs: it joins the first one where that has its attribute
+-- a cell put before runs: it joins the first one if that has its attribute
 abbrev pub joined : Cell → List Run → List Run
 joined c [] = run c.attribute (c.byte ∷ []) ∷ []
 joined c (r ∷ more) =

@@ -52,11 +52,11 @@ vga_colours =
 abbrev pub vga_colour : ℕ → Triple
 vga_colour colour = slice_index_or vga_colours colour (0, 0, 0)
 
--- a parameter behind another
+-- a parameter after another
 abbrev pub parameter : ℕ → List ℕ
 parameter n = semicolon ∷ decimal n
 
--- a colour that is mixed, behind 38 for a foreground and 48 for a background
+-- a colour that is mixed, after 38 for a foreground and 48 for a background
 abbrev pub mixed : ℕ → Triple → List ℕ
 mixed n (red, green, blue) = parameter n ++ (parameter 2 ++ (parameter red ++ (parameter green ++ parameter blue)))
 
@@ -81,7 +81,7 @@ colours_text vga l =
 abbrev pub run_text : Bool → Bool → Run → List ℕ
 run_text vga non_blink r = colours_text vga (look_of non_blink r.attribute) ++ shown_bytes r.bytes
 
--- a line's end, behind which nothing is coloured
+-- a line's end, after which nothing is coloured
 abbrev pub terminal_line_end : List ℕ
 terminal_line_end = escape ∷ codes "[0m\n"
 

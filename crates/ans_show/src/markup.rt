@@ -9,7 +9,7 @@ pub(crate) enum Markup {
     Page { non_blink: bool },
 }
 
-/// What stands behind each run.
+/// What comes after each run.
 pub(crate) fn run_end(markup: Markup) -> &'static [u8]
     ensures { result.now ≡ run_end_in markup }
 {
@@ -19,7 +19,7 @@ pub(crate) fn run_end(markup: Markup) -> &'static [u8]
     }
 }
 
-/// What stands behind the characters of a line's last run.
+/// What comes after the characters of a line's last run.
 pub(crate) fn line_end(markup: Markup) -> &'static [u8]
     ensures { result.now ≡ run_end_in markup ++ end_in markup }
 {

@@ -20,7 +20,7 @@ use std::io::Write;
 /// How many bytes are written for a cell at most: 48 where a run begins, and 8 for a character.
 pub(crate) const CELL: usize = 48 + 8;
 
-/// What stands where a run begins.
+/// What is written where a run begins.
 pub(crate) type Break = ShortText<48>;
 
 /// A character, or its name on a page.
@@ -29,7 +29,7 @@ type Character = ShortText<8>;
 /// What no attribute is.
 const NO_ATTRIBUTE: usize = 256;
 
-/// What is written where a run begins behind another, by its attribute, and the character of each
+/// What is written where a run begins after another, by its attribute, and the character of each
 /// byte.
 #[derive(Drop)]
 pub(crate) struct MarkupTables {
@@ -57,8 +57,8 @@ impl MarkupTables {
         }
     }
 
-    /// Writes to a text from `end` on what stands before a cell, behind one of the attribute `last`,
-    /// and returns where that ends.
+    /// Writes to a text from `end` on what comes before a cell, after one of the attribute `last`, and
+    /// returns where that ends.
     #[inline(always)]
     fn write_break(&self, last: usize, attribute: u8, text: &mut [u8], end: usize) -> usize
         requires { end + 48 ≤ length text.old }
@@ -84,8 +84,8 @@ impl MarkupTables {
         self.characters[byte as usize].write_to(text, end)
     }
 
-    /// Writes the cells of a row to the start of a text, and returns where they end. Each run begins
-    /// as if another stood before it, the first too; behind the last nothing is written.
+    /// Writes the cells of a row to the start of a text, and returns where they end. Each run, even the
+    /// first, begins as if another came before it; after the last nothing is written.
     pub(crate) fn write_row(&self, bytes: &[u8], attributes: &[u8], text: &mut [u8]) -> usize
         requires same { length attributes.now ≡ length bytes.now }
         requires room { 56 * length bytes.now ≤ length text.old }

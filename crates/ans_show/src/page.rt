@@ -77,7 +77,7 @@ pub(crate) fn span_break(attribute: u8, non_blink: bool) -> Break
 const START: &[u8] =
     b"<!DOCTYPE html>\n<html lang=\"en\">\n<head>\n<meta charset=\"utf-8\">\n<title>";
 
-/// What stands between the title and the picture.
+/// What comes between the title and the picture.
 const STYLE: &[u8] = b"</title>\n<style>\nbody{background:#000}\n\
     pre{margin:0;font-family:monospace;line-height:1;color:#aaa}\n\
     .f0{color:#000}.f1{color:#00a}.f2{color:#0a0}.f3{color:#0aa}\n\
@@ -92,7 +92,7 @@ const STYLE: &[u8] = b"</title>\n<style>\nbody{background:#000}\n\
     @media (prefers-reduced-motion:reduce){.k{animation:none}}\n\
     </style>\n</head>\n<body>\n<pre>";
 
-/// What stands behind the picture.
+/// What comes after the picture.
 const END: &[u8] = b"</pre>\n</body>\n</html>\n";
 
 /// Puts the title, by the tables of a page.
@@ -110,8 +110,8 @@ fn put_title<W: Write>(out: &mut Outbox<'_, W>, title: &[u8], tables: &MarkupTab
 /// Puts the picture as a page, a whole document that loads nothing and has no script: one `pre` with
 /// a span for each longest run of cells with one attribute. The classes of a span are `f` and the
 /// number of the foreground, `b` and the number of the background, and `k` where it blinks. The bytes
-/// of the title are shown by their characters; an empty one is told as `ANSI drawing`. An attribute's
-/// bit 7 is blink, or, where the record's non-blink flag is set, a bright background.
+/// of the title are shown by their characters; an empty one becomes `ANSI drawing`. An attribute's bit
+/// 7 is blink, or, if the record's non-blink flag is set, a bright background.
 #[inline(never)]
 pub fn put_page<W: Write, G: Screen>(
     out: &mut Outbox<'_, W>,

@@ -22,7 +22,7 @@ impl<const N: usize> ShortText<N> {
         }
     }
 
-    /// This text and another behind it.
+    /// This text and another after it.
     pub(crate) fn then(self, text: &[u8]) -> ShortText<N>
         requires { length (short_bytes self) + length text.now ≤ N }
         ensures { short_bytes result ≡ short_bytes self.entry ++ text.now }
@@ -34,7 +34,7 @@ impl<const N: usize> ShortText<N> {
         ShortText { bytes, count }
     }
 
-    /// Four texts, one behind the other.
+    /// Four texts, one after the other.
     pub(crate) fn joined(first: &[u8], second: &[u8], third: &[u8], fourth: &[u8]) -> ShortText<N>
         requires { length first.now + length second.now + length third.now + length fourth.now ≤ N }
         ensures { short_bytes result ≡ first.now ++ (second.now ++ (third.now ++ fourth.now)) }
@@ -46,7 +46,7 @@ impl<const N: usize> ShortText<N> {
             .then(fourth)
     }
 
-    /// Writes this text to a longer one from `end` on, and returns where it ends there. What is behind
+    /// Writes this text to a longer one from `end` on, and returns where it ends there. What comes after
     /// it is written over next.
     #[inline(always)]
     pub(crate) fn write_to(&self, text: &mut [u8], end: usize) -> usize

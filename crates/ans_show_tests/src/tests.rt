@@ -81,7 +81,7 @@ fn a_terminal_shows_the_colours(rt: HostRuntime) -> Result<(), Fail> {
 const START: &str =
     "<!DOCTYPE html>\n<html lang=\"en\">\n<head>\n<meta charset=\"utf-8\">\n<title>";
 
-/// What stands between the title and the picture, with the colours by their numbers.
+/// What comes between the title and the picture, with the colours by their numbers.
 macro_rules! style {
     ($([$($number:literal $colour:literal)+])+) => {
         concat!(
@@ -103,7 +103,7 @@ const STYLE: &str = style! {
     [12 "f55" 13 "f5f" 14 "ff5" 15 "fff"]
 };
 
-/// What stands behind the picture.
+/// What comes after the picture.
 const END: &str = "</pre>\n</body>\n</html>\n";
 
 /// The width, the lines, a content, the title, whether blink is off, and the title and the picture on

@@ -47,8 +47,8 @@ fn put(rt: &impl Abort, content: &mut [u8], at: usize, bytes: &[u8]) {
     content[at..at + bytes.len()].copy_from_slice(bytes);
 }
 
-/// A sequence stands across the end of the first 4096 bytes, and one across the end of the next; the bytes
-/// about them are returns. The prefixes end before, in and behind these sequences.
+/// One sequence crosses the end of the first 4096 bytes, and another the end of the next 4096; the bytes
+/// around them are returns. The prefixes end before, in and after these sequences.
 #[test]
 fn two_sequences_cross_three_pieces(rt: HostRuntime) -> Result<(), AllocError> {
     let mut content = [b'\r'; 8195];

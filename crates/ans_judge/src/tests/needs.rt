@@ -50,9 +50,9 @@ fn faults_from_all(
     Ok(faults)
 }
 
-/// Judges what a file of these bytes needs. A class that is told is one from which the bytes are
-/// good, and so they are from exactly the classes that know all that it knows. A fault that is told is
-/// that of the cleared start, and the bytes are good from no class.
+/// Judges what a file of these bytes needs. If the answer is a class, the bytes are good from it, and from
+/// exactly the classes that know all that it knows. If the answer is a fault, it is that of the cleared
+/// start, and the bytes are good from no class.
 fn judge_needs<G: Grid>(
     rt: &impl Abort,
     alloc: Global,

@@ -70,7 +70,7 @@ fn print(rt: &impl Abort, machine: &mut Machine, bytes: &[u8]) {
     }
 }
 
-/// A line of glyphs wraps at once: after the last column the cursor stands in the row below.
+/// A line of glyphs wraps at once: after the last column the cursor is in the row below.
 #[test]
 fn wrap_is_immediate(rt: HostRuntime) -> Result<(), AllocError> {
     let mut machine = Machine::low(rt.alloc(), Size::new(2, 1), Start::CLEARED)?;

@@ -47,7 +47,7 @@ impl SlowMachine {
         })
     }
 
-    /// Where the two cursors stand.
+    /// Where the two cursors are.
     pub fn cursors(&self) -> (Position, Position) {
         (self.low.cursor(), self.high.cursor())
     }
@@ -79,8 +79,8 @@ impl SlowMachine {
         None
     }
 
-    /// Plays the token that the bytes begin with after those that are played, and tells whether there
-    /// is one without a fault.
+    /// Plays the token that comes after the bytes played so far, and returns whether there is one without
+    /// a fault.
     fn play_next(&mut self, rt: &impl Abort, bytes: &[u8]) -> bool {
         assert!(rt; self.played <= bytes.len());
         let cause = match read_front(&bytes[self.played..]) {
@@ -137,8 +137,8 @@ impl SlowMachine {
         None
     }
 
-    /// What the bytes, of which there are so many, are: good, and then both screens begin with these
-    /// cells of the stated lines, or refused for this fault.
+    /// What the bytes, of this length, are: good, and then both screens begin with these cells of the
+    /// stated lines, or refused for this fault.
     pub fn finding(&self, rt: &impl Abort, length: usize) -> Result<&[Cell], Fault> {
         if let Some(fault) = self.fault {
             return Err(fault);

@@ -1,4 +1,4 @@
-//! The faults of a step: for each of them, what two plays show where they stand before the step.
+//! The faults of a step: for each of them, what the two plays show before the step.
 
 use super::slow_machine::SlowMachine;
 use ans_model::fault::Cause;
@@ -31,7 +31,7 @@ fn places_outside(plays: &SlowMachine, step: &Kind) -> bool {
     }
 }
 
-/// F20: a byte is printed where both cursors stand at one place, in the spare row.
+/// F20: a byte is printed where both cursors are at the same place, in the spare row.
 fn prints_below(plays: &SlowMachine, step: &Kind) -> bool {
     let (low, high) = plays.cursors();
     matches!(step, Kind::Glyph(_)) && low == high && low.row == plays.lines
@@ -74,7 +74,7 @@ const CAUSES: [Cause; 9] = [
     Cause::MayScroll,
 ];
 
-/// Whether the two plays, as they stand before a step, show this fault of it.
+/// Whether the two plays, as they are before a step, show this fault of it.
 fn shows(plays: &SlowMachine, step: &Kind, cause: Cause) -> bool {
     match cause {
         Cause::KeyReassigned => reassigns_key(step),

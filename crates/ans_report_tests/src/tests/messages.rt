@@ -18,7 +18,7 @@ fn a_message_is_a_line(rt: HostRuntime) {
     }
 }
 
-/// A try tells a line that is another, and a failure that is kept back.
+/// A try notices a wrong line, and a failure that is kept back.
 #[test]
 fn a_wrong_writing_is_told(rt: HostRuntime) {
     assert!(rt; !puts(b"anscheck: no\n", |out| put_message(out, "on")));

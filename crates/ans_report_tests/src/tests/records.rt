@@ -5,7 +5,7 @@ use ans_samples::records::Edits;
 use ans_samples::{sample_file, writes};
 use std::test::Fail;
 
-/// The fields that are changed, and the text of the record, behind `Hi`, an end mark and one comment.
+/// The fields that are changed, and the text of the record that follows `Hi`, an end mark and one comment.
 static RECORDS: [(Edits, &str); 2] = [
     (
         &[(7, b"Test"), (42, b"Ann"), (104, b"\x01\x01IBM VGA")],

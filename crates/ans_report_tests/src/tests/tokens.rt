@@ -101,7 +101,7 @@ fn a_failed_device_is_not_called_again(rt: HostRuntime) -> Result<(), Fail> {
     Ok(())
 }
 
-/// A writer that takes one byte a call, and holds the last line alone.
+/// A writer that takes one byte a call, and holds only the last line.
 #[derive(Drop)]
 struct LastLine {
     held: [u8; 32],

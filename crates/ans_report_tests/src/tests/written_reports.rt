@@ -106,7 +106,7 @@ fn a_refusal_without_parts_is_two_lines(rt: HostRuntime) {
     );
 }
 
-/// A row of the bytes that print and may stand in a content: all but BEL, BS, TAB, LF, CR, SUB and
+/// A row of the bytes that print and may occur in a content: all except BEL, BS, TAB, LF, CR, SUB and
 /// ESC, by Unicode's table of code page 437 and the IBM glyphs; then its cells.
 const ALL_GLYPHS: &str = "size: 249 x 1\n\
     start: cleared\n\
