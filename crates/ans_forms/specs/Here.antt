@@ -31,7 +31,7 @@ pub record IsTokenHere (left : List ℕ) (long : ℕ) (reassigns : Bool) : Type 
   pub long_is : long ≡ length text
   pub keys : reassigns ≡ is_keys token
 
--- what goes is what is left, up to what stands behind its form
+-- what goes is what is left, up to the end of its form
 pub record IsForm (before : Before) (left : List ℕ) (place : ℕ) (going : Going) : Type 0 where
   pub text : List ℕ
   pub rest : List ℕ

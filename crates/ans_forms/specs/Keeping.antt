@@ -30,7 +30,7 @@ pub record StopsAtFirst (before : Before) (front : Front) (now : Keeping) : Type
   pub length_is : now.length ≡ length text
   pub keys : now.is_keys ≡ is_keys token
 
--- over the front, which stands behind what is told, a walk goes on or stops
+-- a walk over the front, which comes after what `before` describes, goes on or stops
 abbrev pub HasKept : Before → Front → Keeping → Bool → Type 0
 HasKept before front now true = AllKept before front now
 HasKept before front now false = StopsAtFirst before front now

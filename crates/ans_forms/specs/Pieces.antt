@@ -33,12 +33,12 @@ allows (Either one other) b = b == one || b == other
 allows MusicLetter b = b == 0x4D || b == 0x4E || b == 0x7C
 allows _ b = false
 
--- what stands behind the first byte, where it is allowed
+-- what comes after the first byte, if that byte is allowed
 abbrev pub behind_byte : FormPiece → List ℕ → Option (List ℕ)
 behind_byte piece [] = None
 behind_byte piece (first ∷ rest) = if allows piece first then Some rest else None
 
--- what stands behind the digits, or the notes, that the bytes begin with
+-- what comes after the digits, or the notes, that the bytes begin with
 abbrev pub behind_digits : List ℕ → Option (List ℕ)
 behind_digits bytes =
     if count_front is_digit bytes == 0 then None else Some (drop (count_front is_digit bytes) bytes)
@@ -47,12 +47,12 @@ abbrev pub behind_notes : List ℕ → Option (List ℕ)
 behind_notes bytes =
     if nat_lt 250 (count_front is_note bytes) then None else Some (drop (count_front is_note bytes) bytes)
 
--- what stands behind the mark, if the bytes begin with one
+-- what comes after the mark, if the bytes begin with one
 abbrev pub behind_mark : List ℕ → List ℕ
 behind_mark [] = []
 behind_mark (first ∷ rest) = if is_mark_byte first then rest else first ∷ rest
 
--- what stands behind a piece that the bytes begin with
+-- what comes after a piece that the bytes begin with
 abbrev pub behind_piece : FormPiece → List ℕ → Option (List ℕ)
 behind_piece Digits bytes = behind_digits bytes
 behind_piece Notes bytes = behind_notes bytes
@@ -60,7 +60,7 @@ behind_piece Mark bytes = Some (behind_mark bytes)
 behind_piece Parameters bytes = Some (drop (count_front is_parameter bytes) bytes)
 behind_piece piece bytes = behind_byte piece bytes
 
--- what stands behind the pieces, one after the other, where the bytes begin with them
+-- what comes after the pieces, if the bytes begin with them, one after the other
 abbrev pub behind_form : List FormPiece → List ℕ → Option (List ℕ)
 behind_form [] bytes = Some bytes
 behind_form (piece ∷ more) bytes = option_and_then (behind_form more) (behind_piece piece bytes)

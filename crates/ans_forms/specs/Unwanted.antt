@@ -1,4 +1,4 @@
--- Sequences that are taken out of a drawing, by their bytes and by what stands before them.
+-- Sequences that are taken out of a drawing, by their bytes and by what comes before them.
 use Rattle.std.specs.Prelude.{◌≡◌, ℕ, Bool, true, false, not, ◌||◌, IsTrue, List, [], ◌∷◌, ◌++◌, fold, length, ◌<◌}
 use Rattle.std.specs.Prelude.{Option, Some, None, if◌then◌else◌}
 use Rattle.std.specs.List.{AllZip, concat, list_all, list_any}
@@ -16,7 +16,7 @@ use Rattle.ans_forms.specs.declared.pieces.TheConstants.{BLINK_SWITCH, MODE, FON
 use Rattle.ans_forms.specs.declared.pieces.TheConstants.{STATUS_REPORT, CURSOR_REPORT, TERMINAL_REPORT}
 use Rattle.ans_forms.specs.declared.pieces.TheConstants.{TERMINAL_REPORT_0}
 
--- ---- what stands before
+-- ---- what comes before
 
 -- the token prints, clears or erases
 abbrev pub shows : TokenKind → Bool
@@ -42,7 +42,7 @@ before_with before t = record { is_shown = before.is_shown || shows t; is_colour
 abbrev pub before_after : Before → List TokenKind → Before
 before_after before tokens = fold before_with before tokens
 
--- with a sequence of this kind that is taken out: behind a 24-bit colour another may stand
+-- with a sequence of this kind that is taken out: a 24-bit colour may be followed by another
 abbrev pub before_behind : Before → Unwanted → Before
 before_behind before kind = record { is_shown = before.is_shown; is_coloured = is_true_colour kind }
 
@@ -64,7 +64,7 @@ pub record BeginsStaying (bytes : List ℕ) : Type 0 where
   pub spelled : SpellsToken token text
   pub stays : IsTrue (stays token)
 
--- What may be taken out here: a mode before anything shows, a 24-bit colour directly behind a colour, and all others
+-- What may be taken out here: a mode before anything shows, a 24-bit colour directly after a colour, and all others
 -- anywhere.
 abbrev pub may_go : Before → Unwanted → Bool
 may_go before unwanted.Mode = not before.is_shown
@@ -96,16 +96,16 @@ forms =
     ∷ form_entry unwanted.Report TERMINAL_REPORT_0
     ∷ []
 
--- what stands behind the form, where it may go here and the bytes begin with it
+-- what comes after the form, if it may go here and the bytes begin with it
 abbrev pub behind_going : Before → List ℕ → FormEntry → Option (List ℕ)
 behind_going before bytes form = if may_go before form.kind then behind_form form.pieces bytes else None
 
--- this kind and what stands behind it, if there is some, and else the other
+-- this kind and what comes after it, if there is some, and otherwise the other
 abbrev pub kind_or : Unwanted → Option (List ℕ) → Option (Unwanted × List ℕ) → Option (Unwanted × List ℕ)
 kind_or kind (Some rest) other = Some (kind, rest)
 kind_or kind None other = other
 
--- the kind of the first of these forms that may go here and with which the bytes begin, and what stands behind it
+-- the kind of the first of these forms that may go here and with which the bytes begin, and what comes after it
 abbrev pub first_form : Before → List ℕ → List FormEntry → Option (Unwanted × List ℕ)
 first_form before bytes [] = None
 first_form before bytes (form ∷ more) =
@@ -134,7 +134,7 @@ pub record AllStay (tokens : List TokenKind) (texts : List (List ℕ)) : Type 0 
   pub each : AllZip SpellsToken tokens texts
   pub stay : IsTrue (list_all stays tokens)
 
--- Behind tokens that stay, and are kept, comes a text of this kind, where no token that stays begins: it goes.
+-- After tokens that stay, and are kept, comes a text of this kind, where no token that stays begins: it goes.
 pub record GoesFirst (before : Before) (bytes kept : List ℕ) (kind : Unwanted) (text rest : List ℕ) (after : Before)
     : Type 0 where
   pub tokens : List TokenKind
@@ -146,7 +146,7 @@ pub record GoesFirst (before : Before) (bytes kept : List ℕ) (kind : Unwanted)
   pub of_kind : IsOfKind (before_after before tokens) kind text rest
   pub after_is : after ≡ before_behind (before_after before tokens) kind
 
--- what goes first is of this kind, at this place and of this length, with this before it and what is told behind it
+-- what goes first is of this kind, at this place and of this length, and `after` is what then comes before the rest
 pub record IsNextGoing (before : Before) (bytes : List ℕ) (going : Going) (after : Before) : Type 0 where
   pub kept : List ℕ
   pub text : List ℕ

@@ -20,7 +20,7 @@ pub enum Unwanted {
     FontSelection,
     /// Notes of a melody: `ESC[M`, `ESC[N` or `ESC[|`, up to the byte 0Eh.
     Music,
-    /// `ESC[0;r;g;bt` or `ESC[1;r;g;bt`, directly behind a colour.
+    /// `ESC[0;r;g;bt` or `ESC[1;r;g;bt`, directly after a colour.
     TrueColour,
     /// What the terminal is asked: `ESC[5n`, `ESC[6n`, `ESC[c` and `ESC[0c`.
     Report,
@@ -51,12 +51,12 @@ impl Unwanted {
     }
 }
 
-/// What stands before, as far as it matters.
+/// What comes before, as far as it matters.
 #[derive(Debug, Clone, Copy, PartialEq, Eq)]
 pub struct Before {
     /// Whether a token has printed, cleared or erased.
     pub is_shown: bool,
-    /// Whether a colour stands directly before: `ESC[..m`, or a colour of 24 bits that was taken out.
+    /// Whether a colour comes directly before: `ESC[..m`, or a colour of 24 bits that was taken out.
     pub is_coloured: bool,
 }
 

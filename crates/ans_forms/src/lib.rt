@@ -1,8 +1,8 @@
 //! Sequences that are known by their bytes.
 //!
-//! A form is a list of [`FormPiece`]s, and [`behind_form`] says what stands behind one. The forms that artists and
-//! their programs are known to write are constants here. [`next_unwanted`] finds, one after the other, the sequences
-//! that may be taken out of a drawing, since what is shown does not need them; which these are is defined in
+//! A form is a list of [`FormPiece`]s, and [`behind_form`] says what comes after one. The forms that artists and their
+//! programs are known to write are constants here. [`next_unwanted`] finds, one after the other, the sequences that may
+//! be taken out of a drawing, since what is shown does not need them; which these are is defined in
 //! `specs/Unwanted.antt`.
 #![tactic(auto)]
 

@@ -130,10 +130,10 @@ fn going_fault(left: &[u8], fault: &Fault, before: Before) -> Option<Going>
     })
 }
 
-/// The next sequence that goes, in bytes that stand behind what `before` tells; its place is counted from their
-/// start, and `before` then tells what stands before the byte that follows it. None where nothing goes: up to the
-/// end, or up to what is refused and is none of the kinds, or may not go there; `before` is then as it was. The
-/// bytes before it are read once, and it takes no memory.
+/// The next sequence that goes, in bytes that come after what `before` describes. Its place is counted from their
+/// start, and `before` then describes what comes before the byte that follows it. None if nothing goes: up to the end,
+/// or up to what is refused and is none of the kinds, or may not go there; `before` then stays as it was. The bytes
+/// before the sequence are read once, and no memory is needed.
 pub fn next_unwanted(bytes: &[u8], before: &mut Before) -> Option<Going>
     requires { length bytes.now ≤ longest_file }
     ensures some { IfSome result (λ going. IsNextGoing before.old bytes.now going before.new) }

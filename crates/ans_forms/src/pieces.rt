@@ -195,7 +195,7 @@ fn count_parameters(bytes: &[u8]) -> usize
     first_no_parameter(bytes).unwrap_or(bytes.len())
 }
 
-/// What stands behind the first byte, where there is one and it is allowed.
+/// What comes after the first byte, if there is one and it is allowed.
 fn behind_byte(bytes: &[u8], piece: FormPiece) -> Option<&[u8]>
     ensures { option_copied result ≡ behind_byte piece bytes.now }
 {
@@ -217,7 +217,7 @@ fn allows(piece: FormPiece, byte: u8) -> bool
     }
 }
 
-/// What stands behind the mark, where the bytes begin with one.
+/// What comes after the mark, if the bytes begin with one.
 fn behind_mark(bytes: &[u8]) -> &[u8]
     ensures { result.now ≡ behind_mark bytes.now }
 {
@@ -227,7 +227,7 @@ fn behind_mark(bytes: &[u8]) -> &[u8]
     }
 }
 
-/// What stands behind a piece, where the bytes begin with it.
+/// What comes after a piece, if the bytes begin with it.
 fn behind_piece(bytes: &[u8], piece: FormPiece) -> Option<&[u8]>
     ensures { option_copied result ≡ behind_piece piece bytes.now }
 {
@@ -249,7 +249,7 @@ fn behind_piece(bytes: &[u8], piece: FormPiece) -> Option<&[u8]>
     }
 }
 
-/// What stands behind the pieces, one after the other, where the bytes begin with them; None where they do not.
+/// What comes after the pieces, if the bytes begin with them, one after the other; None if they do not.
 pub fn behind_form<'a>(bytes: &'a [u8], pieces: &[FormPiece]) -> Option<&'a [u8]>
     ensures { option_copied result ≡ behind_form pieces.now bytes.now }
 {

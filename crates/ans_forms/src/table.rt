@@ -70,8 +70,8 @@ pub(crate) const FORMS: [SequenceForm; 12] = [
     },
 ];
 
-/// The first of these forms that may go behind what stands before and with which the bytes begin: its kind, and what
-/// stands behind it.
+/// The first of these forms with which the bytes begin and that may go after what comes before: its kind, and what
+/// comes after it.
 fn first_form<'a>(
     bytes: &'a [u8],
     before: Before,

@@ -14,7 +14,7 @@ const COLOURED: Before = Before {
     is_coloured: true,
 };
 
-/// What stands before, the bytes, what goes first, and what stands before its end then.
+/// What comes before the bytes, the bytes, what goes first, and what comes before the byte that follows it.
 struct Row {
     before: Before,
     bytes: &'static [u8],

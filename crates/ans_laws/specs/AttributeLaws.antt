@@ -60,7 +60,7 @@ pub record ParametersSetFields : Type 0 where
 abbrev pub NoneChangeNothing : Type 0
 NoneChangeNothing = (a : ℕ) → attribute_after_all a [] ≡ a
 
--- a parameter after others does what it does alone to the attribute that they give
+-- a parameter after others does to the attribute that they give what it does by itself
 abbrev pub EachAfterTheOthers : Type 0
 EachAfterTheOthers = (a p : ℕ) (others : List ℕ)
     → attribute_after_all a (others ++ p ∷ []) ≡ attribute_after (attribute_after_all a others) p

@@ -13,7 +13,7 @@ pub record OnlyCursor (s t : State) : Type 0 where
   pub attribute : t.attribute ≡ s.attribute
   pub wrap : t.wrap ≡ s.wrap
 
--- tokens that change the cursor alone
+-- tokens that change only the cursor
 abbrev pub IsMove : TokenKind → Type 0
 IsMove (Up n) = Unit {0}
 IsMove (Down n) = Unit {0}
@@ -25,7 +25,7 @@ IsMove CarriageReturn = Unit {0}
 IsMove Restore = Unit {0}
 IsMove _ = ⊥
 
--- A move, a place, a backspace, a carriage return and a restore change the cursor alone.
+-- A move, a place, a backspace, a carriage return and a restore change only the cursor.
 abbrev pub MovesChangeCursor : Type 0
 MovesChangeCursor = (z : Size) (s : State) (t : TokenKind) → IsMove t → OnlyCursor s (step z s t)
 

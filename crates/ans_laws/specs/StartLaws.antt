@@ -19,7 +19,7 @@ AllKnownIsOne = (z : Size) (s : State) → IsSize z → IsStart z all_known s �
 abbrev pub HasStarts : Start → (Size → State → Type 0) → Type 0
 HasStarts class P = (z : Size) (s : State) → IsStart z class s ↔ (IsWellFormed z s × P z s)
 
--- Where one part alone is known, the starts are the states in which it has its value on the cleared screen.
+-- If only one part is known, the starts are the states in which it has its value on the cleared screen.
 pub record OnePartIsKnown : Type 0 where
   pub screen : HasStarts (record none_known { screen = true })
       (λ z s. s.screen ≡ replicate (cell_count z) (cell 0x20 0x07))

@@ -1,5 +1,4 @@
--- Laws of a step: what each line of the table of steps changes and what it leaves. Those of the moves stand in
--- MoveLaws.
+-- Laws of a step: what each line of the table of steps changes and what it leaves. Those of the moves are in MoveLaws.
 use Rattle.std.specs.Prelude.{◌≡◌, ◌≢◌, ◌⊎◌, ℕ, ◌+◌, ◌*◌, ◌≤◌, ◌<◌, Bool, true, false, List, set, Some}
 use Rattle.std.specs.Prelude.{slice_get, take, replicate}
 use Rattle.ans_model.specs.Sequence.TokenKind.{TokenKind, PrintsByte, Glyph, Bell, LineFeed, Tab, Clear, EraseLine}
@@ -81,7 +80,7 @@ NextPosition z s next =
     ⊎ (IsLastColumn z s.cursor.column × (s.wrap ≡ true) × (next ≡ at (s.cursor.row + 1) 0))
     ⊎ (IsLastColumn z s.cursor.column × (s.wrap ≡ false) × (next ≡ s.cursor))
 
--- one cell has changed, and the cursor stands at the next position
+-- one cell has changed, and the cursor is at the next position
 pub record ChangesOneCell (z : Size) (s : State) (byte : ℕ) (t : State) : Type 0 where
   pub printed : cell_at z t.screen s.cursor ≡ Some (cell byte s.attribute)
   pub kept : (p : Position) → IsOnScreen z p → p ≢ s.cursor → cell_at z t.screen p ≡ cell_at z s.screen p
@@ -93,7 +92,7 @@ abbrev pub GlyphPrints : Type 0
 GlyphPrints = (z : Size) (s : State) (byte : ℕ) → IsWellFormed z s → ¬ PrintScrolls z s
     → ChangesOneCell z s byte (step z s (Glyph byte))
 
--- One cell has changed, then each row has moved up and the last is blank, and the cursor stands at its beginning.
+-- One cell has changed, then each row has moved up and the last is blank, and the cursor is at its beginning.
 pub record IsPrintedAndScrolled (z : Size) (s : State) (byte : ℕ) (t : State) : Type 0 where
   pub printed : (p : Position) → IsAbove p s.cursor → cell_at z t.screen p ≡ Some (cell byte s.attribute)
   pub rows : (p : Position) → IsOnScreen z p → p.row < z.lines → ¬ IsAbove p s.cursor

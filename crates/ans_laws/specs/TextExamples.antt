@@ -95,7 +95,7 @@ heading_with size start content_length expected =
 abbrev pub esc : List ℕ → List ℕ
 esc text = escape ∷ text
 
--- the content begins with a sequence that is refused so, and its text is that line alone
+-- the content begins with a sequence that is refused so, and its text is only that line
 abbrev pub IsRefusedAs : List ℕ → Cause → List ℕ → Type 0
 IsRefusedAs sequence cause said =
     TokensText (esc sequence) (Some (fault_at 0 cause)) (codes "at 0: " ++ (said ++ codes "\n"))

@@ -1,4 +1,4 @@
-//! What guards the definitions: no product crate stands on this one.
+//! What guards the definitions: no product crate depends on this one.
 //!
 //! Each function here has no body: its contract is what is proved of the definitions of `ans_model`.
 #![tactic(auto)]

@@ -12,13 +12,13 @@ pub fn classes_are_their_starts()
     ensures cleared { AllKnownIsOne }
 {}
 
-/// Where one part alone is known, it has its value on the cleared screen, and the others have any.
+/// If only one part is known, it has its value on the cleared screen, and the others have any.
 pub fn parts_are_what_they_say()
     ensures { OnePartIsKnown }
 {}
 
-/// Where the known parts of two classes are known together, the starts are those of both classes.
-/// So each class has the starts that its known parts alone have in common.
+/// If the known parts of two classes are known together, the starts are those that both classes have. So each class has
+/// the starts that its known parts, each by itself, have in common.
 pub fn parts_are_known_together()
     ensures { KnownPartsTogether }
 {}

@@ -10,7 +10,7 @@ ghost use Rattle.ans_laws.specs.StepLaws.{GlyphScrolls, GoodNeverScrolls, IdleCh
 ghost use Rattle.ans_laws.specs.StepLaws.{LineFeedMovesDown, LineFeedScrolls, PrintsBlanks};
 ghost use Rattle.ans_laws.specs.StepLaws.{SavesCursor, StepsAreWellFormed, WrapChangesWrap};
 
-/// Moves change the cursor alone.
+/// Moves change only the cursor.
 pub fn moves_change_the_cursor()
     ensures { MovesChangeCursor }
 {}

@@ -1,4 +1,4 @@
--- A play whose cursor stands at one position: where it stands, and the attribute, are kept beside it as a brush.
+-- A play whose cursor is at one position: that position and the attribute are kept beside it as a brush.
 use Rattle.std.specs.Prelude.{◌≡◌, ◌==◌, ◌+◌, ◌*◌, ◌≤◌, ◌<◌, ℕ, List, [], ◌∷◌, true, false, length, take}
 use Rattle.std.specs.Prelude.{if◌then◌else◌}
 use Rattle.std.specs.Char.{is_ascii_alphabetic}
@@ -25,7 +25,7 @@ with_brush p b = record p {
   };
 }
 
--- the brush stands on the screen, and what is known of its attribute are bits of a byte
+-- the brush is on the screen, and what is known of its attribute are bits of a byte
 pub record IsBrush (z : Size) (b : Brush) : Type 0 where
   pub on_screen : IsOnScreen z b.position
   pub attribute : IsByte b.attribute.value
@@ -50,7 +50,7 @@ few_numbers read =
     else (if read.semicolons == 0 then read.last ∷ [] else read.previous ∷ read.last ∷ [])
 
 -- There are numbers which the first bytes spell with the letter. The reader keeps the last two of them, how many
--- semicolons stand between them, and the attribute after all but the last as colours.
+-- semicolons are between them, and the attribute after all but the last as colours.
 pub record IsReadFront (bytes : List ℕ) (attribute : KnownBits) (read : ReadSequence) : Type 0 where
   pub numbers : List ℕ
   pub some : 3 ≤ read.end
@@ -59,7 +59,7 @@ pub record IsReadFront (bytes : List ℕ) (attribute : KnownBits) (read : ReadSe
   pub few : read.semicolons ≤ 1 → few_numbers read ≡ numbers
   pub coloured : known_after read.coloured read.last ≡ known_after_all attribute (colour_numbers numbers)
 
--- A reader has come to an index behind `[` or a semicolon. There are numbers whose members the bytes before it spell.
+-- A reader has come to an index after `[` or a semicolon. There are numbers whose members the bytes before it spell.
 pub record IsReading (bytes : List ℕ) (attribute : KnownBits) (semicolons at previous : ℕ)
     (coloured : KnownBits) : Type 0 where
   pub numbers : List ℕ

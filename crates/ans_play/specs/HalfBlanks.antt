@@ -24,7 +24,7 @@ end_of_blanks z On p n = index z p + n
 end_of_blanks z Off p n = min (index z p + n) (next_row_start z p)
 end_of_blanks z Unknown p n = index z p + n
 
--- where the cursor may stand after them
+-- where the cursor may be after them
 abbrev pub after_blanks : Size → WrapMode → Position → ℕ → Span
 after_blanks z On p n = one_position ((index z p + n) / z.width) ((index z p + n) % z.width)
 after_blanks z Off p n = one_position p.row (min (p.column + n) (z.width - 1))

@@ -16,7 +16,7 @@ abbrev pub start_cell : Bool → HalfCell
 start_cell known =
     if known then half_cell (Some blank) (known_bits 0xFF 0x07) else half_cell None (known_bits 0x00 0x00)
 
--- where a cursor stands: at the top left, if it is known, and else anywhere
+-- where a cursor is: at the top left if it is known, and otherwise anywhere
 abbrev pub start_span : Size → Bool → Span
 start_span z known = if known then one_position 0 0 else span (at 0 0) (at z.lines (z.width - 1))
 

@@ -10,8 +10,8 @@ use Rattle.ans_play.specs.declared.span.Span.{Span}
 use Rattle.ans_play.specs.declared.wrap.WrapMode.{WrapMode}
 use Rattle.ans_play.specs.declared.wrap.WrapMode.TheVariants.{On, Off, Unknown}
 
--- the cells in row order, where the cursor and the saved cursor may stand, what is known of the current attribute and
--- of wrap
+-- the cells in row order, where the cursor and the saved cursor may be, what is known of the current attribute and of
+-- wrap
 pub record HalfState : Type 0 where
   pub screen : List HalfCell
   pub cursor : Span

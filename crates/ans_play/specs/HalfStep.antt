@@ -30,14 +30,14 @@ after_move z t s = span (destination z t s.low) (destination z t s.high)
 abbrev pub one_row_down : Span → Span
 one_row_down s = span (at (s.low.row + 1) s.low.column) (at (s.high.row + 1) s.high.column)
 
--- Where the cursor may stand after a byte in the last column. Where wrap is unknown it is there or in the next row's
--- first.
+-- Where the cursor may be after a byte in the last column. If wrap is unknown, it is there or in the next row's first
+-- column.
 abbrev pub after_last_column : Size → WrapMode → Position → Span
 after_last_column z On p = one_position (p.row + 1) 0
 after_last_column z Off p = one_position p.row p.column
 after_last_column z Unknown p = span (at p.row 0) (at (p.row + 1) (z.width - 1))
 
--- where the cursor may stand after a byte at one position
+-- where the cursor may be after a byte at one position
 abbrev pub after_print : Size → WrapMode → Position → Span
 after_print z wrap p =
     if nat_lt (p.column + 1) z.width then one_position p.row (p.column + 1) else after_last_column z wrap p

@@ -24,7 +24,7 @@ Plays old new t result = MatchResult result
     (λ _. (half_fault old.size old.state t ≡ None) × (new ≡ after_token old t))
     (λ cause. (half_fault old.size old.state t ≡ Some cause) × (new ≡ old))
 
--- The token shows no fault and its half step is made, or it shows the fault, which stands at its first byte, and
+-- The token shows no fault and its half step is made, or it shows the fault, which is at the token's first byte, and
 -- nothing changes.
 abbrev pub PlaysToken : PlayView → PlayView → Token → Result (Unit {0}) Fault → Type 0
 PlaysToken old new token result =
@@ -42,13 +42,12 @@ PlaysMeant old new (Err cause) = ⊥
 abbrev pub PlaysLetter : PlayView → PlayView → ℕ → List ℕ → Type 0
 PlaysLetter old new letter numbers = PlaysMeant old new (meaning (plain_sequence Unmarked numbers false letter))
 
--- This many columns stand between the cursor and its row's last one where a glyph is printed, and none where it is
--- refused.
+-- This many columns are between the cursor and its row's last one if a glyph is printed, and none if it is refused.
 pub record AreFree (p : PlayView) (columns : ℕ) : Type 0 where
   pub printed : (byte : ℕ) → half_fault p.size p.state (Glyph byte) ≡ None →
       p.state.cursor.low.column + columns + 1 ≡ p.size.width
   pub refused : (byte : ℕ) (cause : Cause) → half_fault p.size p.state (Glyph byte) ≡ Some cause → columns ≡ 0
 
--- A run is as long as may be: all glyphs that stand in front, up to the last column.
+-- A run is as long as it can be: all glyphs that the bytes begin with, up to the last column.
 abbrev pub IsLongestRun : PlayView → List ℕ → ℕ → Type 0
 IsLongestRun p bytes count = (columns : ℕ) → AreFree p columns → IsGlyphFront (take columns bytes) count

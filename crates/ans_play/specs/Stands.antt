@@ -33,7 +33,7 @@ pub record IsPlayed (z : Size) (class : Start) (bytes : List ℕ) (scanner : Sca
   pub clean : IsClean z class so_far.tokens
   pub known : IsKnownAfter z class so_far.tokens h
 
--- A player without a fault stands where the bytes fed have brought it. One with a fault has their first.
+-- A player without a fault is where the bytes fed have brought it. One with a fault has their first.
 pub record Stands (p : PlayerView) (bytes : List ℕ) : Type 0 where
   pub fed : p.fault ≡ None → p.fed ≡ length bytes
   pub played : p.fault ≡ None → IsPlayed p.size p.start bytes p.scanner p.state
@@ -67,8 +67,8 @@ pub record Repeats (old new : PlayerView) (result : Result (Unit {0}) Fault) (f 
   pub again : result ≡ Err f
   pub unchanged : new ≡ old
 
--- After the bytes s a piece is fed: the player stands at all of them, an error is their first fault, and without one
--- they have none.
+-- After the bytes s a piece is fed: the player is where all of them bring it, an error is their first fault, and
+-- without one they have none.
 pub record Feeds (old : PlayerView) (s piece : List ℕ) (new : PlayerView)
     (result : Result (Unit {0}) Fault) : Type 0 where
   pub stands : Stands new (s ++ piece)
@@ -94,8 +94,8 @@ pub record GoesOn (old : PlayView) (bytes : List ℕ) (new : PlayView) : Type 0 
   pub played : (class : Start) (s : List ℕ) → IsPlayed old.size class s old.scanner old.state
       → IsPlayed old.size class (s ++ bytes) new.scanner new.state
 
--- The bytes are whole tokens, and are played before the scanner is taken over them: wherever it stands between two
--- tokens, the play has gone on over them once the scanner has.
+-- The bytes are whole tokens, and are played before the scanner is taken over them: wherever it is between two tokens,
+-- the play has gone on over them once the scanner has.
 pub record PlaysWholeTokens (old : PlayView) (bytes : List ℕ) (new : PlayView) : Type 0 where
   pub scanner : new.scanner ≡ old.scanner
   pub played : (s : ScannerView) → IsBetweenTokens s

@@ -208,8 +208,7 @@ impl<G: Screen> Play<G> {
         count
     }
 
-    /// Plays those tokens wherever the cursor may stand, up to one that a brush may play. The scanner
-    /// stays.
+    /// Plays those tokens wherever the cursor may be, up to one that a brush may play. The scanner stays.
     #[inline(never)]
     fn advance_span(&mut self, bytes: &[u8]) -> usize
         ensures within { result ≤ length bytes.now }
@@ -301,9 +300,8 @@ impl<G: Screen> Play<G> {
         }
     }
 
-    /// Prints the glyphs that the bytes begin with, as far as they stand in the cursor's row before
-    /// its last column, and returns how many they are: as many as there are. It prints none where a
-    /// glyph is refused. The scanner stays.
+    /// Prints all the glyphs that the bytes begin with, as far as they are in the cursor's row before its last column,
+    /// and returns how many they are. It prints none if a glyph is refused. The scanner stays.
     fn print_run(&mut self, bytes: &[u8]) -> usize
         ensures within { result ≤ length bytes.now }
         ensures printed { PlaysWholeTokens self.old (take result bytes.now) self.new }
@@ -320,8 +318,8 @@ impl<G: Screen> Play<G> {
         count
     }
 
-    /// Prints a byte at the cursor, which then goes on. It is refused where the cursor is not known
-    /// to stand at one position of the stated lines.
+    /// Prints a byte at the cursor, which then goes on. It is refused if the cursor is not known to be at one position
+    /// of the stated lines.
     fn print(&mut self, byte: u8) -> Result<(), Cause>
         ensures { Plays self.old self.new (Glyph byte) result }
     {
@@ -335,8 +333,7 @@ impl<G: Screen> Play<G> {
         Ok(())
     }
 
-    /// How many columns stand between the cursor and its row's last one, where a glyph is printed;
-    /// none where it is refused.
+    /// How many columns are between the cursor and its row's last one if a glyph is printed; none if it is refused.
     fn columns_before_last(&self) -> usize
         ensures { AreFree self.now result }
     {

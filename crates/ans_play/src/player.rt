@@ -59,10 +59,9 @@ impl<G: Screen> Player<G> {
     ghost use Rattle.ans_model.specs.declared.fault.Fault.{Fault};
     ghost use Rattle.ans_play.specs.Stands.{IsNew, IsFed, IsStopped, Repeats, SamePlay, Stands, Feeds, Finishes};
 
-    /// A player from the starts of a class on a grid that is there already, to which nothing is fed
-    /// yet. It has the grid's columns, 1 to 1024, and as many lines as the grid has rows but for the
-    /// last one, 1 to 8192. Each cell is set to the start's, whatever the grid held. It asks for no
-    /// memory.
+    /// A player from the starts of a class on a grid that is there already, to which nothing is fed yet. It has the
+    /// grid's columns, 1 to 1024, and one line fewer than it has rows, 1 to 8192. Each cell is set to the start's,
+    /// whatever the grid held. It asks for no memory.
     pub fn on(grid: G, start: Start) -> Player<G>
         requires some_columns { 1 ≤ G.width_of grid }
         requires columns { G.width_of grid ≤ most_columns }

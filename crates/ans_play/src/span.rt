@@ -1,4 +1,4 @@
-//! Where a cursor may stand.
+//! Where a cursor may be.
 
 ghost use Rattle.std.specs.Prelude.{◌≡◌, ◌<◌};
 ghost use Rattle.ans_model.specs.Inside.ShownKind.{shown_kind};
@@ -8,8 +8,8 @@ use ans_model::destination::destination;
 use ans_model::kind::Kind;
 use ans_model::size::Size;
 
-/// A lowest and a highest row and column. The cursor of every play stands between them, and in each
-/// direction that of some play at either end.
+/// A lowest and a highest row and column. The cursor of every play is between them, and in each direction that of some
+/// play is at either end.
 #[derive(Clone, Copy)]
 pub struct Span {
     pub low: Position,
@@ -48,7 +48,7 @@ impl Span {
         }
     }
 
-    /// Whether the cursor of every play stands at one position.
+    /// Whether the cursor of every play is at one position.
     pub fn is_one_position(self) -> bool
         ensures { result ≡ is_one_position self }
     {

@@ -39,7 +39,7 @@ impl WrapMode {
         }
     }
 
-    /// Where the cursor may stand after a byte printed at one position of the stated lines.
+    /// Where the cursor may be after a byte printed at one position of the stated lines.
     pub fn after_print(self, position: Position, size: Size) -> Span
         requires { IsStated size position }
         ensures after_print { result ≡ after_print size self position }
@@ -62,9 +62,9 @@ impl WrapMode {
         }
     }
 
-    /// Where the cursor may stand after a run of blanks printed from one position of the stated lines.
-    /// An error is the fault of the first of them that has one: F20 where it stands in the spare row,
-    /// F22 where wrap is unknown and the row has ended.
+    /// Where the cursor may be after a run of blanks printed from one position of the stated lines. An error is the
+    /// fault of the first of them that has one: F20 if it is in the spare row, F22 if wrap is unknown and the row has
+    /// ended.
     pub fn after_blanks(self, position: Position, blanks: usize, size: Size) -> Result<Span, Cause>
         requires stated { IsStated size position }
         requires some { 1 ≤ blanks }

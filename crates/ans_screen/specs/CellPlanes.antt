@@ -36,7 +36,7 @@ IsFirstGap glyphs_known bits_known to result =
     MatchOption result (AreKnown glyphs_known bits_known to)
     (λ i. (i < to) × AreKnown glyphs_known bits_known i × (AreKnown glyphs_known bits_known (i + 1) → ⊥))
 
--- the bytes of a plane that are held, and zeros behind them
+-- the bytes of a plane that are held, and zeros after them
 abbrev pub with_zeros : List ℕ → ℕ → List ℕ
 with_zeros bytes zeros = bytes ++ replicate zeros 0
 

@@ -11,7 +11,7 @@ use Rattle.ans_screen.specs.declared.cell.CellByte.{CellByte}
 use Rattle.ans_screen.specs.declared.cell.CellByte.TheVariants.{Glyph, Attribute}
 use Rattle.ans_screen.specs.declared.row_planes.RowState.{RowState}
 
--- how a cell stands in the planes: not at all, in the two of glyphs and of values, or in all four
+-- how a cell is held in the planes: not at all, in the two of glyphs and of values, or in all four
 pub data CellState : Type 0 where
   Stale : CellState
   Known : CellState
@@ -106,7 +106,7 @@ pub record ShowsSame (old new : Planes) : Type 0 where
   pub width : new.width ≡ old.width
   pub rows : new.rows ≡ old.rows
 
--- the grids differ in bytes of the planes alone
+-- the grids differ only in bytes of the planes
 pub record SameRows (old new : Planes) : Type 0 where
   pub held : new.held ≡ old.held
   pub round : new.round ≡ old.round
@@ -148,7 +148,7 @@ pub record HasRow (old new : Planes) (i : ℕ) (row : RowState) : Type 0 where
   pub shown : SameShown old new
   pub known : SameKnown old new
 
--- all is the same but for the round and the blank
+-- all is the same except for the round and the blank
 pub record BeginsRound (old new : Planes) (r : ℕ) (cell : HalfCell) : Type 0 where
   pub held : new.held ≡ old.held
   pub round : new.round ≡ r

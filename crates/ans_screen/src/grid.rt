@@ -12,8 +12,8 @@ use crate::attr::Attr;
 use crate::cell::HalfCell;
 use std::alloc::{AllocError, Global};
 
-/// Cells in row order: cell `i` stands in row `i / width` and column `i % width`, counted from 0.
-/// What goes by row and column has a default over the calls that go by cells.
+/// Cells in row order: cell `i` is in row `i / width` and column `i % width`, counted from 0. The calls that go
+/// by row and column have defaults, which use those that go by cells.
 pub trait Grid: Sized + Drop {
     ghost width_of: { Self → ℕ };
 

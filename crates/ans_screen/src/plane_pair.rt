@@ -12,8 +12,7 @@ use std::alloc::{AllocError, Global};
 /// How many bytes more of each plane are held at the least, as far as it goes.
 const STEP: usize = 0x10000;
 
-/// A plane of glyphs and one of attributes. Of both the same number of bytes is held, and each
-/// byte behind them is 00h.
+/// A plane of glyphs and one of attributes. The same number of bytes of each is held, and each byte after them is 00h.
 #[derive(Drop)]
 pub(crate) struct PlanePair {
     glyphs: Vec<u8>,
@@ -47,7 +46,7 @@ impl PlanePair {
         })
     }
 
-    /// Holds the bytes before `to`, and 16 behind them as far as the planes go.
+    /// Holds the bytes before `to`, and 16 after them as far as the planes go.
     #[cold]
     #[inline(never)]
     fn hold(&mut self, to: usize)

@@ -176,7 +176,7 @@ fn is_known_chunk(glyphs_known: u8x32, bits_known: u8x32) -> bool
     known.simd_ne(u8x32::splat(0xFF)).to_bitmask() == 0
 }
 
-/// How many cells stand in the known chunks at the front, each of 32 cells below `to`.
+/// How many cells the leading known chunks have, each of 32 cells below `to`.
 fn known_chunks(glyphs_known: &[u8], bits_known: &[u8], to: usize) -> usize
     requires glyphs_known { to ≤ length glyphs_known.now }
     requires bits_known { to ≤ length bits_known.now }

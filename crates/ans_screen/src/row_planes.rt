@@ -23,7 +23,7 @@ pub(crate) struct RowState {
     pub(crate) known: bool,
     /// The first cell that is held, by its index in the grid.
     pub(crate) first: usize,
-    /// The cell behind the last one that is held.
+    /// The cell after the last one that is held.
     pub(crate) end: usize,
 }
 

@@ -1,4 +1,4 @@
-//! Half-known cells that stand somewhere already, so that no memory is asked for.
+//! Half-known cells in memory that is there already, so that none is asked for.
 
 ghost use Rattle.std.specs.Prelude.{◌≡◌, ℕ, ◌+◌, ◌*◌, ◌^◌, ◌<◌, ◌≤◌, List, length, map, take};
 ghost use Rattle.std.specs.Prelude.{replicate, slice_get, Some};
@@ -11,8 +11,8 @@ use crate::attr::Attr;
 use crate::cell::HalfCell;
 use crate::grid::Grid;
 
-/// Cells in row order, wherever their memory comes from: cell `i` stands in row `i / width` and column
-/// `i % width`, counted from 0. Every [`Grid`] is one, and so is a grid whose memory is lent.
+/// Cells in row order, wherever their memory comes from: cell `i` is in row `i / width` and column `i % width`, counted
+/// from 0. Every [`Grid`] is one, and so is a grid whose memory is lent.
 pub trait Screen: Sized + Drop {
     ghost width_of: { Self → ℕ };
 

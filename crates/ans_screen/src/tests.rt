@@ -94,7 +94,7 @@ fn edits_a_plane_grid(rt: HostRuntime) -> Result<(), Fail> {
     edit_a_row::<PlaneGrid>(&rt, rt.alloc())
 }
 
-/// 65 cells, known but for one, in both grids, before and after their front is filled.
+/// 65 cells, all known except for one, in both grids, before and after the first of them are filled.
 fn compare_grids(
     rt: &impl Abort,
     alloc: Global,
@@ -186,8 +186,8 @@ fn cell_of(content: Content) -> HalfCell {
     }
 }
 
-/// What is done to a grid of 3 rows of 33 cells. A run stands in a row from a column on, has a
-/// count of bytes, and the attribute of such a cell.
+/// What is done to a grid of 3 rows of 33 cells. A run goes into a row from a column on, and has a count of bytes and
+/// the attribute of such a cell.
 #[derive(Debug, Clone, Copy)]
 enum Edit {
     Clear(Content),

@@ -1,4 +1,4 @@
--- Bytes that are printed as they stand, one token each.
+-- Bytes that are printed as they are, one token each.
 use Rattle.std.specs.Prelude.{◌≡◌, ◌||◌, ◌==◌, ℕ, ◌+◌, ◌≤◌, Bool, not, nat_lt, List, [], ◌∷◌, length, take, slice_get}
 use Rattle.std.specs.Prelude.{All}
 use Rattle.std.specs.Prelude.{Some, None}
@@ -7,7 +7,7 @@ use Rattle.ans_model.specs.Sequence.Reads.{SpellsToken}
 use Rattle.ans_tokens.specs.ScannerView.{ScannerView, Nothing}
 use Rattle.ans_tokens.specs.Walk.{is_plain}
 
--- the byte alone spells the token that prints it
+-- the byte by itself spells the token that prints it
 abbrev pub IsGlyphByte : ℕ → Type 0
 IsGlyphByte b = SpellsToken (Glyph b) (b ∷ [])
 

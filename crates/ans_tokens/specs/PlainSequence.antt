@@ -12,7 +12,7 @@ use Rattle.ans_model.specs.Inside.ShownKind.{shown_kind}
 use Rattle.ans_model.specs.declared.fault.Cause.{Cause}
 use Rattle.ans_model.specs.declared.kind.Kind.{Kind}
 
--- just these numbers where no string was among the members, and else a string alone
+-- just these numbers if there was no string among the members, and otherwise just a string
 abbrev pub plain_members : List ℕ → Bool → List Member
 plain_members numbers false = map Number numbers
 plain_members numbers true = Quoted double_quote [] ∷ []
@@ -22,7 +22,7 @@ abbrev pub plain_sequence : Mark → List ℕ → Bool → ℕ → Raw
 plain_sequence mark numbers quoted letter =
     record { mark = mark; members = plain_members numbers quoted; letter = letter }
 
--- the letter stands with neither a mark nor a string
+-- the letter takes neither a mark nor a string
 abbrev pub TakesNumbersAlone : ℕ → Type 0
 TakesNumbersAlone letter =
     IsTrue (has_a_meaning (plain_sequence Unmarked [] false letter) && not (is_one_of (codes "hlp") letter))

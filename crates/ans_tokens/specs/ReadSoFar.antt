@@ -1,4 +1,4 @@
--- Where a reader stands in the bytes.
+-- Where a reader is in the bytes.
 use Rattle.std.specs.Prelude.{◌≡◌, List, ℕ, ◌++◌, length, None}
 use Rattle.ans_model.specs.Sequence.TokenKind.{TokenKind}
 use Rattle.ans_model.specs.Sequence.Reads.{Reads}

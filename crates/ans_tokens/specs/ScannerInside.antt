@@ -25,8 +25,8 @@ IsBegun held = kept_of held ≢ Nothing
 abbrev pub shown_scanner : Inside → ScannerView
 shown_scanner s = scanner_view s.offset s.open_offset (kept_of s.open_part) s.fault
 
--- the open part begins, and the fault stands, within the bytes that it has taken; where nothing is kept, there is no
--- byte since the last token
+-- the open part begins, and the fault is, within the bytes that it has taken; if nothing is kept, there is no byte
+-- since the last token
 pub record IsWithin (s : ScannerView) : Type 0 where
   pub open_part : s.open_offset ≤ s.offset
   pub empty : s.kept ≡ Nothing → s.open_offset ≡ s.offset

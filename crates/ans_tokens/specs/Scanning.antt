@@ -23,7 +23,7 @@ TakesBytes old (b ∷ bytes) tokens new =
 abbrev pub kinds_of : List Token → List TokenKind
 kinds_of tokens = map (λ t. shown_kind (kind_of t)) tokens
 
--- the bytes of a token, where the first of all bytes stands at this offset
+-- the bytes of a token, where the first of all bytes is at this offset
 abbrev pub text_of : ℕ → List ℕ → Token → List ℕ
 text_of offset bytes t = take (length_of t) (drop (start_of t - offset) bytes)
 

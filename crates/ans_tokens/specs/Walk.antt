@@ -16,7 +16,7 @@ use Rattle.ans_tokens.specs.Token.{kind_of, start_of, length_of}
 use Rattle.ans_tokens.specs.declared.colours.ColourSequence.{ColourSequence}
 use Rattle.ans_tokens.specs.declared.token.Token.{Token}
 
--- a front of a content: its tokens, the text of each, and the bytes behind them
+-- a front of a content: its tokens, the text of each, and the bytes after them
 pub record Front : Type 0 where
   pub tokens : List TokenKind
   pub texts : List (List ℕ)
@@ -29,8 +29,7 @@ front_of tokens texts behind = record { tokens = tokens; texts = texts; behind =
 abbrev pub no_front : List ℕ → Front
 no_front content = front_of [] [] content
 
--- the token comes next: its text stands behind the front, whose tokens have their texts, and these bytes stand behind
--- it
+-- the token comes next: its text follows the front, whose tokens have their texts, and these bytes follow it
 pub record IsNext (front : Front) (token : Token) (text behind : List ℕ) : Type 0 where
   pub each : AllZip SpellsToken front.tokens front.texts
   pub whole : front.behind ≡ text ++ behind
@@ -38,7 +37,7 @@ pub record IsNext (front : Front) (token : Token) (text behind : List ℕ) : Typ
   pub starts : start_of token ≡ length (concat front.texts)
   pub long : length_of token ≡ length text
 
--- The colour sequence comes next: its text stands behind the front, and these bytes stand behind it.
+-- The colour sequence comes next: its text follows the front, and these bytes follow it.
 pub record AreColoursNext (front : Front) (colours : ColourSequence) (text behind : List ℕ) : Type 0 where
   pub each : AllZip SpellsToken front.tokens front.texts
   pub whole : front.behind ≡ text ++ behind
@@ -92,7 +91,7 @@ front_past front [] behind = front
 front_past front (byte ∷ run) behind =
     front_past (front_with front (Glyph byte) (byte ∷ []) (run ++ behind)) run behind
 
--- A walker that stays as it is has been over so many plain bytes too.
+-- A walker that stays as it is has been over that many plain bytes too.
 abbrev pub StaysPast : {W : Type 0} → (W → Front → W → Bool → Type 0) → W → ℕ → Type 0
 StaysPast {W} walked now count =
     (first : W) (front : Front) (offset : ℕ) (run behind : List ℕ) → length run ≡ count
@@ -112,7 +111,7 @@ pub record BeginsRefused (bytes : List ℕ) (cause : Cause) : Type 0 where
 abbrev pub HasNoReading : List ℕ → Cause → Type 0
 HasNoReading bytes cause = BeginsRefused bytes cause ⊎ (IsUnfinished bytes × (cause ≡ EndInSequence))
 
--- what is left has no reading, and the fault stands where it begins
+-- what is left has no reading, and the fault is where it begins
 pub record IsFaultAt (offset : ℕ) (bytes : List ℕ) (fault : Fault) : Type 0 where
   pub offset_is : fault.offset ≡ offset
   pub unread : HasNoReading bytes fault.cause
@@ -127,8 +126,8 @@ pub record Walks {W : Type 0} (walked : W → Front → W → Bool → Type 0) (
   pub behind : front.behind ≡ left ++ drop end content
   pub over : walked first front now goes_on
 
--- Nothing is left where the walker went on to the end, something may be left where it stopped, and a fault stands where
--- the reading refuses what is left.
+-- Nothing is left if the walker went on to the end, something may be left if it stopped, and a fault is where the
+-- reading refuses what is left.
 abbrev pub WalksTo : {W : Type 0} → (W → Front → W → Bool → Type 0) → List ℕ → ℕ → W → W → Result Bool Fault → Type 0
 WalksTo walked content end first now (Ok true) = Walks walked content end [] first now true
 WalksTo walked content end first now (Ok false) = (left : List ℕ) × Walks walked content end left first now false

@@ -45,7 +45,7 @@ pub record IsTokenFront (bytes : List ℕ) (token : TokenKind) (count : ℕ) : T
   pub within : count ≤ length bytes
   pub spelled : SpellsToken token (take count bytes)
 
--- the bytes begin with the token, which stands at this offset
+-- the bytes begin with the token, which is at this offset
 pub record IsTokenAt (offset : ℕ) (bytes : List ℕ) (token : Token) : Type 0 where
   pub front : IsTokenFront bytes (shown_kind (kind_of token)) (length_of token)
   pub starts : start_of token ≡ offset

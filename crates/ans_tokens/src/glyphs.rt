@@ -1,4 +1,4 @@
-//! Bytes that are printed as they stand, one token each.
+//! Bytes that are printed as they are, one token each.
 
 ghost use Rattle.std.specs.Prelude.{◌≡◌, ◌+◌, ◌<◌, ◌≤◌, ◌↔◌, ℕ, IsTrue, false, All, length, map, take, slice_index_or};
 ghost use Rattle.std.specs.Simd.Lanes.{mask_l};
@@ -20,7 +20,7 @@ fn low_bytes(bytes: u8x16) -> u64
     bytes.simd_lt(u8x16::splat(0x20)).to_bitmask()
 }
 
-/// How many of the 16 bytes from `from` on stand before the first one below 20h.
+/// How many of the 16 bytes from `from` on come before the first one below 20h.
 #[inline(always)]
 fn text_of_chunk(bytes: &[u8], from: usize) -> usize
     requires { from + 16 ≤ length bytes.now }
@@ -36,8 +36,8 @@ fn text_of_chunk(bytes: &[u8], from: usize) -> usize
     }
 }
 
-/// How many of the first `most` bytes stand before the first one below 20h, as far as whole chunks of 16
-/// bytes tell. They are glyphs.
+/// How many of the first `most` bytes come before the first one below 20h, as far as whole chunks of 16 bytes show.
+/// They are glyphs.
 #[inline(always)]
 pub fn count_text(bytes: &[u8], most: usize) -> usize
     ensures most { result ≤ most }
@@ -61,8 +61,8 @@ pub fn count_text(bytes: &[u8], most: usize) -> usize
     count.min(most)
 }
 
-/// How many glyphs stand before the first byte that is none. All bytes but BEL, BS, TAB, LF, CR and
-/// ESC are glyphs (ANSI.SYS).
+/// How many glyphs come before the first byte that is not one. All bytes but BEL, BS, TAB, LF, CR and ESC are glyphs
+/// (ANSI.SYS).
 pub fn count_glyphs(bytes: &[u8]) -> usize
     ensures { IsGlyphFront bytes.now result }
 {

@@ -41,8 +41,8 @@ pub(crate) struct Step {
     pub(crate) goes_on: bool,
 }
 
-/// The token that the bytes begin with, which stands at this offset: they are taken one by one. None
-/// where there is no byte, and else a fault at the offset, F9 to F14.
+/// The token that the bytes begin with, at this offset. The bytes are taken one by one. None if there are no bytes, and
+/// a fault at the offset, F9 to F14, if they begin with no token.
 #[inline(never)]
 fn token_by_bytes(bytes: &[u8], offset: usize) -> Result<Option<Token>, Fault>
     requires { offset + length bytes.now ≤ longest_file }

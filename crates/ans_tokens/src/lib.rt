@@ -6,12 +6,11 @@
 //! [`walk`] goes over a content and hands its tokens to a [`Walker`], common ones read whole, and plain
 //! bytes at once.
 //!
-//! Other functions are for a caller that plays as it reads and makes no token. [`count_glyphs`]
-//! counts a run, and [`count_text`] one of which only the first bytes are wanted. [`read_sequence`]
-//! reads a sequence's numbers and letter, and [`number_at`] a short number within one; [`distance`],
-//! [`place`] and [`is_just`] read in the numbers what the letter takes. [`Scanner::skip`] then goes
-//! on over the bytes. The definitions stand in `ans_model`'s room `Sequence`: `Spelling`, `Meaning`
-//! and `Reads`.
+//! Other functions are for a caller that plays as it reads and makes no token. [`count_glyphs`] counts a run, and
+//! [`count_text`] one of which only the first bytes are needed. [`read_sequence`] reads a sequence's numbers and
+//! letter, and [`number_at`] a short number within one; [`distance`], [`place`] and [`is_just`] read in the numbers
+//! what the letter takes. [`Scanner::skip`] then goes on over the bytes. The definitions are in `ans_model`'s room
+//! `Sequence`: `Spelling`, `Meaning` and `Reads`.
 #![tactic(auto)]
 
 mod colours;

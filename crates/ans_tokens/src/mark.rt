@@ -1,4 +1,4 @@
-//! What may stand directly after `[`.
+//! What may come directly after `[`.
 
 ghost use Rattle.std.specs.Prelude.{◌≡◌, ◌∷◌, [], false, MatchOption};
 ghost use Rattle.ans_model.specs.Sequence.Meaning.{is_marked};

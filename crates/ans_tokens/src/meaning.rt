@@ -53,7 +53,7 @@ pub fn place(numbers: &[u8]) -> Result<(u8, u8), Cause>
     }
 }
 
-/// Whether the number stands alone.
+/// Whether the number is the only one.
 pub fn is_just(n: u8, numbers: &[u8]) -> bool
     ensures { result ≡ is_just n (map Number numbers.now) }
 {
@@ -83,7 +83,7 @@ fn only_if(taken: bool, kind: Kind) -> Result<Kind, Cause>
     }
 }
 
-/// The numbers of a sequence whose letter stands with neither a mark nor a string.
+/// The numbers of a sequence whose letter takes neither a mark nor a string.
 fn plain_numbers(mark: Mark, numbers: &[u8], quoted: bool) -> Result<&[u8], Cause>
     ensures plain { IfOk result (λ alone. (alone.now ≡ numbers.now)
         × (is_marked mark ≡ false) × (quoted ≡ false)) }
@@ -123,7 +123,7 @@ fn takes_numbers_alone(letter: u8) -> bool
     )
 }
 
-/// What a letter means that takes numbers alone, with neither a mark nor a string: any but `m`. Where it is
+/// The meaning of a letter that takes only numbers, with neither a mark nor a string: any letter but `m`. If it is
 /// refused, the cause is `UnknownSequence` or `WrongParameters`.
 #[inline(always)]
 #[tactic(auto, using(crate::proofs::PlainSequences::no_string))]

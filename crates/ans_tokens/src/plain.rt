@@ -20,7 +20,7 @@ fn stops(bytes: u8x16) -> u64
     (outside | signs | others).to_bitmask()
 }
 
-/// How many of the 16 bytes from `from` on stand before the first one that is not plain, or `@` or `|`.
+/// How many of the 16 bytes from `from` on come before the first one that is not plain, or is `@` or `|`.
 #[inline(always)]
 fn plain_of_chunk(bytes: &[u8], from: usize) -> usize
     requires { from + 16 ≤ length bytes.now }
@@ -55,8 +55,8 @@ fn begins_with_sign(bytes: &[u8]) -> bool
     }
 }
 
-/// How many of the first `most` bytes stand before the first one that is not plain, or with which a code
-/// may begin, as far as whole chunks of 16 bytes tell.
+/// How many of the first `most` bytes come before the first one that is not plain, or with which a code may begin, as
+/// far as whole chunks of 16 bytes show.
 #[inline(always)]
 fn count_plain(bytes: &[u8], most: usize) -> usize
     requires { 0 < length bytes.now }
@@ -66,7 +66,7 @@ fn count_plain(bytes: &[u8], most: usize) -> usize
     ensures codes { NoCodeBegins result bytes.now }
 {
     let mut count = 0;
-    // There is a byte behind each chunk, so a byte stands at the count, and one behind a sign.
+    // There is a byte after each chunk, so there is a byte at the count, and one after a sign.
     while count < most && bytes.len() - count > 16 {
         let plain = plain_of_chunk(bytes, count);
         count += plain;

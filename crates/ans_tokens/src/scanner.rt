@@ -144,7 +144,7 @@ impl Scanner {
         self.offset
     }
 
-    /// A fault that stands at the first byte since the last token.
+    /// A fault at the first byte since the last token.
     fn fault_of_open_part(&self, cause: Cause) -> Fault
         ensures { result ≡ fault_at self.now.open_offset cause }
     {
@@ -198,8 +198,8 @@ impl Scanner {
         }
     }
 
-    /// Whether it stands between two tokens: at the start or after a whole token, and without a
-    /// fault. Then it holds no byte since the last token.
+    /// Whether it is between two tokens: at the start or after a whole token, and without a fault. It then holds no
+    /// byte since the last token.
     pub fn is_between_tokens(&self) -> bool
         ensures between { IsTrue result ↔ IsBetweenTokens self.now }
         ensures holds { IsTrue result → Holds self.now [] }

@@ -1,4 +1,4 @@
-//! A token with where it stands.
+//! A token and where it is.
 
 ghost use Rattle.std.specs.Prelude.{◌≡◌};
 ghost use Rattle.ans_tokens.specs.Token.{kind_of, start_of, length_of};

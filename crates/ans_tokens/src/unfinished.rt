@@ -153,7 +153,7 @@ impl Unfinished {
         self.stop(byte)
     }
 
-    /// The mark that the byte is, where a mark may stand.
+    /// The mark that the byte is, if a mark may come here.
     fn mark_at(&self, byte: u8) -> Option<Mark>
         ensures { (part : Part) → IsStateOf self.now part
             → MatchOption result (IsNoMarkAt part byte) (λ mark. IsMarkAt part mark byte) }

@@ -18,17 +18,16 @@ use ans_model::fault::Fault;
 
 /// What is handed the tokens of a content one after the other.
 pub trait Walker {
-    /// It may be handed a token that stands at this offset.
+    /// It may be handed a token that is at this offset.
     ghost ready: { Self → ℕ → Type 0 };
 
     /// The first walker has been over the front and has become the second, which goes on or stops.
     ghost walked: { Self → Front → Self → Bool → Type 0 };
 
-    /// It may be handed so many plain bytes at once.
+    /// It may be handed that many plain bytes at once.
     ghost takes: { Self → ℕ → Type 0 };
 
-    /// Takes the next token, and says whether to go on. `behind` are the content's bytes behind the
-    /// token.
+    /// Takes the next token, and says whether to go on. `behind` are the content's bytes after the token.
     fn token(&mut self, token: &Token, behind: &[u8]) -> bool
         requires room { start_of token.now < longest_file }
         requires some { 0 < length_of token.now }
@@ -38,7 +37,7 @@ pub trait Walker {
             → IsNext front token.now text behind.now → walked first front self.old true → walked first
             (front_with front (shown_kind (kind_of token.now)) text behind.now) self.new result };
 
-    /// Takes a sequence of colours, as it would take its token. `behind` are the content's bytes behind it.
+    /// Takes a sequence of colours, as it would take its token. `behind` are the content's bytes after it.
     fn colours(&mut self, colours: &ColourSequence<'_>, behind: &[u8]) -> bool
         requires room { colours.now.start < longest_file }
         requires some { 0 < colours.now.length }
@@ -58,8 +57,8 @@ pub trait Walker {
     fn room(&self) -> usize
         ensures { (count : ℕ) → 0 < count → count ≤ result → takes self.now count };
 
-    /// Takes plain bytes, as it would take their tokens one after the other. The first stands at this
-    /// offset, and no letter of another system begins after the last.
+    /// Takes plain bytes, as it would take their tokens one after the other. The first is at this offset, and no letter
+    /// of another system begins after the last.
     fn take(&mut self, run: &[u8], offset: usize)
         requires room { offset + length run.now ≤ longest_file }
         requires some { 0 < length run.now }
@@ -71,10 +70,9 @@ pub trait Walker {
             → walked first (front_past front run.now behind) self.new true };
 }
 
-/// Hands a walker the tokens of the first `end` bytes of a content, one after the other, and plain bytes
-/// at once if it takes them. True where it went on up to the end, and false where it stopped before.
-/// Where the reading refuses what stands next, or the bytes end in a sequence, the fault is returned,
-/// F9 to F14.
+/// Hands a walker the tokens of the first `end` bytes of a content, one after the other, and plain bytes at once if it
+/// takes them. True if the walker went on to the end, and false if it stopped before. If the reading refuses what comes
+/// next, or the bytes end in a sequence, the fault is returned, F9 to F14.
 pub fn walk<W: Walker>(content: &[u8], end: usize, walker: &mut W) -> Result<bool, Fault>
     requires length { length content.now ≤ longest_file }
     requires end { end ≤ length content.now }

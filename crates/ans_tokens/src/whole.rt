@@ -1,8 +1,7 @@
 //! Sequences of numbers that are read whole from a slice.
 //!
-//! A reader here answers only where the whole sequence stands in the slice, and is meant for its common
-//! form. Where it declines, the bytes are left to be taken one by one, so each rarer form is decided
-//! in one place.
+//! A reader here answers only if the whole sequence is in the slice, and is meant for its common form. If it declines,
+//! the bytes are left to be taken one by one, so each rarer form is decided in one place.
 
 ghost use Rattle.std.specs.Prelude.{◌≡◌, ◌≢◌, ◌⊎◌, ◌<◌, ◌≤◌, ◌+◌, ◌++◌, ◌∷◌, [], length, take, drop, false};
 ghost use Rattle.std.specs.Prelude.{IfSome, slice_index_or};
@@ -48,8 +47,8 @@ fn read_digits(bytes: &[u8]) -> Option<(u8, usize)>
     None
 }
 
-/// The value of the digits that stand at an index of the bytes, three at most, and their count: 0 and 0
-/// where there are none. It declines where the value is above 255, or where there are more digits.
+/// The value of the digits at an index of the bytes, three at most, and their count: 0 and 0 if there are none. It
+/// declines if the value is above 255, or if there are more digits.
 #[inline(always)]
 pub fn number_at(bytes: &[u8], at: usize) -> Option<(u8, usize)>
     requires { at + 4 ≤ length bytes.now }
@@ -90,8 +89,8 @@ fn read_number(bytes: &[u8], at: usize) -> Option<(u8, usize)>
     read_digits(&bytes[at..])
 }
 
-/// Adds the number of the last member, where the letter comes next. There is no member at all where
-/// nothing stands before the letter.
+/// Adds the number of the last member, where the letter comes next. If nothing comes before the letter, there is no
+/// member at all.
 fn add_last(numbers: &mut ArrayVec<u8, MAX_PARAMETERS>, value: u8, digits: usize)
     requires { array_vec_len numbers.old < most_parameters }
     ensures none { digits ≡ 0 → numbers.old.items ≡ [] → numbers.new.items ≡ [] }
@@ -184,8 +183,8 @@ pub fn read_sequence(bytes: &[u8], numbers: &mut ArrayVec<u8, MAX_PARAMETERS>) -
     }
 }
 
-/// The token of the sequence that the bytes begin with, which stands at this offset. It declines
-/// where there is none, or it is not whole, has a string, or is refused.
+/// The token of the sequence that the bytes begin with, at this offset. It declines if there is no sequence, or if it
+/// is not whole, has a string, or is refused.
 #[inline(always)]
 pub(crate) fn whole_sequence(bytes: &[u8], start: usize) -> Option<Token>
     ensures { IfSome result (IsTokenAt start bytes.now) }

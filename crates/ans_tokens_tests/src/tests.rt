@@ -43,7 +43,7 @@ fn expect_scan(rt: &impl Abort, content: &[u8], tokens: usize, fault: Option<Fau
     assert_eq!(rt; scan(rt, content), (tokens, fault), "in {content:?}");
 }
 
-/// Contents that are refused: how many tokens stand before, the fault's offset and its cause.
+/// Contents that are refused: how many tokens come before the fault, its offset and its cause.
 const REFUSED: [(&[u8], usize, usize, Cause); 40] = [
     (b"\x1b", 0, 0, Cause::EndInSequence),
     (b"\x1b[", 0, 0, Cause::EndInSequence),
@@ -168,8 +168,8 @@ fn sequences_have_their_meanings(rt: HostRuntime) -> Result<(), Fail> {
     Ok(())
 }
 
-/// What a byte leads to: whether it ends a token, the offset after it, whether the scanner then
-/// stands between two tokens, and the fault at an end there.
+/// What a byte leads to: whether it ends a token, the offset after it, whether the scanner is then between two tokens,
+/// and the fault at an end there.
 type Step = (bool, usize, bool, Option<(usize, Cause)>);
 
 /// Bytes one after the other.
@@ -200,7 +200,7 @@ fn asking_for_the_end_changes_nothing(rt: HostRuntime) {
     take_steps(&rt, &mut Scanner::new(), 0);
 }
 
-/// Bytes that were taken as whole tokens are skipped, and the scanner goes on behind them.
+/// Bytes that were taken as whole tokens are skipped, and the scanner goes on after them.
 #[test]
 fn bytes_are_skipped(rt: HostRuntime) {
     let mut scanner = Scanner::new();

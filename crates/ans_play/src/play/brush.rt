@@ -1,4 +1,4 @@
-//! The fast steps of a play whose cursor stands at one position.
+//! The fast steps of a play whose cursor is at one position.
 
 ghost use Rattle.std.specs.Prelude.{◌≡◌, ◌<◌, ◌≤◌, ◌+◌, All, length, take, true, IsOk, IfOk, IfErr, OnOk, OnErr};
 ghost use Rattle.std.specs.Char.{is_ascii_alphabetic};
@@ -20,7 +20,7 @@ use ans_model::kind::Kind;
 use ans_screen::{Attr, HalfCell, Screen};
 use ans_tokens::{ESCAPE, count_glyphs, count_text, distance, is_just, place};
 
-/// Where the cursor stands, and the attribute. A loop that keeps them here has them in registers.
+/// Where the cursor is, and the attribute. A loop that keeps them here has them in registers.
 #[derive(Clone, Copy)]
 pub(super) struct Brush {
     position: Position,
@@ -28,7 +28,7 @@ pub(super) struct Brush {
 }
 
 impl<G: Screen> Play<G> {
-    /// The brush of a play whose cursor stands at one position.
+    /// The brush of a play whose cursor is at one position.
     #[inline(always)]
     pub(super) fn brush(&self) -> Brush
         ensures on { IsBrush self.now.size result }
@@ -69,8 +69,8 @@ impl<G: Screen> Play<G> {
         self.brush_byte(brush, bytes)
     }
 
-    /// Prints text in the cursor's row before its last column, and returns how many bytes that is, 0 in the
-    /// spare row or where no text stands.
+    /// Prints text in the cursor's row before its last column, and returns how many bytes that is: 0 in the spare row,
+    /// or if the bytes begin with no text.
     #[inline(always)]
     fn brush_run(&mut self, brush: &mut Brush, bytes: &[u8]) -> usize
         requires on { IsBrush self.old.size brush.old }
@@ -185,9 +185,9 @@ impl<G: Screen> Play<G> {
         self.brush_letter(brush, read.letter, &[read.previous, read.last])
     }
 
-    /// Plays the sequence of these numbers and this letter, where it moves or keeps the cursor, clears the
-    /// screen, or blanks the row from the cursor on. An error says that it is another one, is refused, or
-    /// takes the cursor where it may stand at several positions; then nothing changes.
+    /// Plays the sequence of these numbers and this letter, if it moves or keeps the cursor, clears the screen, or
+    /// blanks the row from the cursor on. An error says that it is another sequence, is refused, or takes the cursor to
+    /// where it may be at several positions; then nothing changes.
     #[inline(always)]
     #[tactic(auto, using(ans_tokens::proofs::PlainSequences::no_string))]
     fn brush_letter(&mut self, brush: &mut Brush, letter: u8, numbers: &[u8]) -> Result<(), Cause>

@@ -7,18 +7,18 @@ use ans_model::limits::MAX_PARAMETERS;
 use ans_screen::Attr;
 use ans_tokens::{ESCAPE, number_at};
 
-/// How many bytes the longest sequence has that is read here: `ESC [`, and for each number three digits
-/// and the byte behind them.
+/// How many bytes the longest sequence that is read here has: `ESC [`, and for each number three digits and the byte
+/// after them.
 pub(super) const LONGEST_FRONT: usize = 66;
 
 /// What is kept of a sequence.
 #[derive(Clone, Copy)]
 pub(super) struct ReadSequence {
-    /// The byte behind the numbers.
+    /// The byte after the numbers.
     pub(super) letter: u8,
-    /// The index of the byte behind that.
+    /// The index of the byte after that.
     pub(super) end: usize,
-    /// How many semicolons stand between its numbers.
+    /// How many semicolons are between its numbers.
     pub(super) semicolons: usize,
     /// The last number but one, 0 where there is none.
     pub(super) previous: u8,
@@ -28,10 +28,9 @@ pub(super) struct ReadSequence {
     pub(super) coloured: Attr,
 }
 
-/// Reads the numbers that stand behind `ESC [`, at most 16, each of three digits at most and not above
-/// 255, and the byte behind them. Where that is a letter, the bytes begin with the sequence; else they
-/// begin with none that is read here. The numbers are put into an attribute as colours while they are
-/// read, all but the last.
+/// Reads the numbers after `ESC [`, at most 16, each of three digits at most and not above 255, and the byte after
+/// them. If that is a letter, the bytes begin with the sequence; otherwise they begin with none that is read here. All
+/// numbers but the last are put into an attribute as colours while they are read.
 #[inline(always)]
 pub(super) fn read_front(bytes: &[u8], attribute: Attr) -> Option<ReadSequence>
     requires { 66 ≤ length bytes.now }

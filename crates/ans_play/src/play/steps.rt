@@ -29,7 +29,7 @@ fn known_after_all(attribute: Attr, parameters: &[u8]) -> Attr
     new
 }
 
-/// Makes the cells from a position up to and without cell `to` this one, which mostly stand in one row.
+/// Sets the cells from a position up to, but not including, cell `to` to this one. They are mostly in one row.
 fn fill_from<G: Screen>(grid: &mut G, from: Position, to: usize, cell: HalfCell)
     requires row { from.row < G.rows_of grid.old }
     requires ordered { from.row * G.width_of grid.old + from.column ≤ to }
@@ -53,7 +53,7 @@ impl<G: Screen> Play<G> {
     ghost use Rattle.ans_play.specs.HalfFault.{is_one_position, half_print_fault};
     ghost use Rattle.ans_play.specs.Plays.{Plays, PlaysLetter, PlaysToken};
 
-    /// Plays a token. A fault stands at its first byte, and then nothing changes.
+    /// Plays a token. A fault is at the token's first byte, and then nothing changes.
     pub(super) fn step(&mut self, token: &Token) -> Result<(), Fault>
         ensures { PlaysToken self.old self.new token.now result }
     {
@@ -154,8 +154,7 @@ impl<G: Screen> Play<G> {
         Ok(())
     }
 
-    /// Blanks the row from the cursor on. It is refused where the cursor is not known to stand at
-    /// one position.
+    /// Blanks the row from the cursor on. It is refused if the cursor is not known to be at one position.
     fn erase_line(&mut self) -> Result<(), Cause>
         ensures { Plays self.old self.new EraseLine result }
     {

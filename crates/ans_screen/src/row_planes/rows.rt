@@ -10,8 +10,8 @@ use super::{RowPlanes, RowState};
 use crate::cell::CellByte;
 use crate::planes::{CellBytes, first_gap};
 
-/// How many cells of a row are held at the least behind those that are written, since what is
-/// written next mostly stands there. With one cell written, one blend fills them.
+/// At least this many cells of a row are held after those that are written, since what is written next mostly goes
+/// there. With one cell written, one blend fills them.
 const AHEAD: usize = 15;
 
 #[inline(always)]
@@ -57,7 +57,7 @@ pub(crate) fn held_row<P: RowPlanes>(grid: &P, row: usize, at: usize) -> RowStat
     }
 }
 
-/// Has the four planes say of a row's cells what two do, if the two alone no longer count.
+/// Has the four planes say of a row's cells what two of them say, if the two no longer count by themselves.
 fn mark_known<P: RowPlanes>(grid: &mut P, held: RowState, known: bool)
     requires ordered { held.first ≤ held.end }
     requires within { held.end ≤ (P.planes_of grid.old).width * (P.planes_of grid.old).rows }

@@ -81,7 +81,7 @@ fn cut_sequences_are_declined(rt: HostRuntime) {
     }
 }
 
-/// Numbers at an index of bytes, of which four stand from there on.
+/// Numbers at an index of bytes, with at least four bytes from there on.
 #[test]
 fn short_numbers_are_read(rt: HostRuntime) {
     let rows: [(&[u8], usize, Option<(u8, usize)>); 15] = [

@@ -6,7 +6,7 @@ use ans_model::limits::MAX_FILE;
 use ans_tokens::{Cause, Fault, Token, Walker, walk};
 use std::process::Abort;
 
-/// What a token is to be: its offset, its length, and how many bytes of the content stand behind it.
+/// What a token is expected to be: its offset, its length, and how many bytes of the content come after it.
 type Span = (usize, usize, usize);
 
 /// Goes on as long as the tokens are these.
@@ -130,7 +130,7 @@ struct Counting {
     most: usize,
     tokens: usize,
     taken: usize,
-    /// Where the next token or run is to stand.
+    /// Where the next token or run is expected.
     at: usize,
     is_whole: bool,
 }
