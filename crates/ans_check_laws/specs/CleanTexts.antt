@@ -1,4 +1,4 @@
--- Texts that are shown as they stand: a terminal that reads UTF-8 finds no control character in them but line feeds.
+-- Texts that are shown as they are: a terminal that reads UTF-8 finds no control character in them but line feeds.
 use Rattle.std.specs.Prelude.{◌≡◌, ◌⊎◌, ◌||◌, ◌&&◌, ◌==◌, ℕ, ◌<◌, ◌≤◌, nat_le, nat_lt, Bool, true, false, All}
 use Rattle.std.specs.Prelude.{List, [], ◌∷◌, ◌++◌, flat_map, encode_utf8_all}
 use Rattle.std.specs.List.{list_all}
@@ -36,7 +36,7 @@ IsControlByte b = (b < 0x20) ⊎ (b ≡ 0x7F)
 
 -- The byte is neither of C0 nor DEL, or is a line feed. A terminal that reads UTF-8 takes no other byte for a command,
 -- since UTF-8 spells C1 in two bytes. One that reads each byte by itself, in eight bits, takes 80h to 9Fh for C1 too,
--- where 9Bh is CSI; these bytes do stand in a clean text, as parts of its characters.
+-- where 9Bh is CSI; these bytes do occur in a clean text, as parts of its characters.
 abbrev pub IsCleanByte : ℕ → Type 0
 IsCleanByte b = IsControlByte b → b ≡ 0x0A
 

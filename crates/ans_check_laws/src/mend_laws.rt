@@ -1,5 +1,5 @@
-//! Laws of mending: by itself, and with what is asked for. Where colours are named, a body calls the laws of
-//! naming on which its own law stands.
+//! Laws of mending: by itself, and with what is asked for. If colours are named, a body calls the laws of naming on
+//! which its own law rests.
 
 ghost use Rattle.std.specs.Prelude.{◌≡◌, ℕ, ◌+◌, ◌<◌, true, false, IsTrue, List, ◌++◌, length};
 ghost use Rattle.ans_model.specs.Bytes.{longest_file};
@@ -58,18 +58,18 @@ pub fn mended_or_not()
         → IsMended mends file mended draft → ¬ IsReason mends file reason }
 {}
 
-/// A file that passes from the cleared start is left, by itself, for one reason alone: it would be too long with
-/// an end mark and the safe beginning.
+/// Mending by itself leaves a file that passes from the cleared start for only one reason: with an end mark and the
+/// safe beginning it would be too long.
 pub fn what_passes_is_mended()
     ensures { (file : List ℕ) (apart : FileParts) (picture : Picture) (reason : Unmended)
         → Passes file all_known apart picture → IsReason no_mends.NONE file reason
         → (reason ≡ TooLong) × (longest_file < length (with_end_mark file) + length mending) }
 {}
 
-/// To mend once is enough: of what is written, mended again in the same way, the same bytes are written.
-/// That is so whatever is asked for, names of colours too, except two things. No line ends behind full rows
-/// are taken out, of which a row may have more than one; and where returns are to be put, nothing is taken out
-/// with which the last return might go.
+/// Mending once is enough: if what is written is mended again in the same way, the same bytes are written. That is so
+/// whatever is asked for, names of colours too, with two exceptions. No line ends after full rows are taken out, of
+/// which a row may have more than one; and if returns are to be put, nothing is taken out with which the last return
+/// might go.
 pub fn mending_once_is_enough()
     ensures { (mends : Mends) (file draft draft_again : List ℕ) (mended again : Mended)
         → mends.join_rows ≡ false → KeepsReturns mends

@@ -25,8 +25,8 @@ ghost use Rattle.ans_redraw.specs.Redrawing.{IsRedrawn};
 
 use ans_players::family::Family;
 
-/// Where `why` says `players: any`, the content shows its picture on every player, from every memory that
-/// is in sync with a start of the class that is said, or of one that knows more.
+/// If `why` says `players: all`, the content shows its picture on every player, from every memory that is in sync with
+/// a start of the class that is said, or of one that knows more.
 pub fn any_player_shows_it<P: Family>()
     ensures { (bytes : List ℕ) (class known : Start) (picture : Picture)
         → IsSaidOfPlayers P.size bytes (Any class) → Covers class known
@@ -34,8 +34,8 @@ pub fn any_player_shows_it<P: Family>()
         → IsShown P.behaviour P.size known (spelled good.tokens good.reads.0) picture }
 {}
 
-/// Where `why` names own colours alone, so it does on every player that does as the profile does in them: whose
-/// own white and black are those that 37 and 40 set.
+/// If `why` names only own colours, the content shows it so on every player that does as the profile does in them: one
+/// whose own white and black are those that 37 and 40 set.
 pub fn player_of_named_colours_shows_it<P: Family>()
     ensures { (bytes : List ℕ) (class known : Start) (times : Times) (picture : Picture)
         → IsSaidOfPlayers P.size bytes (InNamedColours class times) → IsTrue (P.agreed OwnColours)
@@ -53,10 +53,10 @@ pub fn agreeing_players_show_it<P: Family>()
         → IsShown P.behaviour P.size all_known (spelled good.tokens good.reads.0) picture }
 {}
 
-/// From no start a kind arises in a mended file that does not from the cleared one: whichever kinds are
-/// agreed, if on all players that agree so its content is the same from the cleared start, it is so from
-/// every start. So where `why` says `players: any` of it, it shows its picture on every player from every
-/// start; and where it names own colours alone, on every player that agrees in them.
+/// In a mended file no start gives rise to a kind that does not arise from the cleared one: whichever kinds are agreed,
+/// if its content is the same from the cleared start on all players that agree so, it is so from every start. So if
+/// `why` says `players: all` of it, it shows its picture on every player from every start; and if `why` names only own
+/// colours, on every player that agrees in them.
 pub fn mended_files_are_same_where_cleared()
     ensures same { (mends : Mends) (file draft : List ℕ) (mended : Mended)
         → (is : IsMended mends file mended draft)
@@ -71,9 +71,9 @@ pub fn mended_files_are_same_where_cleared()
         → class ≡ none_known }
 {}
 
-/// A redrawn file shows its picture on every player that draws the picture's own bytes as the profile does, from
-/// every memory that is in sync with a start of any class. So `why` says `players: any` of it, from every
-/// start, exactly where the picture has no control byte that players draw in different ways.
+/// A redrawn file shows its picture on every player that draws the picture's own bytes as the profile does, from every
+/// memory that is in sync with a start of any class. So `why` says `players: all` of it, from every start, exactly if
+/// the picture has no control byte that players draw in different ways.
 pub fn redrawn_files_show_everywhere<P: Family>()
     ensures shown { (file new : List ℕ) (redrawn : Redrawn) (class : Start) (apart : FileParts)
         (picture : Picture)

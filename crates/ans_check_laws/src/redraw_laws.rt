@@ -48,8 +48,8 @@ pub fn mended_files_can_be_redrawn()
         → IsTooLong (front_bytes mended.front ++ draft) is.picture reason }
 {}
 
-/// A file that passes from the cleared start is left as it is for one reason alone: with the form of its
-/// picture it would be longer than a file may be. The reason tells that length.
+/// A file that passes from the cleared start is left as it is for only one reason: with the form of its picture it
+/// would be longer than a file may be. The reason gives that length.
 pub fn only_length_stands_in_the_way()
     ensures { (file : List ℕ) (apart : FileParts) (picture : Picture) (reason : Unredrawn)
         → Passes file all_known apart picture → IsReasonNot file reason → IsTooLong file picture reason }

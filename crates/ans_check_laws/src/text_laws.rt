@@ -35,9 +35,9 @@ pub fn fields_are_shown_in_one_line()
         → IsOneLine (named_line name (shown_bytes bytes)) }
 {}
 
-/// What is written of a file is clean, whatever is asked of it, but for a picture in the colours of a
-/// terminal; that is clean between the sequences that set its colours. So is the line on standard
-/// error that says why there is no answer. Of what clap says of the words this tells nothing.
+/// What is written of a file is clean, whatever is asked of it, except for a picture in the colours of a terminal; that
+/// is clean between the sequences that set its colours. The line on standard error that says why there is no answer is
+/// clean too. Nothing is said here of what clap says of the words.
 pub fn texts_are_clean()
     ensures reports { (options : Options) (file text : List ℕ) (passed : Bool)
         → All IsByte file → Reports options file passed text
@@ -62,8 +62,7 @@ pub fn what_redrawing_says_is_clean()
     ensures reasons { (reason : Unredrawn) → IsCleanText (unredrawn_text reason) }
 {}
 
-/// Of the bytes of a clean text that stand below 20h each is a line feed, and none is 7Fh. A text
-/// without control characters has neither.
+/// Each byte below 20h of a clean text is a line feed, and none is 7Fh. A text without control characters has neither.
 pub fn clean_texts_have_clean_bytes()
     ensures clean { (text : List ℕ) → IsCleanText text → All IsCleanByte text }
     ensures no_controls { (text : List ℕ) → HasNoControls text → All (λ b. ¬ IsControlByte b) text }

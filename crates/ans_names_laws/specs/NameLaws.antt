@@ -78,9 +78,9 @@ OwnNeedNotBeAgreed = (agreed : Difference → Bool) (z : Size) (class : Start) (
     × (0 < z.width → AreAgreed (or_own agreed) z all_known (spelled tokens reads.0)
     → AreAgreed agreed z class (mending_spelled ++ spelled named again.0))
 
--- So what is good from the cleared start, where no kinds but agreed ones and own-colours arise, shows its picture on a
--- player that does as the profile does in the agreed ones alone, from every start: with its colours named, after the
--- mending.
+-- So what is good from the cleared start, if only agreed kinds and own-colours arise in it, shows its picture from
+-- every start with its colours named, after the mending: on a player that does as the profile does in the agreed ones,
+-- even if it does not in own-colours.
 abbrev pub NamedIsShown : Behaviour → Size → (Difference → Bool) → Type 0
 NamedIsShown p z agreed = (content : List ℕ) (picture : Picture) (good : GoodWith z all_known content picture)
     (named : List TokenKind) (again : Reads (named_content (spelled good.tokens good.reads.0)) named)

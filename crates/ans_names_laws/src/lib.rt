@@ -1,4 +1,4 @@
-//! Laws of colours that are named: no product crate stands on this one.
+//! Laws of colours that are named: no product crate depends on this one.
 //!
 //! Each function here has no body: its contract is what is proved of `ans_mend`'s definitions.
 #![tactic(auto)]
@@ -20,9 +20,9 @@ pub fn cells_stay()
     ensures { CellsStay }
 {}
 
-/// Own colours show nowhere in a content with its colours named, from whatever start, if nothing is printed or
-/// cleared before the first sequence that takes the names away, or both are named there. After the beginning that
-/// mending puts in front they show nowhere at all.
+/// Own colours show nowhere in a content with its colours named, from whatever start, if nothing is printed or cleared
+/// before the first sequence that takes the names away, or both are named there. After the beginning that mending adds
+/// they show nowhere at all.
 pub fn no_own_colours_are_left()
     ensures { NoneOwnIsLeft }
 {}
@@ -34,15 +34,15 @@ pub fn no_kind_is_added()
     ensures own { OwnNeedNotBeAgreed }
 {}
 
-/// So a content that passes from the cleared start, where own colours alone are not agreed besides, shows its picture
+/// So a content that passes from the cleared start, in which only agreed kinds and own colours arise, shows its picture
 /// after the beginning and with its colours named: on every player that does as the profile does in the agreed kinds,
 /// from every memory that is in sync with any start.
 pub fn named_content_shows_everywhere<P: Family>()
     ensures { NamedIsShown P.behaviour P.size P.agreed }
 {}
 
-/// Naming the colours of a content whose colours are named changes no byte, also where the beginning stands before it.
-/// The beginning is not put in front once more for it, and without it what is printed first is as it was.
+/// Naming the colours of a content whose colours are named changes no byte, even if the beginning comes before it. It
+/// does not get the beginning a second time, and without the beginning what is printed first is as it was.
 pub fn naming_twice_is_naming_once()
     ensures once { TwiceIsOnce }
     ensures mended { TwiceIsOnceMended }

@@ -23,7 +23,7 @@ pub record IsDrawable (z : Size) (picture : Picture) : Type 0 where
   pub is_picture : IsPictureOf z picture
   pub printed : All (λ c. IsPrinted c.byte) picture.cells
 
--- the kinds of a printed byte: players part in how they draw some
+-- the kinds of a printed byte: players differ in how they draw some
 abbrev pub shown_kinds : ℕ → List Difference
 shown_kinds byte =
     kind_if (is_page_control byte) PageControls ++ kind_if (is_terminal_control byte) TerminalControls

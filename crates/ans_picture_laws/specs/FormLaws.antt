@@ -67,7 +67,7 @@ abbrev pub FormHasNoEndMark : Type 0
 FormHasNoEndMark = (z : Size) (picture : Picture) → IsDrawable z picture
     → IsFalse (list_any is_end_mark (form_bytes picture))
 
--- Behind it the attribute is white on black, from whichever state.
+-- After it the attribute is white on black, from whichever state.
 abbrev pub FormEndsGrey : Type 0
 FormEndsGrey = (z : Size) (s : State) (picture : Picture) → IsDrawable z picture
     → (final z s (map (λ x. x.token) (form picture))).attribute ≡ 0x07

@@ -27,7 +27,7 @@ after_class l (c ∷ digits) =
     else if c == 0x6B then record l { blinks = true }
     else l
 
--- how cells look behind a tag of these words: in a span by its classes, and else plain
+-- how cells look after a tag of these words: in a span by its classes, and otherwise plain
 abbrev pub look_in : List (List ℕ) → Look
 look_in [] = white_on_black
 look_in (name ∷ classes) =
@@ -46,7 +46,7 @@ named_character name =
 abbrev pub colour_digits : Triple → List ℕ
 colour_digits (red, green, blue) = hex_digit (red / 17) ∷ hex_digit (green / 17) ∷ hex_digit (blue / 17) ∷ []
 
--- what the style says of a class: the letter and a number set a property to the VGA's colour; four stand on a line
+-- what the style says of a class: the letter and a number set a property to the VGA's colour; there are four on a line
 abbrev pub class_style : List ℕ → List ℕ → ℕ → List ℕ
 class_style letter property n =
     codes "." ++ (letter ++ (decimal n ++ (codes "{" ++ (property ++ (codes ":#" ++ (colour_digits (vga_colour n)
@@ -56,14 +56,14 @@ class_style letter property n =
 abbrev pub sixteen : List ℕ
 sixteen = 0 ∷ 1 ∷ 2 ∷ 3 ∷ 4 ∷ 5 ∷ 6 ∷ 7 ∷ 8 ∷ 9 ∷ 10 ∷ 11 ∷ 12 ∷ 13 ∷ 14 ∷ 15 ∷ []
 
--- Where a reader stands: in text, in a tag since its `<`, or in a name since its `&`; whether it is between `<pre>` and
+-- Where a reader is: in text, in a tag since its `<`, or in a name since its `&`; whether it is between `<pre>` and
 -- `</pre>`, and how a cell looks.
 pub data Page : Type 0 where
   InText : (shown : Bool) (how : Look) → Page
   InTag : (text : List ℕ) (shown : Bool) (how : Look) → Page
   InName : (text : List ℕ) (shown : Bool) (how : Look) → Page
 
--- whether a picture is shown behind a tag
+-- whether a picture is shown after a tag
 abbrev pub shown_after : List ℕ → Bool → Bool
 shown_after tag shown =
     if bytes_eq tag (codes "pre") then true

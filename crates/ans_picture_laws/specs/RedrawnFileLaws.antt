@@ -30,9 +30,9 @@ note_stays NoEndMark = false
 note_stays SizeDiffers = false
 note_stays _ = true
 
--- The redrawn file is accepted so. It states the same size, has the same comments, and its record is the same but for
--- the FileSize. Of the notes it has those that stay. Its content is the form of the picture, and from every start of
--- every class it passes with this picture.
+-- The redrawn file is accepted with these parts. It states the same size, has the same comments, and its record is the
+-- same except for the FileSize. It keeps those notes that stay. Its content is the form of the picture, and from every
+-- start of every class it passes with this picture.
 pub record IsRedrawnTo (file : List ℕ) (apart : FileParts) (picture : Picture) (new : FileParts) : Type 0 where
   pub accepts : Accepts (redrawn_file file picture) new
   pub size : stated_size new.record_bytes ≡ stated_size apart.record_bytes
@@ -62,8 +62,8 @@ ContentTellsThePicture = (file other : List ℕ) (apart other_apart new other_ne
     → stated_size apart.record_bytes ≡ stated_size other_apart.record_bytes
     → (content new.body ≡ content other_new.body) ↔ (p ≡ q)
 
--- From every start the kinds in which players part that arise in a redrawn content are those of the picture's own
--- bytes: it is the same from every start exactly on those players that agree in these.
+-- From every start, the kinds of difference between players that arise in a redrawn content are those of the picture's
+-- own bytes: it is the same from every start exactly on those players that agree in these.
 abbrev pub OnlyItsBytesPart : Type 0
 OnlyItsBytesPart = (agreed : Difference → Bool) (file : List ℕ) (apart new : FileParts) (picture : Picture)
     → CanBeRedrawn file apart picture → IsRedrawnTo file apart picture new

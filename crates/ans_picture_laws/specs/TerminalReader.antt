@@ -33,7 +33,7 @@ after_parameter p l =
     else if nat_le 40 p then record l { background = terminal_order (p - 40) }
     else record l { foreground = terminal_order (p - 30) }
 
--- what a mixed colour does behind 38 or 48
+-- what a mixed colour does after 38 or 48
 abbrev pub after_mixed : ℕ → Triple → Look → Look
 after_mixed p t l =
     if p == 38 then record l { foreground = index_of_colour t vga_colours }
@@ -47,7 +47,7 @@ after_parameters (p ∷ two ∷ r ∷ g ∷ b ∷ more) l =
     else after_parameters (two ∷ r ∷ g ∷ b ∷ more) (after_parameter p l)
 after_parameters (p ∷ more) l = after_parameters more (after_parameter p l)
 
--- where a reader stands: what it has of a sequence since ESC, if it is in one, and how a cell looks
+-- where a reader is: what it has of a sequence since ESC, if it is in one, and how a cell looks
 pub record Terminal : Type 0 where
   pub sequence : Option (List ℕ)
   pub how : Look

@@ -32,9 +32,9 @@ pub fn form_is_good_from_every_start()
     ensures feeds { FormFeedsOn }
 {}
 
-/// From any start the kinds in which players part that arise in the form are those of the picture's own bytes,
-/// and no others: some control bytes are not drawn everywhere. So its bytes are the same from every start exactly
-/// where those kinds are agreed.
+/// From any start, the kinds of difference between players that arise in the form are those of the picture's own bytes,
+/// and no others: some control bytes are not drawn everywhere. So its bytes are the same from every start exactly if
+/// those kinds are agreed.
 pub fn form_is_the_same_on_every_player()
     ensures agreed { FormIsAgreed }
     ensures same { FormIsSame }

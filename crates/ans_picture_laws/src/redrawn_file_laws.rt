@@ -20,8 +20,8 @@ pub fn one_content_of_each_picture()
     ensures { ContentTellsThePicture }
 {}
 
-/// Players part at nothing in a redrawn content but the control bytes that the picture itself shows. So `why` says
-/// `players: any` of it where there are none.
+/// Players differ at nothing in a redrawn content but the control bytes that the picture itself shows. So `why` says
+/// `players: all` of it if there are none.
 pub fn players_part_at_its_bytes_alone()
     ensures { OnlyItsBytesPart }
 {}

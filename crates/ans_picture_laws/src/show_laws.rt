@@ -22,7 +22,7 @@ pub fn runs_are_longest()
     ensures longest { (row : List Cell) → AreLongest (runs row) }
 {}
 
-/// How a cell looks tells its attribute, with blink and without.
+/// How a cell looks determines its attribute, with blink and without.
 pub fn looks_tell_attributes()
     ensures { (non_blink : Bool) (a : ℕ) → IsByte a → attribute_of (look_of non_blink a) ≡ a }
 {}

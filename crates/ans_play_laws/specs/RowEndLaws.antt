@@ -1,4 +1,4 @@
--- Laws of full rows: by which tokens a line end stands behind one, and up to which token they are counted.
+-- Laws of full rows: by which tokens a line end comes after one, and up to which token they are counted.
 use Rattle.std.specs.Prelude.{◌≡◌, ◌⊎◌, ◌↔◌, ℕ, List, ◌∷◌, ◌++◌, length, take, IsTrue}
 use Rattle.std.specs.List.{AllByRecursion}
 use Rattle.ans_model.specs.Sequence.TokenKind.{TokenKind, Glyph, Bell, CarriageReturn, Tab, EraseLine, Save}
@@ -10,7 +10,7 @@ use Rattle.ans_hints.specs.declared.row_ends.RowEnds.{RowEnds}
 use Rattle.ans_pens.specs.Counted.{count_of}
 use Rattle.ans_hints.specs.RowEnds.{ended_by_line_feed, wraps, written_by}
 
--- the tokens that may stand before a line end and inside it
+-- the tokens that may come before a line end and inside it
 abbrev pub IsQuiet : TokenKind → Type 0
 IsQuiet Bell = Unit {0}
 IsQuiet Save = Unit {0}
@@ -36,8 +36,8 @@ pub record EndsReturned (z : Size) (s : State) (tokens : List TokenKind) : Type 
   pub full : EndsFull z s front
   pub are_quiet : AllByRecursion IsQuiet quiet
 
--- The row that a line feed behind the tokens ends is full exactly where they end in a glyph that wraps and quiet
--- tokens, or in these, a return and quiet tokens.
+-- The row that a line feed after the tokens ends is full exactly if they end in a glyph that wraps and quiet tokens, or
+-- in these, a return and quiet tokens.
 abbrev pub LineFeedEndsFullRow : Type 0
 LineFeedEndsFullRow = (z : Size) (tokens : List TokenKind) (texts : List (List ℕ)) (offset : ℕ)
     → length texts ≡ length tokens
@@ -50,7 +50,7 @@ Prints (Glyph byte) = Unit {0}
 Prints Tab = Unit {0}
 Prints _ = ⊥
 
--- The last of the tokens that prints stands right behind this front.
+-- The last of the tokens that prints comes right after this front.
 pub record PrintsLast (tokens front : List TokenKind) : Type 0 where
   pub token : TokenKind
   pub later : List TokenKind
@@ -58,12 +58,12 @@ pub record PrintsLast (tokens front : List TokenKind) : Type 0 where
   pub prints : Prints token
   pub none_later : AllByRecursion (λ t. ¬ Prints t) later
 
--- what is counted as in front of something printed is all that had been counted before
+-- what is counted as before something printed is all that had been counted by then
 pub record CountsBefore (ends before : RowEnds) : Type 0 where
   pub full : ends.full_before ≡ before.full
   pub ended : ends.ended_before ≡ count_of before.ended
 
--- It is what had been counted in front of the last token that prints.
+-- It is what had been counted before the last token that prints.
 abbrev pub CountsBeforeLastPrint : Type 0
 CountsBeforeLastPrint = (z : Size) (tokens front : List TokenKind) (texts : List (List ℕ))
     → length texts ≡ length tokens → PrintsLast tokens front

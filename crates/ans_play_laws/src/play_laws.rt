@@ -37,8 +37,8 @@ pub fn two_starts_show()
         → IsLastFault z class bytes f → IsShownByTwoStarts z class bytes f }
 {}
 
-/// After clean tokens the plays from the low and the high start tell of every play: its cursor stands
-/// between theirs, and where they agree in a stated cell, it is the same from every start.
+/// After clean tokens, the plays from the low and the high start show what holds for every play: its cursor is between
+/// theirs, and if they agree in a stated cell, it is the same from every start.
 pub fn two_starts_tell()
     ensures cursors { (z : Size) (class : Start) (tokens : List TokenKind)
         → IsSize z → All PrintsByte tokens → IsClean z class tokens

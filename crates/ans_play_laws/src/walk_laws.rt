@@ -7,7 +7,7 @@ ghost use Rattle.ans_play_laws.specs.RowLaws.{EmptyRowsHoldNothing, NoMoreRowsAr
 ghost use Rattle.ans_kinds.specs.SaidOfPlayers.{MendedIsSameWhereCleared};
 ghost use Rattle.ans_play_laws.specs.TallerLaws.{TallerShowsTheSame};
 
-/// Content that is good from the cleared start is good behind the bytes of
+/// Content that is good from the cleared start is good after the bytes of
 /// [`SAFE_BEGINNING`](ans_model::beginning::SAFE_BEGINNING) from every start, with the same picture.
 pub fn mended_content_is_good()
     ensures { MakesGood }
@@ -41,15 +41,14 @@ pub fn rows_at_the_end_are_empty()
     ensures no_more { NoMoreRowsAreEmpty }
 {}
 
-/// A line feed ends a full row exactly where the tokens before it end in a glyph that wraps, or in such
-/// a glyph and then a return. A bell, a save, colours, wrap and an erased line may stand behind each of
-/// the two, and nothing else.
+/// A line feed ends a full row exactly if the tokens before it end in a glyph that wraps, or in such a glyph and then a
+/// return. A bell, a save, colours, wrap and an erased line may come after each of the two, and nothing else.
 pub fn full_rows_end_in_a_line_end()
     ensures { LineFeedEndsFullRow }
 {}
 
-/// Whether all full rows are ended is asked of the rows in front of the last glyph or tab: the full rows
-/// and the line ends behind them that are compared are those counted up to there.
+/// Whether all full rows are ended is asked of the rows before the last glyph or tab: the full rows and the line ends
+/// after them that are compared are those counted up to there.
 pub fn rows_are_counted_up_to_the_last_print()
     ensures { CountsBeforeLastPrint }
 {}

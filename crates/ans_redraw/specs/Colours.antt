@@ -55,7 +55,7 @@ anew to =
 abbrev pub colour_sequence : List ℕ → List ℕ
 colour_sequence numbers = escape ∷ bracket ∷ (join_with_byte semicolon (map decimal numbers) ++ codes "m")
 
--- what changes, if neither bright nor blink goes; else anew
+-- only what changes, if neither bright nor blink goes; otherwise all of it, after a 0
 abbrev pub numbers_to : ℕ → ℕ → List ℕ
 numbers_to from to = if only_adds from to then changes from to else anew to
 

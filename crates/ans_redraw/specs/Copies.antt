@@ -2,7 +2,7 @@
 use Rattle.std.specs.Prelude.{◌≡◌, ℕ, ◌+◌, ◌≤◌, List, ◌++◌, length, take}
 use Rattle.ans_redraw.specs.declared.sink.Copy.{Copy}
 
--- where there is room for them behind those that were taken, these bytes are, and the array is as long as it was
+-- these bytes are taken, if there is room for them after those taken before, and the array is as long as it was
 pub record Copies (old new : Copy) (bytes : List ℕ) : Type 0 where
   pub same_array : new.array.ghost_name ≡ old.array.ghost_name
   pub used : old.used + length bytes ≤ length old.array.now → new.used ≡ old.used + length bytes

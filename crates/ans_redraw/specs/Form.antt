@@ -29,7 +29,7 @@ glyph byte = record { token = Glyph byte; text = byte ∷ [] }
 abbrev pub line_end : List Spelled
 line_end = record { token = CarriageReturn; text = 0x0D ∷ [] } ∷ record { token = LineFeed; text = 0x0A ∷ [] } ∷ []
 
--- so many columns on: `ESC[C` or `ESC[nC`
+-- this many columns on: `ESC[C` or `ESC[nC`
 abbrev pub skip : ℕ → Spelled
 skip n = sequence (Forward n) (bracket ∷ ((if n == 1 then [] else decimal n) ++ codes "C"))
 
@@ -44,7 +44,7 @@ over_few attribute n =
 abbrev pub over : ℕ → ℕ → List Spelled
 over attribute n = replicate (n / 255) (skip 255) ++ over_few attribute (n % 255)
 
--- where the drawing of a row stands: the current attribute, and how many cells it has passed over since the last byte
+-- how far a row is drawn: the current attribute, and how many cells were passed over since the last byte
 abbrev pub pen : ℕ → ℕ → RowPen
 pen attribute passed = record { attribute = attribute; passed = passed }
 
@@ -103,7 +103,7 @@ blackened attribute = if is_coloured attribute then 0x07 else attribute
 abbrev pub down_and_up : List Spelled
 down_and_up = record { token = LineFeed; text = 0x0A ∷ [] } ∷ sequence (Up 1) (codes "[A") ∷ []
 
--- so many rows down: `ESC[nB`
+-- this many rows down: `ESC[nB`
 abbrev pub down : ℕ → Spelled
 down n = sequence (Down n) (bracket ∷ (decimal n ++ codes "B"))
 
@@ -134,7 +134,7 @@ after_row opens follows r attribute =
 abbrev pub below_row : Bool → Bool → ℕ → ℕ
 below_row opens follows attribute = if not opens && follows then blackened attribute else attribute
 
--- row r, with what stands before and after it
+-- row r, with what comes before and after it
 abbrev pub row_drawn : Bool → Bool → ℕ → ℕ → List Cell → List Spelled
 row_drawn opens follows r attribute row =
     before_row opens attribute

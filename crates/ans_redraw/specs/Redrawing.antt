@@ -36,7 +36,7 @@ abbrev pub IsReasonNot : List ℕ → Unredrawn → Type 0
 IsReasonNot file (Refused fault) = IsRefusedFromCleared file fault
 IsReasonNot file (TooLong whole) = HasLongForm file (TooLong whole)
 
--- What is told of a file that was to be redrawn: what was changed, and the text is the redrawn file; or there is no
+-- What is reported of a file that was to be redrawn: what was changed, and the text is the redrawn file; or there is no
 -- text, for this reason.
 abbrev pub TellsRedrawn : List ℕ → Result Redrawn Unredrawn → List ℕ → Type 0
 TellsRedrawn file (Ok redrawn) text = IsRedrawn file redrawn text

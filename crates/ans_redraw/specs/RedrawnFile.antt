@@ -14,16 +14,16 @@ use Rattle.ans_redraw.specs.declared.outcome.Redrawn.{Redrawn}
 use Rattle.ans_redraw.specs.declared.outcome.Unredrawn.{Unredrawn}
 use Rattle.ans_redraw.specs.declared.outcome.Unredrawn.TheVariants as unredrawn
 
--- the end marks behind a body's content, and one where there are none
+-- the end marks after a body's content, and one if there are none
 abbrev pub marked_end : List ℕ → List ℕ
 marked_end body = if list_any is_end_mark body then after_content body else end_mark ∷ []
 
--- what stands between a file's body and its record: the comments
+-- what is between a file's body and its record: the comments
 abbrev pub block_in : List ℕ → List ℕ
 block_in file = drop (length (body_in file)) (front_in file)
 
--- The file with the form of the picture as its content. End marks and comments stay, one end mark is put where there is
--- none, and of the record the FileSize alone is another: the length of the content.
+-- The file with the form of the picture as its content. End marks and comments stay, one end mark is added if there is
+-- none, and only the FileSize of the record changes: it is the length of the content.
 abbrev pub redrawn_file : List ℕ → Picture → List ℕ
 redrawn_file file picture =
     form_bytes picture

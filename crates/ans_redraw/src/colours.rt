@@ -145,7 +145,7 @@ fn write_anew(text: &mut [u8], end: usize, to: u8) -> usize
     write_number(text, front, number, true)
 }
 
-/// So many bytes, where they are there.
+/// This length if the bytes are there, and otherwise 0.
 #[inline(always)]
 fn length_if(is_there: bool, length: usize) -> usize
     ensures { result ≡ (if is_there then length else 0) }

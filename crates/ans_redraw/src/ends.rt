@@ -1,4 +1,4 @@
-//! What stands before and after a row.
+//! What comes before and after a row.
 ghost use Rattle.std.specs.Prelude.{◌≡◌, ◌+◌, ◌≤◌, ◌<◌, ◌^◌, [], ◌∷◌, ◌++◌, length, take, not, ◌&&◌, ◌||◌, decimal};
 ghost use Rattle.ans_model.specs.Bytes.{bracket, escape};
 ghost use Rattle.ans_model.specs.Screen.State.{cell};
@@ -57,7 +57,7 @@ pub(crate) fn opens_below(byte: u8, attribute: u8, follows: bool, is_there: bool
     !is_blank(byte, attribute) && (follows || is_coloured(attribute) && is_there)
 }
 
-/// Gives what stands before a row, and returns the attribute there.
+/// Gives what comes before a row, and returns the attribute there.
 pub(crate) fn give_before<S: Sink>(sink: &mut S, opens: bool, attribute: u8) -> u8
     ensures takes { S.takes sink.old sink.new (texts (before_row opens attribute)) }
     ensures attribute { result ≡ at_row opens attribute }
@@ -79,7 +79,7 @@ fn give_move<S: Sink>(sink: &mut S, number: u8, letter: u8)
     sink.take(&text[..end]);
 }
 
-/// Gives the moves so many rows down.
+/// Gives the moves this many rows down.
 fn give_downward<S: Sink>(sink: &mut S, rows: usize)
     ensures { S.takes sink.old sink.new (texts (downward rows)) }
 {
@@ -103,7 +103,7 @@ fn give_place<S: Sink>(sink: &mut S, row: usize)
     give_downward(sink, row - 1);
 }
 
-/// Gives what stands after a row, and returns the attribute there.
+/// Gives what comes after a row, and returns the attribute there.
 pub(crate) fn give_after<S: Sink>(
     sink: &mut S,
     opens: bool,

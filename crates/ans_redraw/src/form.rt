@@ -23,7 +23,7 @@ use ans_screen::Screen;
 use ans_write::Outbox;
 use std::io::Write;
 
-/// How many bytes the cells of a row have at most, and what is written over behind them.
+/// How many bytes the cells of a row have at most, and what may be overwritten after them.
 const ROW: usize = 13 * MAX_WIDTH + 24;
 
 /// Gives the cells of a row, and returns the attribute after them. `text` is room for them.
@@ -50,8 +50,8 @@ fn give_cells<S: Sink>(
     pen.attribute
 }
 
-/// Gives a row, with what stands before and after it, and returns the attribute there. `follows` says whether
-/// rows are drawn below it; `text` is room for its cells.
+/// Gives a row, with what comes before and after it, and returns the attribute there. `follows` says whether rows are
+/// drawn below it; `text` is room for its cells.
 fn give_row<S: Sink, G: Screen>(
     sink: &mut S,
     picture: &Picture<G>,
@@ -123,8 +123,8 @@ pub(crate) fn give_form<S: Sink, G: Screen>(sink: &mut S, picture: &Picture<G>)
     sink.take(b"\x1b[0m");
 }
 
-/// Puts the form of a picture: the content of a file that shows it the same from every start on every
-/// player, but for control bytes of the picture itself.
+/// Puts the form of a picture: the content of a file that shows it the same from every start on every player, except
+/// for control bytes of the picture itself.
 #[inline(never)]
 pub fn put_form<W: Write, G: Screen>(out: &mut Outbox<'_, W>, picture: &Picture<G>)
     ensures { Puts W.contents out.old out.new (form_bytes picture.now) }

@@ -6,15 +6,15 @@
 //! proved of the form speaks of the stated columns and lines. That it shows on other screens, of two rows or
 //! more, is only tried.
 //!
-//! `specs/Form.antt` has the form, and `specs/Colours.antt` how one attribute becomes another.
-//! [`form_length`] counts its bytes, and [`put_form`] puts them: each goes over the picture row by row, with no
-//! memory beyond a row. What is proved of the form, and the bytes of small pictures, stand in `ans_picture_laws`.
+//! `specs/Form.antt` has the form, and `specs/Colours.antt` how one attribute becomes another. [`form_length`] counts
+//! its bytes, and [`put_form`] puts them: each goes over the picture row by row, with no memory beyond a row. What is
+//! proved of the form, and the bytes of small pictures, are in `ans_picture_laws`.
 //!
-//! A file is redrawn if the form becomes its content, and behind it stands all that stood behind the content.
-//! [`redrawn_with`] says what that changes of it, or how long it would be where that is too much.
-//! [`put_redrawn_file`] puts the new file, and [`copy_redrawn_file`] copies it to an array. Which file that is, is in
-//! `specs/RedrawnFile.antt`, and what is said of it in `specs/RedrawnText.antt`. That the picture is the one that the
-//! file shows, is for the crate above to see to.
+//! A file is redrawn if the form becomes its content, followed by all that came after the old content. [`redrawn_with`]
+//! says what that changes in the file, or how long the file would be if it is too long. [`put_redrawn_file`] puts the
+//! new file, and [`copy_redrawn_file`] copies it to an array. Which file that is, is in `specs/RedrawnFile.antt`, and
+//! what is said of it in `specs/RedrawnText.antt`. That the picture is the one that the file shows is for the crate
+//! above to see to.
 #![tactic(auto)]
 
 mod colours;

@@ -23,7 +23,7 @@ use ans_screen::Screen;
 use ans_write::Outbox;
 use std::io::Write;
 
-/// What stands between a file's content and its record: end marks, and the comments.
+/// What is between a file's content and its record: end marks, and the comments.
 fn behind_content<'a>(file: &'a [u8], parts: &Parts<'_>) -> &'a [u8]
     requires { IsSplit file.now parts.now }
     ensures { result.now ≡ drop (length (content_in file.now)) (front_in file.now) }
@@ -31,7 +31,7 @@ fn behind_content<'a>(file: &'a [u8], parts: &Parts<'_>) -> &'a [u8]
     &file[parts.content().len()..file.len() - RECORD_SIZE]
 }
 
-/// The end mark that is to be put before this, where none stands there.
+/// The end mark to be put before these bytes, if they do not begin with one.
 fn missing_mark(behind: &[u8]) -> &'static [u8]
     ensures { result.now ≡ (if list_any is_end_mark (take 1 behind.now) then [] else end_mark ∷ []) }
 {
@@ -42,7 +42,7 @@ fn missing_mark(behind: &[u8]) -> &'static [u8]
     }
 }
 
-/// Where the end mark stands behind a form of this length, if one is put.
+/// Where the end mark is after a form of this length, if one is put.
 fn place_of_mark(mark: &[u8], form: usize) -> Option<usize>
     ensures { result ≡ (if length mark.now == 0 then None else Some form) }
 {
@@ -117,8 +117,8 @@ pub fn put_redrawn_file<W: Write, G: Screen>(
     give_redrawn_file(out, file, parts, picture, redrawn.file_size.is);
 }
 
-/// Copies the file that is redrawn with this picture, of which `redrawn` says what is changed, to the front of
-/// an array. The array is as long as it was; behind the file it may hold anything.
+/// Copies the file that is redrawn with this picture to the start of an array; `redrawn` says what is changed. The
+/// array is as long as it was; after the file it may hold anything.
 pub fn copy_redrawn_file<G: Screen>(
     file: &[u8],
     parts: &Parts<'_>,

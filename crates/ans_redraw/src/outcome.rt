@@ -21,6 +21,6 @@ pub struct Redrawn {
 pub enum Unredrawn {
     /// Its record or its layout has this fault, or its content has it from the cleared start.
     Refused(Fault),
-    /// The new file would have so many bytes, more than 16,777,216; or 2^64 - 1, if it would have more.
+    /// The new file would have this many bytes, more than 16,777,216; or 2^64 - 1, if it would have more.
     TooLong(usize),
 }

@@ -1,4 +1,4 @@
-//! Where the drawing of a row stands.
+//! How far a row is drawn.
 
 /// The current attribute, and how many cells were passed over since the last byte. The definition of the form
 /// names it, so it is public.

@@ -1,8 +1,8 @@
 //! A piece of a text.
 ghost use Rattle.std.specs.Prelude.{◌≡◌, ◌+◌, ◌≤◌, ◌++◌, length, take};
 
-/// Writes the first `count` bytes of a piece to a text from `end` on, and returns where they end. The whole
-/// piece is copied, without a loop: what stands behind its first bytes is written over next.
+/// Writes the first `count` bytes of a piece to a text from `end` on, and returns where they end. The whole piece is
+/// copied, without a loop: what comes after its first bytes is overwritten next.
 #[inline(always)]
 pub(crate) fn write<const N: usize>(
     text: &mut [u8],

@@ -31,8 +31,8 @@ pub(crate) fn are_blank(bytes: &[u8], attributes: &[u8]) -> bool
     true
 }
 
-/// Writes the way to a cell, its colours and its byte to a text from `end` on, and returns where they end. The
-/// pen is behind the cell then.
+/// Writes the way to a cell, its colours and its byte to a text from `end` on, and returns where they end. The pen is
+/// then after the cell.
 #[inline(always)]
 fn write_cell(text: &mut [u8], end: usize, from: &mut RowPen, byte: u8, attribute: u8) -> usize
     requires { end + 6 * from.old.passed + 16 ≤ length text.old }

@@ -26,7 +26,7 @@ fn places(bytes: u8x16, byte: u8) -> u64
     bytes.simd_eq(u8x16::splat(byte)).to_bitmask()
 }
 
-/// How many of the first 16 bytes stand before the first one that is another.
+/// How many of the first 16 bytes come before the first one that is another.
 #[inline(always)]
 fn count_same(bytes: &[u8], byte: u8) -> usize
     requires { 16 ≤ length bytes.now }
@@ -41,7 +41,7 @@ fn count_same(bytes: &[u8], byte: u8) -> usize
     }
 }
 
-/// How many of the first 16 bytes stand before the first one that is this one.
+/// How many of the first 16 bytes come before the first one that is this one.
 #[inline(always)]
 fn count_before(bytes: &[u8], byte: u8) -> usize
     requires { 16 ≤ length bytes.now }
@@ -56,8 +56,7 @@ fn count_before(bytes: &[u8], byte: u8) -> usize
     }
 }
 
-/// How many of the first 16 cells stand before the first one that has another attribute, or is a
-/// blank.
+/// How many of the first 16 cells come before the first one that has another attribute, or is a blank.
 #[inline(always)]
 fn count_run(attribute: u8, bytes: &[u8], attributes: &[u8]) -> usize
     requires bytes { 16 ≤ length bytes.now }
@@ -74,8 +73,8 @@ fn count_run(attribute: u8, bytes: &[u8], attributes: &[u8]) -> usize
     same.min(count_before(bytes, b' '))
 }
 
-/// Writes cells at the front that have this attribute and are no blanks, by their bytes alone, to a
-/// text from `end` on. Returns how many: at most 16, and none if there are fewer than 16 cells.
+/// Writes leading cells that have this attribute and are no blanks, just by their bytes, to a text from `end` on.
+/// Returns how many: at most 16, and none if there are fewer than 16 cells.
 #[inline(always)]
 pub(crate) fn write_run(
     text: &mut [u8],

@@ -49,7 +49,7 @@ fn write_count(text: &mut [u8], end: usize, count: u8) -> usize
     write_decimal(text, end, count)
 }
 
-/// Writes the sequence that leads so many columns on.
+/// Writes the sequence that leads this many columns on.
 fn write_skip(text: &mut [u8], end: usize, count: u8) -> usize
     requires { end + 6 ≤ length text.old }
     ensures within { result ≤ end + 6 }

@@ -46,7 +46,7 @@ macro_rules! rows {
     };
 }
 
-/// The width, the lines, a content, and the form of its picture after the mending, but for `ESC[0m` at its end.
+/// The width, the lines, a content, and the form of its picture between the mending and the `ESC[0m` at its end.
 static FORMS: [(usize, usize, &[u8], &[u8]); 39] = rows! {
     // Nothing but blanks.
     screen(1 x 1, b"") => b"";

@@ -4,7 +4,7 @@ use Rattle.ans_model.specs.Screen.State.{Size}
 use Rattle.ans_screen.specs.LentRows.{HasRoom}
 use Rattle.ans_verdict.specs.declared.screens.LentScreens.{LentScreens}
 
--- there is room for a play of this size, with a row more than its lines, among so many rows and bytes
+-- there is room for a play of this size, with one row more than its lines, in this many rows and bytes
 abbrev pub HasScreen : Size → ℕ → ℕ → Type 0
 HasScreen z rows bytes = HasRoom z.width (z.lines + 1) rows bytes
 
