@@ -21,12 +21,12 @@ import sys
 TOP = pathlib.Path(__file__).resolve().parent.parent
 
 BUDGETS = {
-    "CHANGELOG.md": 775, "CONTRIBUTING.md": 650, "README.md": 1800, "conformance/README.md": 600,
-    "docs/CHANGING.md": 1575, "docs/DECISIONS.md": 4925, "docs/DEFINITIONS.md": 3900, "docs/DESIGN.md": 3150,
-    "docs/FAULTS.md": 3300, "docs/FOLDERS.md": 1575, "docs/GLOSSARY.md": 1525, "docs/MANUAL.md": 3950,
-    "docs/PLAYERS.md": 3500, "docs/PROFILE.md": 3050, "docs/PROVED.md": 3400, "docs/SECURITY.md": 1500,
-    "docs/SPEED.md": 1350, "docs/TRIED.md": 2875, "docs/anscheck.1": 4200, "library/README.md": 1500,
-    "library/js/README.md": 1550, "page/README.md": 1100,
+    "CHANGELOG.md": 592, "CONTRIBUTING.md": 584, "README.md": 1700, "conformance/README.md": 432,
+    "docs/CHANGING.md": 1370, "docs/DECISIONS.md": 3570, "docs/DEFINITIONS.md": 3540, "docs/DESIGN.md": 2860,
+    "docs/FAULTS.md": 3240, "docs/FOLDERS.md": 1240, "docs/GLOSSARY.md": 1100, "docs/MANUAL.md": 3370,
+    "docs/PLAYERS.md": 3250, "docs/PROFILE.md": 2870, "docs/PROVED.md": 3080, "docs/SECURITY.md": 1360,
+    "docs/SPEED.md": 785, "docs/TRIED.md": 2290, "docs/anscheck.1": 3650, "library/README.md": 1380,
+    "library/js/README.md": 1440, "page/README.md": 910,
 }
 
 # The words, as patterns, each with what is mostly better.
@@ -48,7 +48,7 @@ AVOIDED = {
     r"bytes to blame": "the offending bytes",
 }
 FOUND = re.compile(rf"\b(?:{'|'.join(AVOIDED)})\b", re.IGNORECASE)
-AGREED = {"pages": 89, "comments": 1011}
+AGREED = {"pages": 1, "comments": 1011}
 
 # A block's beginning or end, a line's comment, and where a link leads.
 FENCE = re.compile(r" *(?://[/!]?|--)? ?(?:```|\.[BE]d\b)")
