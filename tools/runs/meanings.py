@@ -46,12 +46,15 @@ are hexadecimal if they are numbers. A size is in columns x lines. If nothing el
 PARTS = (
     ("The record", "F1", """
 The record is the last 128 bytes of the file. Its faults are looked for in this order, and if it has one, the content
-is not looked at. Most drawing programs write it again when they save the drawing. By hand, a field is set at its
-offset, which for F2 to F7 is the number after `at`. This sets the two bytes there to 25 and 0, the low byte first, in
-octal digits:
+is not looked at. Most drawing programs write it again when they save the drawing; no command sets the width or the
+texts of a record that is there. In a hex editor, or by these lines, a field is set on a copy, at its offset: for F2 to
+F7 the number after `at`, else the file's size, less 128, plus [that in the record](PROFILE.md#the-file). The first sets
+two bytes to 25 and 0, the low byte first, in octal digits; the second the flags to 1, bright backgrounds (iCE colours)
+in place of blink.
 
 ```text
-printf '\\31\\0' | dd of=FILE bs=1 seek=101 conv=notrunc
+printf '\\31\\0' | dd of=COPY bs=1 seek=101 conv=notrunc
+printf '\\1' | dd of=COPY bs=1 seek=$(($(stat -c %s COPY) - 128 + 105)) conv=notrunc
 ```
 
 To cut off what follows a record (F1), find where it begins, here at 3, and keep what is before its end. To cut out
