@@ -14,7 +14,9 @@ use Rattle.clap.specs.Words.{Text}
 use Rattle.ans_options.specs.declared.command.TableForm.{TableForm}
 use Rattle.ans_check.specs.declared.naming.Naming.{Naming}
 use Rattle.ans_options.specs.CommandLine.{why_options}
-use Rattle.ans_check.specs.Answer.{EndsBy, EndsExplained, EndsNamed, EndsServed, EndsWhy, Says, Tells, message_of, said_text}
+use Rattle.ans_check.specs.Answer.{EndsBy, EndsExplained, EndsNamed, EndsServed, EndsWhy, Says, Tells, message_of}
+use Rattle.ans_check.specs.Answer.{said_text}
+use Rattle.std.specs.declared.io.ErrorKind.{ErrorKind}
 use Rattle.ans_report.specs.Message.{message_line}
 use Rattle.ans_table.specs.declared.counts.Counts.{Counts}
 use Rattle.ans_mend.specs.declared.outcome.Mended as outcome
@@ -107,44 +109,46 @@ said_something contents errors after (Some text) h told = told
 
 -- the table of names that the words give
 pub ends_by_names : {R W : Type 0} (remaining : R → Option (List ℕ)) (contents : W → Option (List ℕ))
-    (is_standard : R → Type 0) (is_file : Text → R → Type 0) (is_missing : Text → Type 0) (form : TableForm) (names : List Text)
-    (output after : Tried W) (ending : Ending) → 1 ≤ length names
-    → EndsNamed contents remaining is_file is_missing form names output after ending
-    → EndsBy remaining contents is_standard is_file is_missing form names output after ending
-ends_by_names remaining contents is_standard is_file is_missing form [] output after ending some h = absurd (omega arith)
-ends_by_names remaining contents is_standard is_file is_missing form (name ∷ more) output after ending some h = h
+    (is_standard : R → Type 0) (is_file : Text → R → Type 0) (fails : Text → ErrorKind → Type 0) (form : TableForm)
+    (names : List Text) (output after : Tried W) (ending : Ending) → 1 ≤ length names
+    → EndsNamed contents remaining is_file fails form names output after ending
+    → EndsBy remaining contents is_standard is_file fails form names output after ending
+ends_by_names remaining contents is_standard is_file fails form [] output after ending some h = absurd (omega arith)
+ends_by_names remaining contents is_standard is_file fails form (name ∷ more) output after ending some h = h
 
 -- the table of names on standard input
 pub ends_by_input : {R W : Type 0} (remaining : R → Option (List ℕ)) (contents : W → Option (List ℕ))
-    (is_standard : R → Type 0) (is_file : Text → R → Type 0) (is_missing : Text → Type 0) (form : TableForm) (names : List Text)
-    (output after : Tried W) (ending : Ending) → length names ≤ 0
-    → EndsBy remaining contents is_standard is_file is_missing form [] output after ending
-    → EndsBy remaining contents is_standard is_file is_missing form names output after ending
-ends_by_input remaining contents is_standard is_file is_missing form [] output after ending none h = h
-ends_by_input remaining contents is_standard is_file is_missing form (name ∷ more) output after ending none h = absurd (omega arith)
+    (is_standard : R → Type 0) (is_file : Text → R → Type 0) (fails : Text → ErrorKind → Type 0) (form : TableForm)
+    (names : List Text) (output after : Tried W) (ending : Ending) → length names ≤ 0
+    → EndsBy remaining contents is_standard is_file fails form [] output after ending
+    → EndsBy remaining contents is_standard is_file fails form names output after ending
+ends_by_input remaining contents is_standard is_file fails form [] output after ending none h = h
+ends_by_input remaining contents is_standard is_file fails form (name ∷ more) output after ending none h =
+    absurd (omega arith)
 
 -- the answer on one file, or on standard input
 pub why_of_one : {R W : Type 0} (remaining : R → Option (List ℕ)) (contents : W → Option (List ℕ))
-    (is_file : Text → R → Type 0) (is_standard : R → Type 0) (is_missing : Text → Type 0) (names : List Text)
-    (first : Option Text) (output after : Tried W) (ending : Ending) → length names ≤ 1 → first ≡ first_called names
-    → EndsServed remaining contents is_file is_standard is_missing (Reports why_options) Run first output after ending
-    → EndsWhy remaining contents is_file is_standard is_missing names output after ending
-why_of_one remaining contents is_file is_standard is_missing [] first output after ending few is h = rw is at h
-why_of_one remaining contents is_file is_standard is_missing (name ∷ []) first output after ending few is h =
+    (is_file : Text → R → Type 0) (is_standard : R → Type 0) (fails : Text → ErrorKind → Type 0)
+    (words names : List Text) (first : Option Text) (output after : Tried W) (ending : Ending)
+    → length names ≤ 1 → first ≡ first_called names
+    → EndsServed remaining contents is_file is_standard fails (Reports why_options) Run first output after ending
+    → EndsWhy remaining contents is_file is_standard fails words names output after ending
+why_of_one remaining contents is_file is_standard fails words [] first output after ending few is h = rw is at h
+why_of_one remaining contents is_file is_standard fails words (name ∷ []) first output after ending few is h =
     rw is at h
-why_of_one remaining contents is_file is_standard is_missing (name ∷ next ∷ more) first output after ending few is h =
+why_of_one remaining contents is_file is_standard fails words (name ∷ next ∷ more) first output after ending few is h =
     absurd (omega arith)
 
 -- the answers on several
 pub why_of_several : {R W : Type 0} (remaining : R → Option (List ℕ)) (contents : W → Option (List ℕ))
-    (is_file : Text → R → Type 0) (is_standard : R → Type 0) (is_missing : Text → Type 0) (names : List Text)
-    (output after : Tried W) (ending : Ending) → 2 ≤ length names
-    → EndsExplained remaining contents is_file is_missing names output after ending
-    → EndsWhy remaining contents is_file is_standard is_missing names output after ending
-why_of_several remaining contents is_file is_standard is_missing [] output after ending many h = absurd (omega arith)
-why_of_several remaining contents is_file is_standard is_missing (name ∷ []) output after ending many h =
+    (is_file : Text → R → Type 0) (is_standard : R → Type 0) (fails : Text → ErrorKind → Type 0)
+    (words names : List Text) (output after : Tried W) (ending : Ending) → 2 ≤ length names
+    → EndsExplained remaining contents is_file is_standard fails words names output after ending
+    → EndsWhy remaining contents is_file is_standard fails words names output after ending
+why_of_several remaining contents is_file is_standard fails words [] output after ending many h = absurd (omega arith)
+why_of_several remaining contents is_file is_standard fails words (name ∷ []) output after ending many h =
     absurd (omega arith)
-why_of_several remaining contents is_file is_standard is_missing (name ∷ next ∷ more) output after ending many h = h
+why_of_several remaining contents is_file is_standard fails words (name ∷ next ∷ more) output after ending many h = h
 
 -- an ending of which no more is told says its message
 pub said_as_message : (naming : Naming) (ending : Ending) → ((counts : Counts) → ending ≡ Table counts → ⊥)

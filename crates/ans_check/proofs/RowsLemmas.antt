@@ -34,14 +34,15 @@ use Rattle.ans_write.specs.declared.outbox.Outbox.{Outbox}
 use Rattle.ans_write.specs.declared.outbox.WriteFault.{WriteFault}
 use Rattle.ans_write.proofs.PutsLemmas.{WritesText-finished}
 use Rattle.ans_write.specs.declared.tried.Tried.{Tried}
+use Rattle.std.specs.declared.io.ErrorKind.{ErrorKind}
 
 -- ---- files
-module _ {R : Type 0} (remaining : R → Option (List ℕ)) (is_file : Text → R → Type 0) (is_missing : Text → Type 0)
-    (name : Text) (reader after : Tried R) where
+module _ {R : Type 0} (remaining : R → Option (List ℕ)) (is_file : Text → R → Type 0)
+    (fails : Text → ErrorKind → Type 0) (name : Text) (reader after : Tried R) where
   -- a file that was read to its end
   pub was_read : (file : List ℕ) → is_file name (inner_of reader) → call_count reader ≡ 0
       → HasRead (remaining (inner_of reader)) (remaining (inner_of after)) file
-      → IsGivenByName remaining is_file is_missing name (Ok file)
+      → IsGivenByName remaining is_file fails name (Ok file)
   was_read file input calls read =
       record { reader = reader; reader_after = after; input = input; unread = calls; gave = read }
 
@@ -50,8 +51,8 @@ module _ {R : Type 0} (remaining : R → Option (List ℕ)) (is_file : Text → 
       → IsErrOf {T = Vec ℕ Global} (Err e) why.ReadFailed ↔ IsTrue (has_failed after)
       → IfSome (remaining (inner_of reader)) (λ xs. IfSome (remaining (inner_of after)) (λ ys.
       IsErrOf {T = Vec ℕ Global} (Err e) why.TooLong ↔ (longest_file + length ys < length xs)))
-      → IsGivenByName remaining is_file is_missing name (Err e)
-  not_read why.Unopened input calls reading device long = absurd reading
+      → IsGivenByName remaining is_file fails name (Err e)
+  not_read (why.Unopened reason) input calls reading device long = absurd reading
   not_read why.NameNotText input calls reading device long = absurd reading
   not_read why.ReadFailed input calls reading device long =
       record { reader = reader; reader_after = after; input = input; unread = calls; gave = device.0 refl }
@@ -336,11 +337,12 @@ out_of_memory {W} {T} {contents} {may_lack} {text} a b ready may same = rw same 
 
 -- a text that was written of what was read of a file is written of the file of its name
 pub row_of_named : {R W : Type 0} {remaining : R → Option (List ℕ)} {is_file : Text → R → Type 0}
-    {is_missing : Text → Type 0} {tells : Text → Given → Outcome → List ℕ → Type 0} {name : Text}
-    {contents : W → Option (List ℕ)} {MayEnd : RunError → Type 0} {old new : Outbox W} {result : Result Outcome RunError}
-    (given : Given) → IsGivenByName remaining is_file is_missing name given
+    {fails : Text → ErrorKind → Type 0} {tells : Text → Given → Outcome → List ℕ → Type 0} {name : Text}
+    {contents : W → Option (List ℕ)} {MayEnd : RunError → Type 0} {old new : Outbox W}
+    {result : Result Outcome RunError}
+    (given : Given) → IsGivenByName remaining is_file fails name given
     → WritesRow contents MayEnd (tells name given) old new result
-    → WritesRow contents MayEnd (TellsNamed remaining is_file is_missing tells name) old new result
+    → WritesRow contents MayEnd (TellsNamed remaining is_file fails tells name) old new result
 row_of_named given is_given w = record {
   outcome = w.outcome;
   text = w.text;

@@ -31,11 +31,13 @@ use Rattle.ans_check.specs.Listing.{IsListing, was_read_whole, names_in, listed_
 use Rattle.ans_redraw.specs.Redrawing.{TellsRedrawn}
 use Rattle.ans_check.specs.Served.{ServesAs}
 use Rattle.ans_mend.specs.Mending.{TellsMended}
-use Rattle.ans_check.specs.Naming.{IsNaming, first_called, front_text, names_standard, unnamed, unopened_text}
+use Rattle.ans_check.specs.Naming.{IsNaming, IsUnopened, first_called, front_text, is_guessed, names_standard, unnamed}
+use Rattle.ans_check.specs.Naming.{unopened_text}
 use Rattle.ans_check.specs.Table.{WritesTable}
 use Rattle.ans_check.specs.WhyRows.{WritesWhys, unread_counts_said}
 use Rattle.ans_check.specs.declared.naming.Naming.{Naming}
-use Rattle.ans_check.specs.declared.unopened.Unopened.{Unopened}
+use Rattle.ans_table.specs.declared.unopened.Unopened.{Unopened}
+use Rattle.std.specs.declared.io.ErrorKind.{ErrorKind}
 use Rattle.ans_check.specs.declared.listing.Listing.{Listing}
 use Rattle.ans_check.specs.declared.errors.RunError.{RunError}
 use Rattle.ans_check.specs.declared.errors.RunError.TheVariants as error
@@ -65,20 +67,20 @@ pub record EndsAsServed {R W A : Type 0} (remaining : R → Option (List ℕ)) (
   pub ends : ending ≡ ending_of answer
 
 -- The input is a file that cannot be opened.
-pub record EndsUnopened {W : Type 0} (is_missing : Text → Type 0) (file : Option Text) (output output_after : Tried W)
-    (ending : Ending) : Type 0 where
-  pub named : IsSomeAnd file (λ name. (names_standard name ≡ false) × is_missing name)
-  pub unwritten : output_after ≡ output
+pub record EndsUnopened {W : Type 0} (fails : Text → ErrorKind → Type 0) (file : Option Text)
+    (output output_after : Tried W) (ending : Ending) : Type 0 where
   pub reason : Unopened
+  pub named : IsSomeAnd file (λ name. (names_standard name ≡ false) × IsUnopened fails name reason)
+  pub unwritten : output_after ≡ output
   pub ends : ending ≡ UnopenedFile reason
 
 -- the input of this name was served so, or it cannot be opened
 abbrev pub EndsServed : {R W A : Type 0} → (R → Option (List ℕ)) → (W → Option (List ℕ)) → (Text → R → Type 0)
-    → (R → Type 0) → (Text → Type 0) → (List ℕ → A → List ℕ → Type 0) → (Result A RunError → Ending) → Option Text
-    → Tried W → Tried W → Ending → Type 0
-EndsServed remaining contents is_file is_standard is_missing tells ending_of file output output_after ending =
+    → (R → Type 0) → (Text → ErrorKind → Type 0) → (List ℕ → A → List ℕ → Type 0) → (Result A RunError → Ending)
+    → Option Text → Tried W → Tried W → Ending → Type 0
+EndsServed remaining contents is_file is_standard fails tells ending_of file output output_after ending =
     EndsAsServed remaining contents is_file is_standard tells ending_of file output output_after ending
-    ⊎ EndsUnopened is_missing file output output_after ending
+    ⊎ EndsUnopened fails file output output_after ending
 
 -- how a table ends, by whether all names were read and what its writing came to
 abbrev pub ending_of_table : Bool → Result Counts RunError → Ending
@@ -88,70 +90,78 @@ ending_of_table whole (Err fault) = Run (Err fault)
 
 -- the table of these names was written, and is the ending; or there was no memory to list them, and nothing was
 abbrev pub EndsWritten : {R W : Type 0} → (W → Option (List ℕ)) → (R → Option (List ℕ)) → (Text → R → Type 0)
-    → (Text → Type 0) → TableForm → Bool → List Text → Tried W → Tried W → Ending → Type 0
-EndsWritten contents remaining is_file is_missing form whole names output output_after ending =
+    → (Text → ErrorKind → Type 0) → TableForm → Bool → List Text → Tried W → Tried W → Ending → Type 0
+EndsWritten contents remaining is_file fails form whole names output output_after ending =
     ((result : Result Counts RunError)
-    × WritesTable contents remaining is_file is_missing form names output output_after result
+    × WritesTable contents remaining is_file fails form names output output_after result
     × (ending ≡ ending_of_table whole result))
     ⊎ ((ending ≡ Run (Err error.Memory)) × (output_after ≡ output))
 
 -- The table of the named files; `-` is none of them.
 abbrev pub EndsNamed : {R W : Type 0} → (W → Option (List ℕ)) → (R → Option (List ℕ)) → (Text → R → Type 0)
-    → (Text → Type 0) → TableForm → List Text → Tried W → Tried W → Ending → Type 0
-EndsNamed contents remaining is_file is_missing form names output output_after ending =
+    → (Text → ErrorKind → Type 0) → TableForm → List Text → Tried W → Tried W → Ending → Type 0
+EndsNamed contents remaining is_file fails form names output output_after ending =
     MatchBool (list_any names_standard names) ((ending ≡ NamedInput) × (output_after ≡ output))
-    (EndsWritten contents remaining is_file is_missing form true names output output_after ending)
+    (EndsWritten contents remaining is_file fails form true names output output_after ending)
 
 -- standard input gave names, and the program ends as the table of them
 pub record EndsAfterListing {R W : Type 0} (remaining : R → Option (List ℕ)) (contents : W → Option (List ℕ))
-    (is_standard : R → Type 0) (is_file : Text → R → Type 0) (is_missing : Text → Type 0) (form : TableForm)
+    (is_standard : R → Type 0) (is_file : Text → R → Type 0) (fails : Text → ErrorKind → Type 0) (form : TableForm)
     (output output_after : Tried W) (ending : Ending) : Type 0 where
   pub reader : Tried R
   pub reader_after : Tried R
   pub input : is_standard (inner_of reader)
   pub listing : Listing
   pub listed : IsListing remaining reader reader_after listing
-  pub ends : EndsWritten contents remaining is_file is_missing form (was_read_whole listing)
+  pub ends : EndsWritten contents remaining is_file fails form (was_read_whole listing)
       (names_in (was_read_whole listing) (listed_bytes listing)) output output_after ending
 
 -- The table by the names that the words give: if they give none, by those on standard input, unless there was no
 -- memory for these.
 abbrev pub EndsBy : {R W : Type 0} → (R → Option (List ℕ)) → (W → Option (List ℕ)) → (R → Type 0)
-    → (Text → R → Type 0) → (Text → Type 0) → TableForm → List Text → Tried W → Tried W → Ending → Type 0
-EndsBy remaining contents is_standard is_file is_missing form [] output output_after ending =
-    EndsAfterListing remaining contents is_standard is_file is_missing form output output_after ending
+    → (Text → R → Type 0) → (Text → ErrorKind → Type 0) → TableForm → List Text → Tried W → Tried W → Ending → Type 0
+EndsBy remaining contents is_standard is_file fails form [] output output_after ending =
+    EndsAfterListing remaining contents is_standard is_file fails form output output_after ending
     ⊎ ((ending ≡ Run (Err error.Memory)) × (output_after ≡ output))
-EndsBy remaining contents is_standard is_file is_missing form (name ∷ more) output output_after ending =
-    EndsNamed contents remaining is_file is_missing form (name ∷ more) output output_after ending
+EndsBy remaining contents is_standard is_file fails form (name ∷ more) output output_after ending =
+    EndsNamed contents remaining is_file fails form (name ∷ more) output output_after ending
 
 -- how `why` of several files ends
 abbrev pub ending_of_whys : Result Counts RunError → Ending
 ending_of_whys (Ok counts) = Explained counts
 ending_of_whys (Err fault) = Run (Err fault)
 
+-- The first of the names was perhaps meant as a command, and its file cannot be opened: that is the ending.
+abbrev pub EndsMistaken : {W : Type 0} → (Text → ErrorKind → Type 0) → List Text → List Text → Tried W → Tried W
+    → Ending → Type 0
+EndsMistaken fails words names output output_after ending =
+    (is_guessed words (first_called names) ≡ true)
+    × EndsUnopened fails (first_called names) output output_after ending
+
 -- What is wrong with each of several files was written, and is the ending; or there was no memory to list them. If the
--- first name was perhaps meant as a command, and its file cannot be opened, that is the ending. `-` is none of them.
+-- first name was perhaps meant as a command, its file was opened before. `-` is none of them.
 abbrev pub EndsExplained : {R W : Type 0} → (R → Option (List ℕ)) → (W → Option (List ℕ)) → (Text → R → Type 0)
-    → (Text → Type 0) → List Text → Tried W → Tried W → Ending → Type 0
-EndsExplained remaining contents is_file is_missing names output output_after ending =
+    → (R → Type 0) → (Text → ErrorKind → Type 0) → List Text → List Text → Tried W → Tried W → Ending → Type 0
+EndsExplained {R} remaining contents is_file is_standard fails words names output output_after ending =
     MatchBool (list_any names_standard names) ((ending ≡ InputAmong) × (output_after ≡ output))
-    (EndsUnopened is_missing (first_called names) output output_after ending
-    ⊎ ((result : Result Counts RunError)
-    × WritesWhys contents remaining is_file is_missing names output output_after result
+    (EndsMistaken fails words names output output_after ending
+    ⊎ ((is_guessed words (first_called names) ≡ true
+    → (reader : R) × IsNamed is_file is_standard (first_called names) reader)
+    × (((result : Result Counts RunError)
+    × WritesWhys contents remaining is_file fails names output output_after result
     × (ending ≡ ending_of_whys result))
-    ⊎ ((ending ≡ Run (Err error.Memory)) × (output_after ≡ output)))
+    ⊎ ((ending ≡ Run (Err error.Memory)) × (output_after ≡ output)))))
 
 -- What is wrong with the files of these names: with standard input if there is none.
 abbrev pub EndsWhy : {R W : Type 0} → (R → Option (List ℕ)) → (W → Option (List ℕ)) → (Text → R → Type 0)
-    → (R → Type 0) → (Text → Type 0) → List Text → Tried W → Tried W → Ending → Type 0
-EndsWhy remaining contents is_file is_standard is_missing [] output output_after ending =
-    EndsServed remaining contents is_file is_standard is_missing (Reports why_options) Run None output output_after
+    → (R → Type 0) → (Text → ErrorKind → Type 0) → List Text → List Text → Tried W → Tried W → Ending → Type 0
+EndsWhy remaining contents is_file is_standard fails words [] output output_after ending =
+    EndsServed remaining contents is_file is_standard fails (Reports why_options) Run None output output_after ending
+EndsWhy remaining contents is_file is_standard fails words (name ∷ []) output output_after ending =
+    EndsServed remaining contents is_file is_standard fails (Reports why_options) Run (Some name) output output_after
     ending
-EndsWhy remaining contents is_file is_standard is_missing (name ∷ []) output output_after ending =
-    EndsServed remaining contents is_file is_standard is_missing (Reports why_options) Run (Some name) output
-    output_after ending
-EndsWhy remaining contents is_file is_standard is_missing (name ∷ next ∷ more) output output_after ending =
-    EndsExplained remaining contents is_file is_missing (name ∷ next ∷ more) output output_after ending
+EndsWhy remaining contents is_file is_standard fails words (name ∷ next ∷ more) output output_after ending =
+    EndsExplained remaining contents is_file is_standard fails words (name ∷ next ∷ more) output output_after ending
 
 -- The text of help is on the output; or the output failed, and has a prefix of it.
 abbrev pub PrintsHelp : {W : Type 0} → (W → Option (List ℕ)) → Tried W → Tried W → List ℕ → Ending → Type 0
@@ -172,38 +182,38 @@ is_check _ = false
 
 -- A file was checked. If it is refused for a fault of the start, the ending says where more is known of that.
 abbrev pub EndsChecked : {R W : Type 0} → (R → Option (List ℕ)) → (W → Option (List ℕ)) → (Text → R → Type 0)
-    → (R → Type 0) → (Text → Type 0) → Options → Option Text → Tried W → Tried W → Ending → Type 0
-EndsChecked remaining contents is_file is_standard is_missing options file output output_after ending =
-    EndsServed remaining contents is_file is_standard is_missing
+    → (R → Type 0) → (Text → ErrorKind → Type 0) → Options → Option Text → Tried W → Tried W → Ending → Type 0
+EndsChecked remaining contents is_file is_standard fails options file output output_after ending =
+    EndsServed remaining contents is_file is_standard fails
     (λ bytes. ReportsChecked bytes options.start options.cells) ending_of_checking file output output_after ending
 
 -- one command was done on one input
 abbrev pub EndsOne : {R W : Type 0} → (R → Option (List ℕ)) → (W → Option (List ℕ)) → (Text → R → Type 0)
-    → (R → Type 0) → (Text → Type 0) → Options → Option Text → Tried W → Tried W → Ending → Type 0
-EndsOne remaining contents is_file is_standard is_missing options file output output_after ending =
+    → (R → Type 0) → (Text → ErrorKind → Type 0) → Options → Option Text → Tried W → Tried W → Ending → Type 0
+EndsOne remaining contents is_file is_standard fails options file output output_after ending =
     MatchBool (is_check options.command)
-    (EndsChecked remaining contents is_file is_standard is_missing options file output output_after ending)
-    (EndsServed remaining contents is_file is_standard is_missing (Reports options) Run file output output_after ending)
+    (EndsChecked remaining contents is_file is_standard fails options file output output_after ending)
+    (EndsServed remaining contents is_file is_standard fails (Reports options) Run file output output_after ending)
 
--- what is asked for was done: one command on one input, what is wrong with files, a file mended or redrawn, a table of
--- many files, or what a fault, a note or a word means
+-- What these words ask for was done: one command on one input, what is wrong with files, a file mended or redrawn, a
+-- table of many files, or what a fault, a note or a word means.
 abbrev pub EndsAsTold : {R W : Type 0} → (R → Option (List ℕ)) → (W → Option (List ℕ)) → (Text → R → Type 0)
-    → (R → Type 0) → (Text → Type 0) → Asked → Tried W → Tried W → Ending → Type 0
-EndsAsTold remaining contents is_file is_standard is_missing (asked.One options file) output output_after ending =
-    EndsOne remaining contents is_file is_standard is_missing options (option_map string_bytes file) output output_after
+    → (R → Type 0) → (Text → ErrorKind → Type 0) → List Text → Asked → Tried W → Tried W → Ending → Type 0
+EndsAsTold remaining contents is_file is_standard fails words (asked.One options file) output output_after ending =
+    EndsOne remaining contents is_file is_standard fails options (option_map string_bytes file) output output_after
     ending
-EndsAsTold remaining contents is_file is_standard is_missing (asked.Why names) output output_after ending =
-    EndsWhy remaining contents is_file is_standard is_missing (map string_bytes names.items) output output_after ending
-EndsAsTold remaining contents is_file is_standard is_missing (asked.Mend mends file) output output_after ending =
-    EndsServed remaining contents is_file is_standard is_missing (TellsMended mends) (ending_of_mending mends)
+EndsAsTold remaining contents is_file is_standard fails words (asked.Why names) output output_after ending =
+    EndsWhy remaining contents is_file is_standard fails words (map string_bytes names.items) output output_after ending
+EndsAsTold remaining contents is_file is_standard fails words (asked.Mend mends file) output output_after ending =
+    EndsServed remaining contents is_file is_standard fails (TellsMended mends) (ending_of_mending mends)
     (option_map string_bytes file) output output_after ending
-EndsAsTold remaining contents is_file is_standard is_missing (asked.Redraw file) output output_after ending =
-    EndsServed remaining contents is_file is_standard is_missing TellsRedrawn ending_of_redrawing
+EndsAsTold remaining contents is_file is_standard fails words (asked.Redraw file) output output_after ending =
+    EndsServed remaining contents is_file is_standard fails TellsRedrawn ending_of_redrawing
     (option_map string_bytes file) output output_after ending
-EndsAsTold remaining contents is_file is_standard is_missing (asked.Table form names) output output_after ending =
-    EndsBy remaining contents is_standard is_file is_missing form (map string_bytes names.items) output output_after
+EndsAsTold remaining contents is_file is_standard fails words (asked.Table form names) output output_after ending =
+    EndsBy remaining contents is_standard is_file fails form (map string_bytes names.items) output output_after
     ending
-EndsAsTold remaining contents is_file is_standard is_missing (asked.Meaning topic) output output_after ending =
+EndsAsTold remaining contents is_file is_standard fails words (asked.Meaning topic) output output_after ending =
     PrintsHelp contents output output_after (meaning_text topic) ending
 
 -- The error is one that these words, with their command, can have. If they have no fault, it is want of memory.
@@ -265,20 +275,20 @@ Says contents errors errors_after naming ending =
 pub record SaysOf {E : Type 0} (contents : E → Option (List ℕ)) (errors errors_after : Tried E) (words : List Text)
     (a : Asked) (ending : Ending) : Type 0 where
   pub naming : Naming
-  pub named : IsNaming words a naming
+  pub named : IsNaming words a ending naming
   pub says : Says contents errors errors_after naming ending
 
 -- ---- the two ways in which words are answered
 
 -- The words ask for something, and the program ends with it. Words that clap reads, with their command, have no fault.
 pub record EndsAsAsked {R W E : Type 0} (remaining : R → Option (List ℕ)) (contents : W → Option (List ℕ))
-    (told : E → Option (List ℕ)) (is_file : Text → R → Type 0) (is_standard : R → Type 0) (is_missing : Text → Type 0)
-    (words : List Text) (output output_after : Tried W) (errors errors_after : Tried E) (ending : Ending)
+    (told : E → Option (List ℕ)) (is_file : Text → R → Type 0) (is_standard : R → Type 0)
+    (fails : Text → ErrorKind → Type 0) (words : List Text) (output output_after : Tried W) (errors errors_after : Tried E) (ending : Ending)
     : Type 0 where
   pub asked : Asked
   pub asked_by : IsAskedBy words asked
   pub faultless : topic_of words ≡ None → faults_of (words_asked words) ≡ []
-  pub ends : EndsAsTold remaining contents is_file is_standard is_missing asked output output_after ending
+  pub ends : EndsAsTold remaining contents is_file is_standard fails words asked output output_after ending
   pub says : SaysOf told errors errors_after words asked ending
 
 -- The words ask for nothing, not for what a fault, a note or a word means either, and the program ends as their error
@@ -293,9 +303,9 @@ pub record EndsRefused {W E : Type 0} (contents : W → Option (List ℕ)) (told
   pub says : Says told errors errors_after unnamed ending
 
 abbrev pub EndsSo : {R W E : Type 0} → (R → Option (List ℕ)) → (W → Option (List ℕ)) → (E → Option (List ℕ))
-    → (Text → R → Type 0) → (R → Type 0) → (Text → Type 0)
+    → (Text → R → Type 0) → (R → Type 0) → (Text → ErrorKind → Type 0)
     → List Text → Tried W → Tried W → Tried E → Tried E → Ending → Type 0
-EndsSo remaining contents told is_file is_standard is_missing words output output_after errors errors_after ending =
-    EndsAsAsked remaining contents told is_file is_standard is_missing words output output_after errors errors_after
+EndsSo remaining contents told is_file is_standard fails words output output_after errors errors_after ending =
+    EndsAsAsked remaining contents told is_file is_standard fails words output output_after errors errors_after
     ending
     ⊎ EndsRefused contents told words output output_after errors errors_after ending

@@ -14,6 +14,8 @@ use Rattle.ans_table.specs.Counting.{counts_of}
 use Rattle.ans_write.specs.Tried.{call_count, has_failed, inner_of}
 use Rattle.ans_write.specs.Writes.{WritesText}
 use Rattle.ans_write.specs.declared.tried.Tried.{Tried}
+use Rattle.std.specs.declared.io.ErrorKind.{ErrorKind}
+use Rattle.ans_check.specs.Naming.{IsUnopened}
 use Rattle.ans_check.specs.Run.{HasRead}
 use Rattle.ans_check.specs.declared.errors.RunError.{RunError}
 use Rattle.ans_check.specs.declared.errors.RunError.TheVariants as error
@@ -48,23 +50,23 @@ pub record IsGivenByReader {R : Type 0} (remaining : R → Option (List ℕ)) (i
   pub unread : call_count reader ≡ 0
   pub gave : Gave remaining reader reader_after given
 
--- What was read of the file of this name: that the name is no text, that the file cannot be opened, or what its reader
+-- What was read of the file of this name: that the name is no text, why the file was not opened, or what its reader
 -- gave.
-abbrev pub IsGivenByName : {R : Type 0} → (R → Option (List ℕ)) → (Text → R → Type 0) → (Text → Type 0) → Text
-    → Given → Type 0
-IsGivenByName remaining is_file is_missing name (Err why.NameNotText) = ¬ IsUtf8 name
-IsGivenByName remaining is_file is_missing name (Err why.Unopened) = is_missing name
-IsGivenByName remaining is_file is_missing name given = IsGivenByReader remaining (is_file name) given
+abbrev pub IsGivenByName : {R : Type 0} → (R → Option (List ℕ)) → (Text → R → Type 0) → (Text → ErrorKind → Type 0)
+    → Text → Given → Type 0
+IsGivenByName remaining is_file fails name (Err why.NameNotText) = ¬ IsUtf8 name
+IsGivenByName remaining is_file fails name (Err (why.Unopened reason)) = IsUnopened fails name reason
+IsGivenByName remaining is_file fails name given = IsGivenByReader remaining (is_file name) given
 
 -- ---- what is written
 
 -- `tells` says of a name, what was read of its file, an outcome and a text that they belong together. So do the outcome
 -- and the text of the file of this name.
 pub record TellsNamed {R : Type 0} (remaining : R → Option (List ℕ)) (is_file : Text → R → Type 0)
-    (is_missing : Text → Type 0) (tells : Text → Given → Outcome → List ℕ → Type 0) (name : Text) (outcome : Outcome)
-    (text : List ℕ) : Type 0 where
+    (fails : Text → ErrorKind → Type 0) (tells : Text → Given → Outcome → List ℕ → Type 0) (name : Text)
+    (outcome : Outcome) (text : List ℕ) : Type 0 where
   pub given : Given
-  pub is_given : IsGivenByName remaining is_file is_missing name given
+  pub is_given : IsGivenByName remaining is_file fails name given
   pub told : tells name given outcome text
 
 -- What may end the writing: a failed write, or want of memory for a text that may lack it.
@@ -77,8 +79,8 @@ pub record Told : Type 0 where
   pub outcome : Outcome
   pub text : List ℕ
 
--- The head was written before the texts of files: at `Ok` of all that are named, and else of the first, with a prefix of
--- the whole. The files are counted by how they came out.
+-- The head was written before the texts of files: at `Ok` of all that are named, and else of the first of them, with a
+-- prefix of the whole. The files are counted by how they came out.
 pub record WritesRows {W : Type 0} (contents : W → Option (List ℕ)) (tells : Text → Outcome → List ℕ → Type 0)
     (head : List ℕ) (names : List Text) (output output_after : Tried W) (result : Result Counts RunError)
     : Type 0 where

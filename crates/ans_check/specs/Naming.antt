@@ -1,13 +1,13 @@
 -- What standard error calls the input, and how an input that cannot be opened is told.
 use Rattle.std.specs.Prelude.{◌≡◌, ℕ, Bool, true, false, not, ◌&&◌, ◌||◌, ◌==◌, List, [], ◌∷◌, ◌++◌, Option, Some, None}
-use Rattle.std.specs.Prelude.{IfSome, IsSomeAnd, codes, if◌then◌else◌, is_some, map, option_map, string_bytes}
+use Rattle.std.specs.Prelude.{IfOk, IfSome, MatchResult, Ok, codes, if◌then◌else◌, is_some, map, option_map}
+use Rattle.std.specs.Prelude.{string_bytes, unwrap_or}
 use Rattle.std.specs.List.{list_any}
 use Rattle.std.specs.Option.{option_map_or}
 use Rattle.std.specs.Str.{bytes_eq}
 use Rattle.std.specs.declared.io.ErrorKind.{ErrorKind}
-use Rattle.std.specs.declared.io.ErrorKind.TheVariants as kind
 use Rattle.clap.specs.Words.{Text}
-use Rattle.ans_options.specs.CommandLine.{IsNear, command_name}
+use Rattle.ans_options.specs.CommandLine.{command_name, near_command}
 use Rattle.ans_options.specs.Topics.{topic_named}
 use Rattle.ans_options.specs.declared.command.Asked.{Asked}
 use Rattle.ans_options.specs.declared.command.Asked.TheVariants as asked
@@ -15,8 +15,13 @@ use Rattle.ans_options.specs.declared.command.Command.{Command}
 use Rattle.ans_options.specs.declared.command.Command.TheVariants.{Check, Sauce, Tokens, Why}
 use Rattle.ans_table.specs.NameText.{name_text}
 use Rattle.ans_check.specs.declared.naming.Naming.{Naming}
-use Rattle.ans_check.specs.declared.unopened.Unopened.{Unopened}
-use Rattle.ans_check.specs.declared.unopened.Unopened.TheVariants.{Missing, Denied, Folder, Other}
+use Rattle.ans_check.specs.declared.naming.Meant.{Meant}
+use Rattle.ans_check.specs.declared.naming.Meant.TheVariants as meant
+use Rattle.ans_check.specs.declared.exit_status.Ending.{Ending}
+use Rattle.ans_check.specs.declared.exit_status.Ending.TheVariants.{UnopenedFile}
+use Rattle.ans_table.specs.Unopened.{is_missing, plain_text, reason_text, unopened_of}
+use Rattle.ans_table.specs.declared.unopened.Unopened.{Unopened}
+use Rattle.ans_table.specs.declared.unopened.Unopened.TheVariants.{Missing}
 
 -- `-` names standard input
 abbrev pub names_standard : Text → Bool
@@ -65,57 +70,53 @@ is_dot_or_slash byte = byte == 0x2E || byte == 0x2F
 abbrev pub is_word : Option Text → Bool
 is_word name = option_map_or (λ n. not (list_any is_dot_or_slash n)) name false
 
--- What the messages call the input of what these words ask for. A name in a command's place, without a dot or a slash,
--- may have been meant as a command, or as a word that help explains.
-pub record IsNaming (words : List Text) (a : Asked) (n : Naming) : Type 0 where
+-- what may have been meant by a word that is neither a file nor a command: a command that is near, or else a word that
+-- help explains
+abbrev pub meant_by : Text → Meant
+meant_by word =
+    option_map_or meant.Command (near_command word)
+    (if is_some (topic_named word) then meant.Topic else meant.Nothing)
+
+-- Whether the first of these names may have been meant as a command: the words have none, and it has neither a dot nor a
+-- slash.
+abbrev pub is_guessed : List Text → Option Text → Bool
+is_guessed words name = is_left_out words && is_word name
+
+-- What the messages call the input of what these words ask for, which ended so. If there is no file of a name in a
+-- command's place, it says what may have been meant.
+pub record IsNaming (words : List Text) (a : Asked) (ending : Ending) (n : Naming) : Type 0 where
   pub name : option_map (λ name. name.now) n.name ≡ name_called a
-  pub word : n.is_word ≡ (is_why a && (is_left_out words && is_word (name_called a)))
-  pub topic : n.is_topic ≡ true → IsSomeAnd (name_called a) (λ name. is_some (topic_named name) ≡ true)
-  pub near : IfSome n.near (λ command. IsSomeAnd (name_called a) (λ name. IsNear name command.now))
+  pub word : n.is_word ≡ (is_why a && is_guessed words (name_called a))
+  pub meant : n.is_word ≡ true → ending ≡ UnopenedFile Missing
+      → IfSome (name_called a) (λ name. IfOk n.meant (λ meant. meant ≡ meant_by name))
 
 -- nothing is told
 abbrev pub unnamed : Naming
-unnamed = record { name = None; is_word = false; is_topic = false; near = None }
+unnamed = record { name = None; is_word = false; meant = Ok meant.Nothing }
 
 -- ---- an input that cannot be opened
 
--- the reason, by the kind of the system's error
-abbrev pub unopened_of : ErrorKind → Unopened
-unopened_of kind.NotFound = Missing
-unopened_of kind.PermissionDenied = Denied
-unopened_of kind.IsADirectory = Folder
-unopened_of _ = Other
-
--- the reason in words
-abbrev pub reason_text : Unopened → List ℕ
-reason_text Missing = codes "no such file"
-reason_text Denied = codes "permission denied"
-reason_text Folder = codes "is a folder"
-reason_text Other = codes "cannot open the file"
-
--- the same without the reason
-abbrev pub plain_text : Unopened → List ℕ
-plain_text Folder = codes "cannot read the file"
-plain_text _ = codes "cannot open the file"
+-- opening the file of this name fails, for this reason
+pub record IsUnopened (fails : Text → ErrorKind → Type 0) (name : Text) (reason : Unopened) : Type 0 where
+  pub kind : ErrorKind
+  pub failed : fails name kind
+  pub by : reason ≡ unopened_of kind
 
 -- a file's name, before what is said of it
 abbrev pub front_text : Naming → List ℕ
 front_text n = option_map_or (λ name. name_text name.now ++ codes ": ") n.name []
 
--- what may have been meant by a word that is neither a file nor a command
-abbrev pub meant_text : Naming → List ℕ
-meant_text n =
-    option_map_or (λ command. codes "; did you mean " ++ (command.now ++ codes "?")) n.near
-    (if n.is_topic then codes "; did you mean anscheck help " ++ (option_map_or (λ name. name.now) n.name [] ++ codes "?")
-    else [])
+-- what may have been meant, after a message on a word of this name
+abbrev pub meant_text : Option Text → Meant → List ℕ
+meant_text name meant.Nothing = []
+meant_text name (meant.Command command) = codes "; did you mean " ++ (command_name command ++ codes "?")
+meant_text name meant.Topic = codes "; did you mean anscheck help " ++ (unwrap_or name [] ++ codes "?")
 
--- a word that is neither a file nor a command
+-- a word that is neither a file nor a command; if there was no memory to find what was meant, nothing is said of that
 abbrev pub missing_text : Naming → List ℕ
-missing_text n = codes "no such file, and no such command" ++ meant_text n
-
-abbrev pub is_missing : Unopened → Bool
-is_missing Missing = true
-is_missing _ = false
+missing_text n =
+    codes "no such file, and no such command"
+    ++ MatchResult n.meant (λ meant. meant_text (option_map (λ name. name.now) n.name) meant) (λ _. [])
 
 -- why an input of this name was not opened
 abbrev pub reason_told : Naming → Unopened → List ℕ

@@ -17,7 +17,7 @@ run_error_text error.Write = codes "cannot write the report"
 
 -- why there is no answer where the input was not read
 abbrev pub run_error_of : Unread → RunError
-run_error_of why.Unopened = error.Read
+run_error_of (why.Unopened reason) = error.Read
 run_error_of why.ReadFailed = error.Read
 run_error_of why.TooLong = error.TooLong
 run_error_of why.Memory = error.Memory
@@ -25,7 +25,7 @@ run_error_of why.NameNotText = error.Read
 
 -- a file that is open was not read to its end
 abbrev pub IsOfOpenFile : Unread → Type 0
-IsOfOpenFile why.Unopened = ⊥
+IsOfOpenFile (why.Unopened reason) = ⊥
 IsOfOpenFile why.NameNotText = ⊥
 IsOfOpenFile _ = ⊤
 

@@ -51,7 +51,7 @@ pub record TellsFinding (form : TableForm) (name : Text) (given : Given) (outcom
 
 -- The table of these files was written, or a prefix of it.
 abbrev pub WritesTable : {R W : Type 0} → (W → Option (List ℕ)) → (R → Option (List ℕ)) → (Text → R → Type 0)
-    → (Text → Type 0) → TableForm → List Text → Tried W → Tried W → Result Counts RunError → Type 0
-WritesTable contents remaining is_file is_missing form names output output_after result =
-    WritesRows contents (TellsNamed remaining is_file is_missing (TellsFinding form)) (header form) names
+    → (Text → ErrorKind → Type 0) → TableForm → List Text → Tried W → Tried W → Result Counts RunError → Type 0
+WritesTable contents remaining is_file fails form names output output_after result =
+    WritesRows contents (TellsNamed remaining is_file fails (TellsFinding form)) (header form) names
     output output_after result

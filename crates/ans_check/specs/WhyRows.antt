@@ -55,9 +55,9 @@ pub record TellsWhy (name : Text) (given : Given) (outcome : Outcome) (text : Li
 
 -- What is wrong with each of these files was written, or a prefix of it.
 abbrev pub WritesWhys : {R W : Type 0} → (W → Option (List ℕ)) → (R → Option (List ℕ)) → (Text → R → Type 0)
-    → (Text → Type 0) → List Text → Tried W → Tried W → Result Counts RunError → Type 0
-WritesWhys contents remaining is_file is_missing names output output_after result =
-    WritesRows contents (TellsNamed remaining is_file is_missing TellsWhy) [] names output output_after result
+    → (Text → ErrorKind → Type 0) → List Text → Tried W → Tried W → Result Counts RunError → Type 0
+WritesWhys contents remaining is_file fails names output output_after result =
+    WritesRows contents (TellsNamed remaining is_file fails TellsWhy) [] names output output_after result
 
 -- how many of the files were not read
 abbrev pub unread_counts_line : Counts → List ℕ

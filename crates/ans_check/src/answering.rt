@@ -1,9 +1,8 @@
 //! From the program's words to its ending.
 
 ghost use Rattle.std.specs.Prelude.{◌≡◌, ◌≢◌, ◌++◌, [], None, false, IfSome, IsSomeAnd, is_some, not};
-ghost use Rattle.std.specs.Prelude.{option_map, string_bytes, true, unwrap_or, map, IfErr, IfOk};
+ghost use Rattle.std.specs.Prelude.{option_map, string_bytes, true, unwrap_or, map, IfErr, IfNone, IfOk};
 ghost use Rattle.std.specs.List.{list_any};
-ghost use Rattle.std.specs.Option.{option_map_or};
 ghost use Rattle.ans_model.specs.Text.Words.{texts_of};
 ghost use Rattle.ans_report.specs.Message.{message_line};
 ghost use Rattle.ans_write.specs.Puts.{Puts};
@@ -15,25 +14,24 @@ ghost use Rattle.ans_check.specs.Answer.{ending_of_table, ending_of_whys, meanin
 ghost use Rattle.ans_check.specs.Ending.{ending_of_words};
 ghost use Rattle.ans_check.specs.Listing.{was_read_whole, names_in, listed_bytes};
 ghost use Rattle.ans_check.specs.Answer.{SaysOf};
-ghost use Rattle.ans_check.specs.Naming.{first_called, front_text, meant_text, names_standard, unnamed};
-ghost use Rattle.ans_check.specs.Naming.{reason_told, unopened_text};
+ghost use Rattle.ans_check.specs.Naming.{IsUnopened, first_called, front_text, is_guessed, meant_text, missing_text};
+ghost use Rattle.ans_check.specs.Naming.{names_standard, reason_told, unnamed, unopened_text};
 
 use crate::check_file::Checking;
 use crate::errors::RunError;
 use crate::exit_status::Ending;
 use crate::inputs::Inputs;
 use crate::listing::Listing;
-use crate::naming::{Naming, first_of, is_left_out, is_word, name_of, naming_of, unnamed};
+use crate::naming::{Meant, Naming, first_of, is_guessed, name_of, naming_of, unnamed};
 use crate::redraw_file::Redrawing;
 use crate::rows::table;
 use crate::task::{Task, serve_task};
-use crate::unopened::Unopened;
 use crate::why_rows::{explain, put_unread_counts};
 use ans_mend::{put_mended, put_unmended};
 use ans_options::{Asked, Command, Options, TableForm, Topic, WordsError, asked};
 use ans_redraw::{put_redrawn, put_unredrawn};
 use ans_report::{Tried, fault_meaning, note_meaning};
-use ans_table::{Counts, put_counts, put_name};
+use ans_table::{Counts, Unopened, put_counts, put_name};
 use ans_write::Outbox;
 use std::alloc::{AllocError, Global};
 use std::io::Write;
@@ -51,7 +49,7 @@ fn says_nothing(ending: &Ending) -> bool
 
 /// Puts a name as it is, if there is one.
 fn put_word<W: Write>(out: &mut Outbox<'_, W>, name: Option<&str>)
-    ensures { Puts W.contents out.old out.new (option_map_or (λ n. n.now) name.entry []) }
+    ensures { Puts W.contents out.old out.new (unwrap_or (option_map (λ n. n.now) name.entry) []) }
 {
     if let Some(name) = name {
         out.put(name.as_bytes());
@@ -69,19 +67,31 @@ fn put_front<W: Write>(out: &mut Outbox<'_, W>, naming: &Naming<'_>)
 }
 
 /// Puts what may have been meant by a word that is neither a file nor a command.
-fn put_meant<W: Write>(out: &mut Outbox<'_, W>, naming: &Naming<'_>)
-    ensures { Puts W.contents out.old out.new (meant_text naming.now) }
+fn put_meant<W: Write>(out: &mut Outbox<'_, W>, name: Option<&str>, meant: Meant)
+    ensures { Puts W.contents out.old out.new (meant_text (option_map (λ n. n.now) name.entry) meant) }
 {
-    if let Some(command) = naming.near {
-        out.put(b"; did you mean ");
-        out.put(command.as_bytes());
-        out.put(b"?");
-        return;
+    match meant {
+        Meant::Nothing => {}
+        Meant::Command(command) => {
+            out.put(b"; did you mean ");
+            out.put(command.name().as_bytes());
+            out.put(b"?");
+        }
+        Meant::Topic => {
+            out.put(b"; did you mean anscheck help ");
+            put_word(out, name);
+            out.put(b"?");
+        }
     }
-    if naming.is_topic {
-        out.put(b"; did you mean anscheck help ");
-        put_word(out, naming.name);
-        out.put(b"?");
+}
+
+/// Puts that a word is neither a file nor a command, and what may have been meant.
+fn put_missing<W: Write>(out: &mut Outbox<'_, W>, naming: &Naming<'_>)
+    ensures { Puts W.contents out.old out.new (missing_text naming.now) }
+{
+    out.put(b"no such file, and no such command");
+    if let Ok(meant) = naming.meant {
+        put_meant(out, naming.name, meant);
     }
 }
 
@@ -90,8 +100,7 @@ fn put_reason<W: Write>(out: &mut Outbox<'_, W>, naming: &Naming<'_>, reason: Un
     ensures { Puts W.contents out.old out.new (reason_told naming.now reason) }
 {
     if naming.is_word && reason.is_missing() {
-        out.put(b"no such file, and no such command");
-        put_meant(out, naming);
+        put_missing(out, naming);
         return;
     }
     out.put(reason.reason().as_bytes());
@@ -180,8 +189,8 @@ pub(crate) fn say<E: Write>(errors: &mut Tried<E>, naming: &Naming<'_>, ending: 
 /// opened.
 fn input_named<I: Inputs>(inputs: I, name: Option<&str>) -> Result<I::Reader, Unopened>
     ensures some { IfOk result (IsNamed (I.is_file inputs) (I.is_standard inputs) (option_map (λ n. n.now) name.entry)) }
-    ensures none { IfErr result (λ _. IsSomeAnd (option_map (λ n. n.now) name.entry)
-        (λ file. (names_standard file ≡ false) × I.is_missing inputs file)) }
+    ensures none { IfErr result (λ reason. IsSomeAnd (option_map (λ n. n.now) name.entry)
+        (λ file. (names_standard file ≡ false) × IsUnopened (I.fails inputs) file reason)) }
 {
     match name {
         Some(name) if name != "-" => match inputs.file(name) {
@@ -284,34 +293,43 @@ fn end_of_whys(counts: Result<Counts, RunError>) -> Ending
 }
 
 /// Why the first file cannot be opened, if its name was perhaps meant as a command.
-fn mistaken<I: Inputs>(inputs: I, is_left_out: bool, names: &[String]) -> Option<Unopened>
-    ensures { IfSome result (λ _. IsSomeAnd (first_called (map string_bytes names.now))
-        (λ file. (names_standard file ≡ false) × I.is_missing inputs file)) }
+fn mistaken<I: Inputs>(inputs: I, words: &[&str], names: &[String]) -> Option<Unopened>
+    ensures some { IfSome result (λ reason.
+        (is_guessed (texts_of words.now) (first_called (map string_bytes names.now)) ≡ true)
+        × IsSomeAnd (first_called (map string_bytes names.now))
+        (λ file. (names_standard file ≡ false) × IsUnopened (I.fails inputs) file reason)) }
+    ensures none { IfNone result
+        (is_guessed (texts_of words.now) (first_called (map string_bytes names.now)) ≡ true
+        → (reader : I.Reader) × IsNamed (I.is_file inputs) (I.is_standard inputs)
+        (first_called (map string_bytes names.now)) reader) }
 {
     let first = first_of(names);
-    if !is_left_out || !is_word(first) {
+    if !is_guessed(words, first) {
         return None;
     }
-    input_named(inputs, first).err()
+    match input_named(inputs, first) {
+        Ok(_) => None,
+        Err(reason) => Some(reason),
+    }
 }
 
 /// Writes what is wrong with each of several files.
 fn serve_whys<I: Inputs, W: Write>(
     alloc: Global,
     inputs: I,
-    is_left_out: bool,
+    words: &[&str],
     names: &[String],
     output: &mut Tried<W>,
 ) -> Ending
     requires { has_failed output.old ≡ false }
-    ensures ends { EndsExplained I.Reader.remaining W.contents (I.is_file inputs) (I.is_missing inputs)
-        (map string_bytes names.now) output.old output.new result }
+    ensures ends { EndsExplained I.Reader.remaining W.contents (I.is_file inputs) (I.is_standard inputs)
+        (I.fails inputs) (texts_of words.now) (map string_bytes names.now) output.old output.new result }
     ensures write { TellsFailure output.new result }
 {
     if names_input(names) {
         return Ending::InputAmong;
     }
-    if let Some(reason) = mistaken(inputs, is_left_out, names) {
+    if let Some(reason) = mistaken(inputs, words, names) {
         return Ending::UnopenedFile(reason);
     }
     match byte_views(alloc, names) {
@@ -324,17 +342,17 @@ fn serve_whys<I: Inputs, W: Write>(
 fn serve_why<I: Inputs, W: Write>(
     alloc: Global,
     inputs: I,
-    is_left_out: bool,
+    words: &[&str],
     names: &[String],
     output: &mut Tried<W>,
 ) -> Ending
     requires { has_failed output.old ≡ false }
     ensures ends { EndsWhy I.Reader.remaining W.contents (I.is_file inputs) (I.is_standard inputs)
-        (I.is_missing inputs) (map string_bytes names.now) output.old output.new result }
+        (I.fails inputs) (texts_of words.now) (map string_bytes names.now) output.old output.new result }
     ensures write { TellsFailure output.new result }
 {
     if names.len() > 1 {
-        return serve_whys(alloc, inputs, is_left_out, names, output);
+        return serve_whys(alloc, inputs, words, names, output);
     }
     serve_one(alloc, inputs, &Options::WHY, first_of(names), output)
 }
@@ -348,7 +366,7 @@ fn serve_names<I: Inputs, W: Write>(
     output: &mut Tried<W>,
 ) -> Ending
     requires { has_failed output.old ≡ false }
-    ensures ends { EndsNamed W.contents I.Reader.remaining (I.is_file inputs) (I.is_missing inputs) form
+    ensures ends { EndsNamed W.contents I.Reader.remaining (I.is_file inputs) (I.fails inputs) form
         (map string_bytes names.now) output.old output.new result }
     ensures write { TellsFailure output.new result }
 {
@@ -371,7 +389,7 @@ fn serve_listing<I: Inputs, W: Write>(
 ) -> Ending
     requires { has_failed output.old ≡ false }
     ensures ends { EndsWritten W.contents
-        I.Reader.remaining (I.is_file inputs) (I.is_missing inputs) form (was_read_whole listing.now)
+        I.Reader.remaining (I.is_file inputs) (I.fails inputs) form (was_read_whole listing.now)
         (names_in (was_read_whole listing.now) (listed_bytes listing.now)) output.old output.new result }
     ensures write { TellsFailure output.new result }
 {
@@ -394,7 +412,7 @@ fn serve_input<I: Inputs, W: Write>(
 ) -> Ending
     requires { has_failed output.old ≡ false }
     ensures ends { EndsBy I.Reader.remaining W.contents (I.is_standard inputs)
-        (I.is_file inputs) (I.is_missing inputs) form []
+        (I.is_file inputs) (I.fails inputs) form []
         output.old output.new result }
     ensures write { TellsFailure output.new result }
 {
@@ -415,7 +433,7 @@ fn serve_table<I: Inputs, W: Write>(
 ) -> Ending
     requires { has_failed output.old ≡ false }
     ensures ends { EndsBy I.Reader.remaining W.contents (I.is_standard inputs)
-        (I.is_file inputs) (I.is_missing inputs) form
+        (I.is_file inputs) (I.fails inputs) form
         (map string_bytes names.now) output.old output.new result }
     ensures write { TellsFailure output.new result }
 {
@@ -435,7 +453,7 @@ fn serve_one<T: Task, I: Inputs, W: Write>(
 ) -> Ending
     requires { has_failed output.old ≡ false }
     ensures ends { EndsServed I.Reader.remaining W.contents (I.is_file inputs) (I.is_standard inputs)
-        (I.is_missing inputs) (T.tells task.now) (T.ending_of task.now) (option_map (λ n. n.now) name.entry)
+        (I.fails inputs) (T.tells task.now) (T.ending_of task.now) (option_map (λ n. n.now) name.entry)
         output.old output.new result }
     ensures write { TellsFailure output.new result }
 {
@@ -464,7 +482,7 @@ fn serve_command<I: Inputs, W: Write>(
 ) -> Ending
     requires { has_failed output.old ≡ false }
     ensures ends { EndsOne I.Reader.remaining W.contents (I.is_file inputs) (I.is_standard inputs)
-        (I.is_missing inputs) options.now (option_map (λ n. n.now) name.entry) output.old output.new result }
+        (I.fails inputs) options.now (option_map (λ n. n.now) name.entry) output.old output.new result }
     ensures write { TellsFailure output.new result }
 {
     if !is_check(&options.command) {
@@ -492,18 +510,18 @@ fn meaning_text(topic: Topic) -> &'static str
 fn serve_asked<I: Inputs, W: Write>(
     alloc: Global,
     inputs: I,
-    is_left_out: bool,
+    words: &[&str],
     asked: &Asked,
     output: &mut Tried<W>,
 ) -> Ending
     requires { has_failed output.old ≡ false }
     ensures ends { EndsAsTold I.Reader.remaining W.contents (I.is_file inputs) (I.is_standard inputs)
-        (I.is_missing inputs) asked.now output.old output.new result }
+        (I.fails inputs) (texts_of words.now) asked.now output.old output.new result }
     ensures write { TellsFailure output.new result }
 {
     match asked {
         Asked::One(options, name) => serve_command(alloc, inputs, options, name_of(name), output),
-        Asked::Why(names) => serve_why(alloc, inputs, is_left_out, names.as_slice(), output),
+        Asked::Why(names) => serve_why(alloc, inputs, words, names.as_slice(), output),
         Asked::Mend(mends, name) => serve_one(alloc, inputs, mends, name_of(name), output),
         Asked::Redraw(name) => serve_one(alloc, inputs, &Redrawing, name_of(name), output),
         Asked::Table(form, names) => serve_table(alloc, inputs, names.as_slice(), *form, output),
@@ -523,11 +541,11 @@ fn answer_asked<I: Inputs, W: Write, E: Write>(
     requires prints { has_failed output.old ≡ false }
     requires tells { has_failed errors.old ≡ false }
     ensures ends { EndsAsTold I.Reader.remaining W.contents (I.is_file inputs) (I.is_standard inputs)
-        (I.is_missing inputs) asked.now output.old output.new result }
+        (I.fails inputs) (texts_of words.now) asked.now output.old output.new result }
     ensures says { SaysOf E.contents errors.old errors.new (texts_of words.now) asked.now result }
     ensures write { TellsFailure output.new result }
 {
-    let ending = serve_asked(alloc, inputs, is_left_out(words), asked, output);
+    let ending = serve_asked(alloc, inputs, words, asked, output);
     let naming = naming_of(alloc, words, asked, &ending);
     say(errors, &naming, ending);
     ending
@@ -585,7 +603,7 @@ pub fn answer<I: Inputs, W: Write, E: Write>(
     requires prints { has_failed output.old ≡ false }
     requires tells { has_failed errors.old ≡ false }
     ensures ends { EndsSo I.Reader.remaining W.contents E.contents (I.is_file inputs) (I.is_standard inputs)
-        (I.is_missing inputs) (texts_of words.now) output.old output.new errors.old errors.new result }
+        (I.fails inputs) (texts_of words.now) output.old output.new errors.old errors.new result }
     ensures write { TellsFailure output.new result }
 {
     match asked(alloc, words) {

@@ -44,7 +44,7 @@ impl From<Unread> for RunError {
         match why {
             Unread::TooLong => RunError::TooLong,
             Unread::Memory => RunError::Memory,
-            Unread::Unopened | Unread::ReadFailed | Unread::NameNotText => RunError::Read,
+            Unread::Unopened(_) | Unread::ReadFailed | Unread::NameNotText => RunError::Read,
         }
     }
 }

@@ -7,11 +7,10 @@ ghost use Rattle.ans_check.specs.Run.{status_of};
 
 use crate::check_file::Checked;
 use crate::errors::RunError;
-use crate::unopened::Unopened;
 use ans_mend::{Mended, Unmended};
 use ans_options::{Mends, WordsError};
 use ans_redraw::{Redrawn, Unredrawn};
-use ans_table::Counts;
+use ans_table::{Counts, Unopened};
 use clap::error::ErrorKind;
 
 /// The exit status of what a run returned: 0 where the file passes, 1 where it is refused, and 2

@@ -14,7 +14,7 @@ use crate::errors::RunError;
 use crate::inputs::Inputs;
 use crate::reading::read_all;
 use ans_report::{Tried, WriteFault};
-use ans_table::{Counts, Outcome, Unread};
+use ans_table::{Counts, Outcome, Unopened, Unread};
 use ans_verdict::KeptScreens;
 use ans_write::Outbox;
 use std::alloc::{AllocError, Global};
@@ -77,14 +77,18 @@ fn tell_named<T: FileRows, I: Inputs, W: Write>(
 ) -> Result<Outcome, RunError>
     requires { IsReady out.old }
     ensures { WritesRow W.contents (MayEndRows (T.may_lack rows.now))
-        (TellsNamed I.Reader.remaining (I.is_file inputs) (I.is_missing inputs) (T.tells rows.now) name.now)
+        (TellsNamed I.Reader.remaining (I.is_file inputs) (I.fails inputs) (T.tells rows.now) name.now)
         out.old out.new result }
 {
     let Ok(text) = str::from_utf8(name) else {
         return tell_given(alloc, rows, screens, out, name, Err(Unread::NameNotText));
     };
-    let Ok(input) = inputs.file(text) else {
-        return tell_given(alloc, rows, screens, out, name, Err(Unread::Unopened));
+    let input = match inputs.file(text) {
+        Ok(input) => input,
+        Err(error) => {
+            let reason = Unopened::of(&error);
+            return tell_given(alloc, rows, screens, out, name, Err(Unread::Unopened(reason)));
+        }
     };
     let mut reader = Tried::new(input);
     match read_all(alloc, &mut reader) {
@@ -108,7 +112,7 @@ pub(crate) fn tell_rows<T: FileRows, I: Inputs, W: Write>(
     requires { IsReady out.old }
     ensures ends { EndsRows (MayEndRows (T.may_lack rows.now)) out.old out.new result }
     ensures rows { WritesRows W.contents
-        (TellsNamed I.Reader.remaining (I.is_file inputs) (I.is_missing inputs) (T.tells rows.now))
+        (TellsNamed I.Reader.remaining (I.is_file inputs) (I.fails inputs) (T.tells rows.now))
         [] (texts_of names.now) (device_of out.old) (device_of out.new) result }
 {
     let mut counts = Counts::NONE;

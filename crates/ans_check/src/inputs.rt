@@ -1,6 +1,8 @@
 //! The inputs that the words can name.
 
 ghost use Rattle.std.specs.Prelude.{IfOk, IfErr};
+ghost use Rattle.std.specs.IoError.{error_kind};
+ghost use Rattle.std.specs.declared.io.ErrorKind.{ErrorKind};
 ghost use Rattle.clap.specs.Words.{Text};
 
 use std::io::{self, Read};
@@ -16,13 +18,13 @@ pub trait Inputs: Copy + Drop {
     /// The reader is of standard input.
     ghost is_standard: { Self → Self.Reader → Type 0 };
 
-    /// The file of this name cannot be opened.
-    ghost is_missing: { Self → Text → Type 0 };
+    /// Opening the file of this name fails with an error of this kind.
+    ghost fails: { Self → Text → ErrorKind → Type 0 };
 
     /// Opens the file of this name.
     fn file(self, name: &str) -> io::Result<Self::Reader>
         ensures opened { IfOk result (is_file self name.now) }
-        ensures missing { IfErr result (λ _. is_missing self name.now) };
+        ensures unopened { IfErr result (λ error. fails self name.now (error_kind error)) };
 
     /// Standard input.
     fn standard(self) -> Self::Reader

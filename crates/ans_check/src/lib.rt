@@ -30,7 +30,6 @@ mod rows;
 mod streams;
 mod system;
 mod task;
-mod unopened;
 mod why_rows;
 
 pub use ans_kinds::{KindsUsed, Players};
@@ -43,7 +42,8 @@ pub use ans_redraw::{Redrawn, Unredrawn};
 pub use ans_report::Needs;
 pub use ans_sauce::Judged;
 pub use ans_table::{
-    Counts, FaultFinding, Finding, Outcome, PassFinding, RecordFinding, RowFinding, Unread,
+    Counts, FaultFinding, Finding, Outcome, PassFinding, RecordFinding, RowFinding, Unopened,
+    Unread,
 };
 pub use ans_verdict::{
     LentScreens, NewScreens, Screens, Verdict, check, needs, needs_on, play_on, why_on,
@@ -52,9 +52,8 @@ pub use answering::answer;
 pub use errors::RunError;
 pub use exit_status::{Ending, status};
 pub use inputs::Inputs;
-pub use naming::Naming;
+pub use naming::{Meant, Naming};
 pub use pipeline::run;
 pub use rows::table;
 pub use streams::{mend, redraw, serve};
 pub use system::program;
-pub use unopened::Unopened;

@@ -1,15 +1,26 @@
 //! What standard error calls the input.
 
-ghost use Rattle.std.specs.Prelude.{◌≡◌, map, option_map, string_bytes};
+ghost use Rattle.std.specs.Prelude.{◌≡◌, IfOk, map, option_map, string_bytes};
 ghost use Rattle.std.specs.List.{list_any};
 ghost use Rattle.ans_model.specs.Text.Words.{texts_of};
 ghost use Rattle.ans_check.specs.Naming.{IsNaming, file_called, first_called, is_dot_or_slash, is_left_out};
-ghost use Rattle.ans_check.specs.Naming.{is_word, name_called, tells_reason, unnamed};
+ghost use Rattle.ans_check.specs.Naming.{is_guessed, is_word, meant_by, name_called, tells_reason, unnamed};
 
 use crate::exit_status::Ending;
-use crate::unopened::Unopened;
 use ans_options::{Asked, Command, explains, near_command};
-use std::alloc::Global;
+use ans_table::Unopened;
+use std::alloc::{AllocError, Global};
+
+/// What may have been meant by a word that is neither a file nor a command.
+#[derive(Debug, Clone, Copy, PartialEq, Eq)]
+pub enum Meant {
+    /// Nothing that is known.
+    Nothing,
+    /// A command with a name that is near.
+    Command(Command),
+    /// Help on the word.
+    Topic,
+}
 
 /// What standard error calls the input.
 #[derive(Debug, Clone, Copy)]
@@ -18,10 +29,8 @@ pub struct Naming<'a> {
     pub name: Option<&'a str>,
     /// Whether the name is a word that may have been meant as a command.
     pub is_word: bool,
-    /// Whether help explains the word.
-    pub is_topic: bool,
-    /// The command that may have been meant.
-    pub near: Option<&'static str>,
+    /// What may have been meant by such a word if there is no file of its name. `Err` if memory ran out.
+    pub meant: Result<Meant, AllocError>,
 }
 
 /// No name is told.
@@ -31,13 +40,12 @@ pub(crate) fn unnamed() -> Naming<'static>
     Naming {
         name: None,
         is_word: false,
-        is_topic: false,
-        near: None,
+        meant: Ok(Meant::Nothing),
     }
 }
 
 /// Whether a command's messages tell the name and the reason: those of `check`, `sauce` and `tokens` do not.
-fn tells_reason(command: Command) -> bool
+pub(crate) fn tells_reason(command: Command) -> bool
     ensures { result ≡ tells_reason command }
 {
     !matches!(command, Command::Check | Command::Sauce | Command::Tokens)
@@ -92,11 +100,11 @@ fn name_called(asked: &Asked) -> Option<&str>
 }
 
 /// Whether the words have no command, so that the first of them is a file's name: `why` was put before it.
-pub(crate) fn is_left_out(words: &[&str]) -> bool
+fn is_left_out(words: &[&str]) -> bool
     ensures { result ≡ is_left_out (texts_of words.now) }
 {
     match words {
-        [_, word, ..] => *word != "why",
+        [_, word, ..] => *word != Command::Why.name(),
         _ => false,
     }
 }
@@ -108,12 +116,30 @@ fn has_dot_or_slash(bytes: &[u8]) -> bool
 }
 
 /// Whether a name may have been meant as a command: it has neither a dot nor a slash.
-pub(crate) fn is_word(name: Option<&str>) -> bool
+fn is_word(name: Option<&str>) -> bool
     ensures { result ≡ is_word (option_map (λ n. n.now) name.entry) }
 {
     match name {
         Some(name) => !has_dot_or_slash(name.as_bytes()),
         None => false,
+    }
+}
+
+/// Whether a name may have been meant as a command: the words have none, and the name has neither a dot nor a slash.
+pub(crate) fn is_guessed(words: &[&str], name: Option<&str>) -> bool
+    ensures { result ≡ is_guessed (texts_of words.now) (option_map (λ n. n.now) name.entry) }
+{
+    is_left_out(words) && is_word(name)
+}
+
+/// What may have been meant by a word that is neither a file nor a command. Fails if memory runs out.
+fn meant_by(alloc: Global, word: &str) -> Result<Meant, AllocError>
+    ensures { IfOk result (λ meant. meant ≡ meant_by word.now) }
+{
+    match near_command(alloc, word)? {
+        Some(command) => Ok(Meant::Command(command)),
+        None if explains(word) => Ok(Meant::Topic),
+        None => Ok(Meant::Nothing),
     }
 }
 
@@ -124,23 +150,17 @@ pub(crate) fn naming_of<'a>(
     asked: &'a Asked,
     ending: &Ending,
 ) -> Naming<'a>
-    ensures { IsNaming (texts_of words.now) asked.now result }
+    ensures { IsNaming (texts_of words.now) asked.now ending.now result }
 {
     let name = name_called(asked);
-    let is_why = matches!(asked, Asked::Why(_));
-    let is_word = is_why && is_left_out(words) && is_word(name);
-    let plain = Naming {
+    let is_word = matches!(asked, Asked::Why(_)) && is_guessed(words, name);
+    let meant = match (name, ending) {
+        (Some(word), Ending::UnopenedFile(Unopened::Missing)) if is_word => meant_by(alloc, word),
+        _ => Ok(Meant::Nothing),
+    };
+    Naming {
         name,
         is_word,
-        is_topic: false,
-        near: None,
-    };
-    match (name, ending) {
-        (Some(word), Ending::UnopenedFile(Unopened::Missing)) if is_word => Naming {
-            is_topic: explains(word),
-            near: near_command(alloc, word),
-            ..plain
-        },
-        _ => plain,
+        meant,
     }
 }

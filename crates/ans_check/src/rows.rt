@@ -137,7 +137,7 @@ pub fn table<I: Inputs, W: Write>(
     requires { has_failed output.old ≡ false }
     ensures device { IsErrOf result RunError.Write ↔ IsTrue (has_failed output.new) }
     ensures errors { IfErr result (MayEndTable form) }
-    ensures table { WritesTable W.contents I.Reader.remaining (I.is_file inputs) (I.is_missing inputs)
+    ensures table { WritesTable W.contents I.Reader.remaining (I.is_file inputs) (I.fails inputs)
         form (texts_of names.now) output.old output.new result }
 {
     let mut out = Outbox::new(output);

@@ -10,7 +10,8 @@ ghost use Rattle.ans_check.specs.declared.exit_status.Ending.{Ending};
 use crate::answering::{answer, say};
 use crate::exit_status::Ending;
 use crate::inputs::Inputs;
-use crate::naming::unnamed;
+use crate::naming::{tells_reason, unnamed};
+use ans_options::command_named;
 use ans_report::Tried;
 use std::alloc::{AllocError, Global};
 use std::cell::Cell;
@@ -51,7 +52,7 @@ impl Inputs for System<'_> {
 
     ghost is_standard = { λ _ input. is_named input ≡ false };
 
-    ghost is_missing = { λ _ _. ⊤ };
+    ghost fails = { λ _ _ _. ⊤ };
 
     fn file(self, name: &str) -> io::Result<Input> {
         let file = File::open(self.rt, name)?;
@@ -127,10 +128,13 @@ impl Write for Errors<'_> {
     }
 }
 
-/// Whether the words ask for a command that reports a closed output as any other.
+/// Whether the words ask for a command that reports a closed output as any other failed one.
 fn speaks_anyway(texts: &[String]) -> bool {
     match texts {
-        [_, word, ..] => matches!(word.as_str(), "check" | "sauce" | "tokens"),
+        [_, word, ..] => match command_named(word.as_str()) {
+            Some(command) => !tells_reason(command),
+            None => false,
+        },
         _ => false,
     }
 }

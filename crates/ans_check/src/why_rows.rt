@@ -104,7 +104,7 @@ pub(crate) fn explain<I: Inputs, W: Write>(
     requires { has_failed output.old ≡ false }
     ensures device { IsErrOf result RunError.Write ↔ IsTrue (has_failed output.new) }
     ensures errors { IfErr result (λ e. e ≡ RunError.Write) }
-    ensures whys { WritesWhys W.contents I.Reader.remaining (I.is_file inputs) (I.is_missing inputs)
+    ensures whys { WritesWhys W.contents I.Reader.remaining (I.is_file inputs) (I.fails inputs)
         (texts_of names.now) output.old output.new result }
 {
     let mut out = Outbox::new(output);

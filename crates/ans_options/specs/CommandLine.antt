@@ -1,9 +1,9 @@
 -- The command line, and the options that its words give.
 use Rattle.std.specs.Prelude.{map, fold, ◌≡◌, ◌≢◌, ◌↔◌, not, Bool, true, false, List, [], ◌∷◌, Option, Some, codes}
 use Rattle.std.specs.Prelude.{length, option_map, string_bytes, IsSomeAnd, IsTrue, MatchOption, if◌then◌else◌, unwrap_or, ⊤}
-use Rattle.std.specs.Prelude.{◌||◌, ◌&&◌, ◌≤◌, ℕ, IfSome, nat_eq, pos}
+use Rattle.std.specs.Prelude.{◌||◌, ◌&&◌, ◌≤◌, ℕ, IfSome, find, nat_eq, nat_le, pos}
 use Rattle.std.specs.List.{list_any, starts_with}
-use Rattle.std.specs.Option.{option_map_or}
+use Rattle.std.specs.Option.{option_map_or, option_or}
 use Rattle.std.specs.Str.{bytes_eq, chars}
 use Rattle.std.specs.Str.Parse.{IsNumeral, digits_value, without_leading_plus}
 use Rattle.strsim.specs.Edits.{levenshtein_row}
@@ -144,6 +144,10 @@ abbrev pub takes_flags : Command → Bool
 takes_flags Check = true
 takes_flags (Show form) = true
 takes_flags _ = false
+
+-- the command of this name, in its first form
+abbrev pub command_named : Text → Option Command
+command_named name = find (λ c. bytes_eq (command_name c) name) commands
 
 -- no command has this name
 abbrev pub IsNoCommand : Text → Type 0
@@ -346,9 +350,14 @@ words_asked words = words
 abbrev pub edits : Text → Text → ℕ
 edits word name = levenshtein_row nat_eq (chars word) (chars name) (length (chars name))
 
--- the name is a command's, and the word is at most two edits from it
-abbrev pub IsNear : Text → Text → Type 0
-IsNear word name = (list_any (bytes_eq name) command_names ≡ true) × (edits word name ≤ 2)
+-- the first command, in the order of the help, whose name is at most so many edits from a word
+abbrev pub command_within : ℕ → Text → Option Command
+command_within most word = find (λ c. nat_le (edits word (command_name c)) most) commands
+
+-- The command that may have been meant by a word: one that is one edit from it, or else two, the first in the order of
+-- the help.
+abbrev pub near_command : Text → Option Command
+near_command word = option_or (command_within 1 word) (command_within 2 word)
 
 -- the words ask for this: what a topic means if they name one, and else what clap reads in them with their command
 abbrev pub IsAskedBy : List Text → Asked → Type 0

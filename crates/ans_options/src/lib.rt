@@ -5,7 +5,7 @@
 //! [`Mends`] and the name of a file to be mended, or the name of a file to be redrawn; or a [`WordsError`].
 //! Before that it sees whether they ask for help on a [`Topic`], a fault, a note or a word by its name, which
 //! `clap` knows nothing of. A first word that is no command is a file's name, and `why` is put before it
-//! (`words_asked`); [`near_command`] is the command that may have been meant.
+//! (`words_asked`); [`command_named`] is the command of a name, and [`near_command`] the one that may have been meant.
 //! [`options`] gives the options alone with the one name, and reads the words as they are. Which words ask for
 //! what is in `specs/CommandLine.antt`, the topics in `specs/Topics.antt`; there `help` means `--help`, and
 //! `help COMMAND` means `COMMAND --help`. Laws of it are in `ans_check_laws`.
@@ -23,5 +23,5 @@ mod words;
 
 pub use ans_model::mends::Mends;
 pub use command::{Asked, Command, Form, Options, TableForm};
-pub use command_line::{WordsError, asked, near_command, options};
+pub use command_line::{WordsError, asked, command_named, near_command, options};
 pub use topic::{HelpWord, Topic, WordTable, explains};

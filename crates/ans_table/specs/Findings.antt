@@ -25,6 +25,7 @@ use Rattle.ans_table.specs.declared.finding.PassFinding.{PassFinding}
 use Rattle.ans_table.specs.declared.finding.RecordFinding.{RecordFinding}
 use Rattle.ans_table.specs.declared.finding.Unread.{Unread}
 use Rattle.ans_table.specs.declared.finding.Unread.TheVariants as why
+use Rattle.ans_table.specs.Unopened.{reason_text}
 
 -- before the fault the cursor is in this row and this column, counted from 1, in the play from the cleared start
 pub record StandsIn (z : Size) (content : List ℕ) (fault : Fault) (row column : ℕ) : Type 0 where
@@ -103,7 +104,7 @@ outcome_of (Err reason) = outcome.Unread
 
 -- why a file was not read
 abbrev pub unread_text : Unread → List ℕ
-unread_text why.Unopened = codes "cannot open the file"
+unread_text (why.Unopened reason) = reason_text reason
 unread_text why.ReadFailed = codes "cannot read the file"
 unread_text why.TooLong = codes "file above 16777216 bytes"
 unread_text why.Memory = codes "out of memory"

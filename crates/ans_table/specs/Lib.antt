@@ -1,4 +1,5 @@
 pub mod Labels
+pub mod Unopened
 pub mod Findings
 pub mod Columns
 pub mod NameText

@@ -14,6 +14,7 @@ ghost use Rattle.ans_table.specs.Findings.{outcome_in, outcome_of, parts_of, pas
 ghost use Rattle.ans_table.specs.Findings.{unread_text};
 
 use crate::counts::Outcome;
+use crate::unopened::Unopened;
 use ans_kinds::{Players, Reach};
 use ans_model::fault::Fault;
 use ans_model::start::Start;
@@ -23,8 +24,8 @@ use ans_sauce::{Judged, Parts, Record, cut_record};
 /// Why a file was not read.
 #[derive(Debug, Clone, Copy, PartialEq, Eq)]
 pub enum Unread {
-    /// It cannot be opened.
-    Unopened,
+    /// It was not opened, for this reason.
+    Unopened(Unopened),
     /// A read of it failed.
     ReadFailed,
     /// It has more than 16,777,216 bytes.
@@ -41,7 +42,7 @@ impl Unread {
         ensures { result.now ≡ unread_text self.now }
     {
         match self {
-            Unread::Unopened => "cannot open the file",
+            Unread::Unopened(reason) => reason.reason(),
             Unread::ReadFailed => "cannot read the file",
             Unread::TooLong => "file above 16777216 bytes",
             Unread::Memory => "out of memory",

@@ -18,9 +18,11 @@ mod json_object;
 mod labels;
 mod name_text;
 mod row_text;
+mod unopened;
 
 pub use counts::{Counts, Outcome, put_counts};
 pub use finding::{FaultFinding, Finding, PassFinding, RecordFinding, RowFinding, Unread};
 pub use json_object::json_row;
 pub use name_text::put_name;
 pub use row_text::{put_header, put_line, put_row};
+pub use unopened::Unopened;

@@ -52,7 +52,7 @@ impl<'a> Inputs for Shelf<'a> {
 
     ghost is_standard = { λ _ _. ⊤ };
 
-    ghost is_missing = { λ _ _. ⊤ };
+    ghost fails = { λ _ _ _. ⊤ };
 
     fn file(self, name: &str) -> io::Result<Reading<'a>> {
         for (held, stored) in self.files {

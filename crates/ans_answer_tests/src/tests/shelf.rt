@@ -85,7 +85,7 @@ impl<'a> Inputs for Shelf<'a> {
 
     ghost is_standard = { λ _ _. ⊤ };
 
-    ghost is_missing = { λ _ _. ⊤ };
+    ghost fails = { λ _ _ _. ⊤ };
 
     fn file(self, name: &str) -> io::Result<Stored<'a>> {
         match self.named(name) {

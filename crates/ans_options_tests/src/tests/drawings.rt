@@ -172,10 +172,12 @@ static NEAR: [(&str, Option<&str>); 25] = [
     ("drawing", None),
 ];
 
-/// Where memory runs out no command is named.
 #[test]
 fn a_misspelt_command_is_recognised(rt: HostRuntime) {
-    for (word, command) in &NEAR {
-        assert_eq!(rt; near_command(rt.alloc(), word), *command);
+    for (word, name) in &NEAR {
+        let Ok(near) = near_command(rt.alloc(), word) else {
+            panic!(rt; "no memory");
+        };
+        assert_eq!(rt; near.map(|command| command.name()), *name);
     }
 }

@@ -9,13 +9,13 @@ returns-in_default g c = row_of_named (Err why.NameNotText) c.in_default.ensures
 pub returns-in_default-file : goal.returns-in_default-file
 returns-in_default-file g c =
     row_of_named (Err why.Unopened)
-    (subst (g.I.Inputs.is_missing c.args.inputs) c.in-Ok.ensures.cases.0 c.in_default-file.ensures.missing)
+    (subst (g.I.Inputs.fails c.args.inputs) c.in-Ok.ensures.cases.0 c.in_default-file.ensures.missing)
     c.tell_given-in_default-file.ensures
 
 pub returns-in-Ok-read_all : goal.returns-in-Ok-read_all
 returns-in-Ok-read_all g c =
     row_of_named (Ok c.in-Ok-read_all.file.items)
-    (was_read g.I.Reader.Read.remaining (g.I.Inputs.is_file c.args.inputs) (g.I.Inputs.is_missing c.args.inputs)
+    (was_read g.I.Reader.Read.remaining (g.I.Inputs.is_file c.args.inputs) (g.I.Inputs.fails c.args.inputs)
     c.args.name.now c.new-reader.result c.read_all.new.r c.in-Ok-read_all.file.items
     (rw (sym c.new-reader.ensures.inner, c.in-Ok.ensures.cases.0) at c.in-Ok-file.ensures.opened)
     c.new-reader.ensures.calls c.in-Ok-read_all.ensures.whole)
@@ -24,7 +24,7 @@ returns-in-Ok-read_all g c =
 pub returns : goal.returns
 returns g c =
     row_of_named (Err c.in-Err.why)
-    (not_read g.I.Reader.Read.remaining (g.I.Inputs.is_file c.args.inputs) (g.I.Inputs.is_missing c.args.inputs)
+    (not_read g.I.Reader.Read.remaining (g.I.Inputs.is_file c.args.inputs) (g.I.Inputs.fails c.args.inputs)
     c.args.name.now c.new-reader.result c.read_all.new.r c.in-Err.why
     (rw (sym c.new-reader.ensures.inner, c.in-Ok.ensures.cases.0) at c.in-Ok-file.ensures.opened)
     c.new-reader.ensures.calls c.in-Err.ensures.reading c.in-Err.ensures.device c.in-Err.ensures.too_long)

@@ -8,5 +8,5 @@ use Rattle.ans_check.proofs.file_rows.tell_rows.Given as goal
 abbrev pub invariant-loop-name : goal.invariant-loop-name
 invariant-loop-name g l = IsReady l.out × (l.out.device.ghost_name ≡ l.fn.out.device.ghost_name)
     × TellsFirst g.W.Write.contents
-    (TellsNamed g.I.Reader.Read.remaining (g.I.Inputs.is_file l.fn.inputs) (g.I.Inputs.is_missing l.fn.inputs)
+    (TellsNamed g.I.Reader.Read.remaining (g.I.Inputs.is_file l.fn.inputs) (g.I.Inputs.fails l.fn.inputs)
     (g.T.FileRows.tells l.rows)) l.names l.name-index (device_of l.fn.out) (device_of l.out) l.counts

@@ -19,7 +19,7 @@ returns-in_err-tell_header-clause-table g c =
     let (e, at, same) = err_from_is_err_and c.from_residual.result c.from_residual.ensures.1 in
     let table =
     text_cut_off g.W.Write.contents
-    (TellsNamed g.I.Reader.Read.remaining (g.I.Inputs.is_file c.args.inputs) (g.I.Inputs.is_missing c.args.inputs)
+    (TellsNamed g.I.Reader.Read.remaining (g.I.Inputs.is_file c.args.inputs) (g.I.Inputs.fails c.args.inputs)
     (TellsFinding c.args.form)) (header c.args.form) (texts_of c.args.names.now) c.args.output.now c.args.output.now
     (device_of c.tell_header.new.out) c.in_err-tell_header.field-0.0
     (rw c.new-out.ensures.unchanged at c.in_err-tell_header.ensures.written) in
@@ -29,7 +29,7 @@ pub returns-clause-table : goal.returns-clause-table
 returns-clause-table g c =
     let table =
     rows_behind g.W.Write.contents
-    (TellsNamed g.I.Reader.Read.remaining (g.I.Inputs.is_file c.args.inputs) (g.I.Inputs.is_missing c.args.inputs)
+    (TellsNamed g.I.Reader.Read.remaining (g.I.Inputs.is_file c.args.inputs) (g.I.Inputs.fails c.args.inputs)
     (TellsFinding c.args.form)) (header c.args.form) (texts_of c.args.names.now) c.args.output.now (device_of c.tell_header.new.out)
     (device_of c.tell_rows.new.out) c.tell_rows.result
     (rw c.new-out.ensures.unchanged at c.in_ok-tell_header.ensures.written) c.tell_rows.ensures.rows in

@@ -2,7 +2,7 @@
 
 ghost use Rattle.std.specs.Prelude.{◌≡◌};
 ghost use Rattle.std.specs.IoError.{error_kind};
-ghost use Rattle.ans_check.specs.Naming.{is_missing, plain_text, reason_text, unopened_of};
+ghost use Rattle.ans_table.specs.Unopened.{is_missing, plain_text, reason_text, unopened_of};
 
 use std::io::{self, ErrorKind};
 
@@ -21,7 +21,7 @@ pub enum Unopened {
 
 impl Unopened {
     /// The reason by the kind of the system's error.
-    pub(crate) fn of(error: &io::Error) -> Unopened
+    pub fn of(error: &io::Error) -> Unopened
         ensures { result ≡ unopened_of (error_kind error.now) }
     {
         match error.kind() {
@@ -32,7 +32,8 @@ impl Unopened {
         }
     }
 
-    pub(crate) fn is_missing(self) -> bool
+    /// Whether there is no file of this name.
+    pub fn is_missing(self) -> bool
         ensures { result ≡ is_missing self }
     {
         self == Unopened::Missing
@@ -50,7 +51,7 @@ impl Unopened {
         }
     }
 
-    /// What is said if neither the name nor the reason is told.
+    /// What is said if neither the name nor the reason is.
     pub fn text(self) -> &'static str
         ensures { result.now ≡ plain_text self }
     {
