@@ -103,12 +103,12 @@ def try_system(program):
     for words in OF_A_NAMED_FOLDER:
         tried.append((words, (2, b"", b"anscheck: data: is a folder\n"), came_of(program, words, input=hi)))
     words = ["why", "data", "data/none.ans"]
-    answers = b"file: data\nerror: cannot open the file\nfile: data/none.ans\nerror: cannot open the file\n"
+    answers = b"file: data\nerror: is a folder\nfile: data/none.ans\nerror: no such file\n"
     said = b"anscheck: 2 of 2 files not read\n"
     tried.append((words, (2, answers, said), came_of(program, words, input=b"")))
     words = ["table", "--no-header", "data", "data/none.ans"]
-    rows = b"".join(
-        b"error\t\t\t\t\tcannot open the file" + b"\t" * 16 + name + b"\n" for name in (b"data", b"data/none.ans"))
+    reasons = {b"data": b"is a folder", b"data/none.ans": b"no such file"}
+    rows = b"".join(b"error" + b"\t" * 5 + why + b"\t" * 16 + name + b"\n" for name, why in reasons.items())
     said = b"anscheck: 2 files: 0 pass, 0 pass on a cleared screen, 0 refused, 2 not read\n"
     tried.append((words, (2, rows, said), came_of(program, words, input=b"")))
     closed = came_of(program, ["check", "--cleared"], input=hi, stdout=None, preexec_fn=lambda: os.close(1))

@@ -1,7 +1,7 @@
 -- What the words mean, by their form.
 use Rattle.std.proofs.Common.{◌≡◌, ◌≢◌, ◌≤◌, ◌<◌, false, List, [], ◌∷◌, length, Option, Some, None}
-use Rattle.std.proofs.Common.{arith, codes, refl, slice_index_or}
-use Rattle.std.specs.Prelude.{IfNone, is_some}
+use Rattle.std.proofs.Common.{◌∙◌, ap, arith, codes, refl, slice_index_or, sym, true, true≢false, Bool}
+use Rattle.std.specs.Prelude.{IfNone, IfSome, find, if◌then◌else◌, is_some}
 use Rattle.std.specs.Borrow.{Bor}
 use Rattle.std.specs.List.{list_any}
 use Rattle.std.specs.Str.{bytes_eq}
@@ -14,7 +14,7 @@ use Rattle.ans_options.specs.declared.command.Form.TheVariants.{Terminal}
 use Rattle.ans_model.specs.declared.mends.TheConstants.Mends as no_mends
 use Rattle.ans_options.specs.declared.command.TableForm.TheVariants.{Headed}
 use Rattle.ans_options.specs.CommandLine.{IsNoCommand, command_names, help_on, is_mend, is_redraw, takes_files}
-use Rattle.ans_options.specs.CommandLine.{words_meant}
+use Rattle.ans_options.specs.CommandLine.{command_name, command_named, words_meant}
 use Rattle.ans_model.specs.declared.mends.Mends.{Mends}
 use Rattle.ans_options.specs.declared.command.TableForm.{TableForm}
 use Rattle.ans_model.specs.Text.Words.{texts_of}
@@ -37,6 +37,40 @@ no_command_name name h =
       unequal name (codes "tokens") (h Tokens),
       unequal name (codes "table") (h (Table Headed)),
     ) refl
+
+-- the command of a name has that name
+pub command_has : (name : Text) (more : List Command)
+    → IfSome (find (λ c. bytes_eq (command_name c) name) more) (λ c. name ≡ command_name c)
+command_has name [] = tt
+command_has name (c ∷ more) = go (bytes_eq (command_name c) name) refl (command_has name more)
+  where
+    go : (b : Bool) → bytes_eq (command_name c) name ≡ b
+        → IfSome (find (λ c. bytes_eq (command_name c) name) more) (λ c. name ≡ command_name c)
+        → IfSome (if b then Some c else find (λ c. bytes_eq (command_name c) name) more) (λ c. name ≡ command_name c)
+    go true same rest = sym ((bytes_eq-Decides (command_name c) name).0 same)
+    go false other rest = rest
+
+-- each command has a name that names one
+names_command : (c : Command) → is_some (command_named (command_name c)) ≡ true
+names_command Why = refl
+names_command Needs = refl
+names_command Check = refl
+names_command (Show form) = refl
+names_command Sauce = refl
+names_command Tokens = refl
+names_command (Table form) = refl
+names_command (Mend mends) = refl
+names_command Redraw = refl
+
+-- a name without a command is none of theirs
+pub command_lacks : (name : Text) → IfNone (command_named name) (IsNoCommand name)
+command_lacks name = go (command_named name) refl
+  where
+    go : (found : Option Command) → command_named name ≡ found → IfNone found (IsNoCommand name)
+    go None none = λ c same.
+        let is : is_some (command_named name) ≡ true = rw (sym same) at (names_command c) in
+        true≢false (sym is ∙ ap is_some none)
+    go (Some c) some = tt
 
 -- `help` on what is no command
 pub help_on_none : (topic : List (Bor Text)) (none : Bor Text) (found : Option Command) → 1 ≤ length topic

@@ -1,6 +1,7 @@
 //! The command line, and the options that its words give.
 ghost use Rattle.std.specs.Prelude.{◌≡◌, true, IfOk, option_map, string_bytes, codes, map, IfSome, IfNone, IfErr};
-ghost use Rattle.std.specs.Prelude.{◌≤◌, IsSomeAnd, IsSome, None, IsTrue, ◌↔◌, ◌≢◌, false, [], ◌∷◌};
+ghost use Rattle.std.specs.Str.{bytes_eq};
+ghost use Rattle.std.specs.Prelude.{find, nat_le, IsSomeAnd, IsSome, None, IsTrue, ◌↔◌, ◌≢◌, false, [], ◌∷◌};
 ghost use Rattle.clap.specs.Words.{app_of, first_of, found_of, rows_of, rule_of, subcommand_rows_of, takes};
 ghost use Rattle.clap.specs.Words.{fault_of, subcommand_of};
 ghost use Rattle.ans_model.specs.Screen.StartClass.{none_known};
@@ -16,7 +17,7 @@ ghost use Rattle.ans_options.specs.CommandLine.{number_asked, number_rule};
 ghost use Rattle.ans_model.specs.MendFlags.{row_of_flag, with_given};
 ghost use Rattle.ans_model.specs.Text.Words.{texts_of};
 ghost use Rattle.ans_options.specs.CommandLine.{AsksAs, IsAskedBy, IsReadAs, files_of, table_form_asked, takes_files};
-ghost use Rattle.ans_options.specs.CommandLine.{command_named, command_within, names_file, near_command, words_asked};
+ghost use Rattle.ans_options.specs.CommandLine.{command_named, edits, names_file, near_command, words_asked};
 ghost use Rattle.ans_options.specs.Topics.{topic_of};
 ghost use Rattle.ans_options.specs.declared.command.Command.TheVariants.{Check, Show, Table, Mend};
 ghost use Rattle.ans_model.specs.declared.mends.TheConstants.Mends as no_mends;
@@ -353,30 +354,27 @@ fn with_mend_flags<'a>(
     Ok(command)
 }
 
-fn check_command<'a>(alloc: Global, name: &'a str) -> Result<clap::Command<'a>, AllocError>
-    requires { name.now ≡ command_name Check }
+fn check_command<'a>(alloc: Global) -> Result<clap::Command<'a>, AllocError>
     ensures { IfOk result (λ c. app_of c ≡ command_app Check) }
 {
-    let command = file_command(alloc, name, CHECK, CHECK_END)?;
+    let command = file_command(alloc, "check", CHECK, CHECK_END)?;
     let command = with_flags(alloc, command, &PART_FLAGS, false)?;
     with_flags(alloc, command, &CHECK_FLAGS, false)
 }
 
-fn show_command<'a>(alloc: Global, name: &'a str) -> Result<clap::Command<'a>, AllocError>
-    requires { name.now ≡ command_name (Show Terminal) }
+fn show_command<'a>(alloc: Global) -> Result<clap::Command<'a>, AllocError>
     ensures { IfOk result (λ c. app_of c ≡ command_app (Show Terminal)) }
 {
-    let command = file_command(alloc, name, SHOW, SHOW_END)?;
+    let command = file_command(alloc, "show", SHOW, SHOW_END)?;
     let command = with_flags(alloc, command, &SHOW_FLAGS, false)?;
     let command = with_flags(alloc, command, &START_FLAGS, true)?;
     with_flags(alloc, command, &PART_FLAGS, true)
 }
 
-fn mend_command<'a>(alloc: Global, name: &'a str) -> Result<clap::Command<'a>, AllocError>
-    requires { name.now ≡ command_name (Mend no_mends.NONE) }
+fn mend_command<'a>(alloc: Global) -> Result<clap::Command<'a>, AllocError>
     ensures { IfOk result (λ c. app_of c ≡ command_app (Mend no_mends.NONE)) }
 {
-    let command = file_command(alloc, name, MEND, MEND_END)?;
+    let command = file_command(alloc, "mend", MEND, MEND_END)?;
     let command = with_mend_flags(alloc, command, mend_flags())?;
     let lines = number(alloc, "lines", value_parser!(u16).range(1..=8192), LINES);
     let columns = value_parser!(u16).range(1..=1024);
@@ -390,28 +388,26 @@ const WHY_FILES: &str = "The files to read; - or none is standard input";
 /// The help of the files of `table`.
 const TABLE_FILES: &str = "The files; without any, names from standard input, ended by 00h";
 
-fn table_command<'a>(alloc: Global, name: &'a str) -> Result<clap::Command<'a>, AllocError>
-    requires { name.now ≡ command_name (Table Headed) }
+fn table_command<'a>(alloc: Global) -> Result<clap::Command<'a>, AllocError>
     ensures { IfOk result (λ c. app_of c ≡ command_app (Table Headed)) }
 {
-    let command = files_command(alloc, name, TABLE, TABLE_END, TABLE_FILES)?;
+    let command = files_command(alloc, "table", TABLE, TABLE_END, TABLE_FILES)?;
     with_flags(alloc, command, &TABLE_FLAGS, false)
 }
 
 fn subcommand<'a>(alloc: Global, command: Command) -> Result<clap::Command<'a>, AllocError>
     ensures { IfOk result (λ c. app_of c ≡ command_app command) }
 {
-    let name = command.name();
     match command {
-        Command::Why => files_command(alloc, name, WHY, WHY_END, WHY_FILES),
-        Command::Mend(_) => mend_command(alloc, name),
-        Command::Redraw => file_command(alloc, name, REDRAW, REDRAW_END),
-        Command::Needs => file_command(alloc, name, NEEDS, NEEDS_END),
-        Command::Check => check_command(alloc, name),
-        Command::Show(_) => show_command(alloc, name),
-        Command::Sauce => file_command(alloc, name, SAUCE, SAUCE_END),
-        Command::Tokens => file_command(alloc, name, TOKENS, TOKENS_END),
-        Command::Table(_) => table_command(alloc, name),
+        Command::Why => files_command(alloc, "why", WHY, WHY_END, WHY_FILES),
+        Command::Mend(_) => mend_command(alloc),
+        Command::Redraw => file_command(alloc, "redraw", REDRAW, REDRAW_END),
+        Command::Needs => file_command(alloc, "needs", NEEDS, NEEDS_END),
+        Command::Check => check_command(alloc),
+        Command::Show(_) => show_command(alloc),
+        Command::Sauce => file_command(alloc, "sauce", SAUCE, SAUCE_END),
+        Command::Tokens => file_command(alloc, "tokens", TOKENS, TOKENS_END),
+        Command::Table(_) => table_command(alloc),
     }
 }
 
@@ -447,15 +443,26 @@ fn holds(matches: &ArgMatches<'_>, id: &str) -> bool
     matches.get_one::<bool>(id).unwrap_or(false)
 }
 
+/// The first of the commands that has this name.
+fn command_among(commands: &[Command], name: &str) -> Option<Command>
+    ensures { result ≡ find (λ c. bytes_eq (command_name c) name.now) commands.now }
+{
+    for command in commands {
+        if command.name() == name {
+            return Some(*command);
+        }
+    }
+    None
+}
+
 /// The command of this name, in its first form: of `show` the picture in a terminal's colours, of `table` the rows under
 /// their names, of `mend` without flags.
 pub fn command_named(name: &str) -> Option<Command>
-    ensures { result ≡ command_named name.now }
+    ensures is { result ≡ command_named name.now }
+    ensures some { IfSome result (λ c. name.now ≡ command_name c) }
+    ensures none { IfNone result (IsNoCommand name.now) }
 {
-    COMMANDS
-        .iter()
-        .find(|command| command.name() == name)
-        .copied()
+    command_among(&COMMANDS, name)
 }
 
 fn form_asked(matches: &ArgMatches<'_>) -> Form
@@ -721,7 +728,7 @@ fn words_asked<'a>(alloc: Global, words: &[&'a str]) -> Result<Vec<&'a str>, All
 {
     match words {
         [program, word, more @ ..] if names_file(word) => {
-            let mut asked = Vec::from_slice(alloc, &[*program, Command::Why.name(), *word])?;
+            let mut asked = Vec::from_slice(alloc, &[*program, "why", *word])?;
             asked.extend_from_slice(more)?;
             Ok(asked)
         }
@@ -729,11 +736,16 @@ fn words_asked<'a>(alloc: Global, words: &[&'a str]) -> Result<Vec<&'a str>, All
     }
 }
 
-/// The first command, in the order of help, that is at most this many edits from the word. Fails if memory runs out.
-fn command_within(alloc: Global, most: usize, word: &str) -> Result<Option<Command>, AllocError>
-    ensures { IfOk result (λ near. near ≡ command_within most word.now) }
+/// The first of the commands that is at most this many edits from the word. Fails if memory runs out.
+fn command_within(
+    alloc: Global,
+    commands: &[Command],
+    most: usize,
+    word: &str,
+) -> Result<Option<Command>, AllocError>
+    ensures { IfOk result (λ near. near ≡ find (λ c. nat_le (edits word.now (command_name c)) most) commands.now) }
 {
-    for command in &COMMANDS {
+    for command in commands {
         if levenshtein(alloc, word, command.name())? <= most {
             return Ok(Some(*command));
         }
@@ -747,9 +759,9 @@ fn command_within(alloc: Global, most: usize, word: &str) -> Result<Option<Comma
 pub fn near_command(alloc: Global, word: &str) -> Result<Option<Command>, AllocError>
     ensures { IfOk result (λ near. near ≡ near_command word.now) }
 {
-    match command_within(alloc, 1, word)? {
+    match command_within(alloc, &COMMANDS, 1, word)? {
         Some(command) => Ok(Some(command)),
-        None => command_within(alloc, 2, word),
+        None => command_within(alloc, &COMMANDS, 2, word),
     }
 }
 
