@@ -110,7 +110,8 @@ front_text n = option_map_or (λ name. name_text name.now ++ codes ": ") n.name 
 abbrev pub meant_text : Option Text → Meant → List ℕ
 meant_text name meant.Nothing = []
 meant_text name (meant.Command command) = codes "; did you mean " ++ (command_name command ++ codes "?")
-meant_text name meant.Topic = codes "; did you mean anscheck help " ++ (unwrap_or name [] ++ codes "?")
+meant_text name meant.Topic =
+    codes "; did you mean anscheck help " ++ (name_text (unwrap_or name []) ++ codes "?")
 
 -- a word that is neither a file nor a command; if there was no memory to find what was meant, nothing is said of that
 abbrev pub missing_text : Naming → List ℕ

@@ -5,6 +5,7 @@ ghost use Rattle.std.specs.Prelude.{option_map, string_bytes, true, unwrap_or, m
 ghost use Rattle.std.specs.List.{list_any};
 ghost use Rattle.ans_model.specs.Text.Words.{texts_of};
 ghost use Rattle.ans_report.specs.Message.{message_line};
+ghost use Rattle.ans_table.specs.NameText.{name_text};
 ghost use Rattle.ans_write.specs.Puts.{Puts};
 ghost use Rattle.ans_write.specs.Tried.{has_failed};
 ghost use Rattle.ans_check.specs.Answer.{EndsAfter, EndsAsTold, EndsBy, EndsNamed, EndsServed, EndsSo, EndsWritten};
@@ -47,12 +48,12 @@ fn says_nothing(ending: &Ending) -> bool
     }
 }
 
-/// Puts a name as it is, if there is one.
+/// Puts a name, if there is one.
 fn put_word<W: Write>(out: &mut Outbox<'_, W>, name: Option<&str>)
-    ensures { Puts W.contents out.old out.new (unwrap_or (option_map (λ n. n.now) name.entry) []) }
+    ensures { Puts W.contents out.old out.new (name_text (unwrap_or (option_map (λ n. n.now) name.entry) [])) }
 {
     if let Some(name) = name {
-        out.put(name.as_bytes());
+        put_name(out, name.as_bytes());
     }
 }
 

@@ -144,11 +144,11 @@ pub clean_decimal : (n : ℕ) → IsCleanText (decimal n)
 clean_decimal n = plain_text (decimal n) (decimal_is is_plain digit_plain n)
 
 -- the test of each number below n
-abbrev all_below : (ℕ → Bool) → ℕ → Bool
+abbrev pub all_below : (ℕ → Bool) → ℕ → Bool
 all_below p zero = true
 all_below p (suc n) = p n && all_below p n
 
-below_at : (p : ℕ → Bool) (n b : ℕ) → all_below p n ≡ true → b < n → p b ≡ true
+pub below_at : (p : ℕ → Bool) (n b : ℕ) → all_below p n ≡ true → b < n → p b ≡ true
 below_at p zero b h l = absurd (omega (arith, l))
 below_at p (suc n) b h l = elim (cases_eq b n) [
   | inl e ↦ ap p e ∙ (and_parts (p n) (all_below p n) h).0
@@ -226,7 +226,7 @@ shown_has_no_controls bytes h = record {
 }
 
 -- a text without control characters is clean
-without_controls_clean : (text : List ℕ) → HasNoControls text → IsCleanText text
+pub without_controls_clean : (text : List ℕ) → HasNoControls text → IsCleanText text
 without_controls_clean text h = record {
   characters = h.characters;
   are_characters = h.are_characters;

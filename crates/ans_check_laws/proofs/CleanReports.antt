@@ -35,8 +35,8 @@ use Rattle.ans_check.specs.declared.exit_status.Ending.{Ending}
 use Rattle.ans_check.specs.declared.exit_status.Ending.TheVariants as ended
 use Rattle.ans_check.specs.declared.exit_status.Ending.TheVariants.{Run, UnreadableWords, UnopenedFile}
 use Rattle.ans_check.specs.Run.{run_error_text}
-use Rattle.ans_check.specs.Naming as naming
-use Rattle.ans_check.specs.declared.unopened.Unopened.TheVariants.{Missing, Folder}
+use Rattle.ans_table.specs.Unopened as unopened
+use Rattle.ans_table.specs.declared.unopened.Unopened.TheVariants.{Missing, Folder}
 use Rattle.ans_check_laws.specs.CleanTexts.{IsCleanText, IsColouredText, is_for_terminal}
 use Rattle.ans_check_laws.proofs.CleanLines.{OfBytes, clean_lines, parts_are_bytes}
 use Rattle.ans_check_laws.proofs.CleanWhy.{why_clean}
@@ -202,13 +202,13 @@ error_text_clean : (e : RunError) → IsCleanText (run_error_text e)
 error_text_clean error.Read = plain_text (run_error_text error.Read) refl
 error_text_clean e = plain_text (run_error_text e) refl
 
-message_clean : (ending : Ending) → IfSome (ending_message ending) IsCleanText
+pub message_clean : (ending : Ending) → IfSome (ending_message ending) IsCleanText
 message_clean (Run (Ok passed)) = tt
 message_clean (Run (Err error)) = error_text_clean error
 message_clean UnreadableWords = plain_text (codes "cannot read the command line") refl
-message_clean (UnopenedFile Missing) = plain_text (naming.plain_text Missing) refl
-message_clean (UnopenedFile Folder) = plain_text (naming.plain_text Folder) refl
-message_clean (UnopenedFile reason) = plain_text (naming.plain_text reason) refl
+message_clean (UnopenedFile Missing) = plain_text (unopened.plain_text Missing) refl
+message_clean (UnopenedFile Folder) = plain_text (unopened.plain_text Folder) refl
+message_clean (UnopenedFile reason) = plain_text (unopened.plain_text reason) refl
 message_clean ended.NamedInput =
     plain_text (codes "table takes no '-': without FILE it reads file names from standard input") refl
 message_clean ended.InputAmong =

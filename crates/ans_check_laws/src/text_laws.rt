@@ -1,6 +1,9 @@
 //! Laws of the texts that are written: no byte of a file comes out as a control character.
 
-ghost use Rattle.std.specs.Prelude.{◌≡◌, ◌&&◌, ℕ, Bool, false, List, All, Some};
+ghost use Rattle.std.specs.Prelude.{◌≡◌, ◌&&◌, ℕ, Bool, false, List, All, IfSome, Some, option_map};
+ghost use Rattle.ans_table.specs.NameText.{name_text};
+ghost use Rattle.ans_check.specs.Answer.{message_of};
+ghost use Rattle.ans_check.specs.declared.naming.Naming.{Naming};
 ghost use Rattle.ans_model.specs.Bytes.{IsByte};
 ghost use Rattle.ans_model.specs.Text.Characters.{glyph_text, shown_bytes};
 ghost use Rattle.ans_model.specs.Text.RecordText.{named_line};
@@ -46,6 +49,15 @@ pub fn texts_are_clean()
         → All IsByte file → Reports options file passed text → IsColouredText text }
     ensures messages { (ending : Ending) (text : List ℕ)
         → ending_message ending ≡ Some text → IsCleanText (message_line text) }
+{}
+
+/// A file's name is shown without control characters, whatever bytes it has. So the line on standard error that says why
+/// there is no answer is clean with the name of the input too, and with what may have been meant by it.
+pub fn names_are_shown_clean()
+    ensures names { (name : List ℕ) → All IsByte name → HasNoControls (name_text name) }
+    ensures messages { (naming : Naming) (ending : Ending) (text : List ℕ)
+        → IfSome (option_map (λ name. name.now) naming.name) (All IsByte)
+        → message_of naming ending ≡ Some text → IsCleanText (message_line text) }
 {}
 
 /// What mending says is clean, whatever bytes the file has: what was changed of it, and why there is

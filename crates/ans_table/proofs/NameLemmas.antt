@@ -2,7 +2,7 @@
 use Rattle.std.proofs.Common.{◌≡◌, ◌∙◌, ℕ, zero, suc, ◌-◌, ◌/◌, ◌%◌, ◌<◌, ◌≤◌, ◌==◌, ◌||◌, Bool, true, false, List, []}
 use Rattle.std.proofs.Common.{◌∷◌, ◌++◌, length, drop, All, Option, Some, None, ap, arith, get_or, refl, subst, sym}
 use Rattle.std.specs.Prelude.{if◌then◌else◌, nat_lt}
-use Rattle.std.specs.Char.{encode_utf8}
+use Rattle.std.specs.Char.{IsScalar, encode_utf8}
 use Rattle.std.specs.Option.{option_map_or}
 use Rattle.std.specs.Str.{IsUtf8}
 use Rattle.std.proofs.lemmas.Bool.{lt-ltb, le-ltb}
@@ -104,60 +104,69 @@ copied_front (suc n) (b ∷ front) rest e =
 
 -- the character that is shown as itself
 wide_char : (o : Option ℕ) (size : ℕ) → 0 < (if option_map_or is_shown o false then size else 0)
-    → (c : ℕ) × (o ≡ Some c) × ((if option_map_or is_shown o false then size else 0) ≡ size)
+    → (c : ℕ) × (o ≡ Some c) × (is_shown c ≡ true) × ((if option_map_or is_shown o false then size else 0) ≡ size)
 wide_char None size some = absurd (omega (arith, some))
-wide_char (Some c) size some = (c, refl, go (is_shown c) some)
+wide_char (Some c) size some = let (shown, is) = go (is_shown c) some in (c, refl, shown, is)
   where
-    go : (b : Bool) → 0 < (if b then size else 0) → (if b then size else 0) ≡ size
-    go true some = refl
+    go : (b : Bool) → 0 < (if b then size else 0) → (b ≡ true) × ((if b then size else 0) ≡ size)
+    go true some = (refl, refl)
     go false some = absurd (omega (arith, some))
 
 -- a character that is shown as itself, and then the rest
 wide_front : (name : List ℕ) → 0 < length name → 0x80 ≤ get_or name 0 0 → 0 < wide_size name
-    → (c : ℕ) × IsUtf8 (encode_utf8 c)
+    → (c : ℕ) × IsScalar c × (is_shown c ≡ true)
     × (name_after 0 name ≡ encode_utf8 c ++ name_after 0 (drop (wide_size name) name))
 wide_front name more le some =
-    let (c, char, size) = wide_char (decoded name).char (decoded name).size some in
+    let (c, char, shown, size) = wide_char (decoded name).char (decoded name).size some in
     let spelled = SpellsChar-decoded name c char in
     let whole : name ≡ encode_utf8 c ++ drop (wide_size name) name =
     spelled.bytes ∙ ap (λ (k : ℕ). encode_utf8 c ++ drop k name) (sym size) in (
       c,
-      IsUtf8-encode c spelled.scalar,
+      spelled.scalar,
+      shown,
       wide_first name more le some ∙ sym (copied_first (wide_size name) name some more)
           ∙ ap (λ (v : List ℕ). name_after (wide_size name) v) whole
           ∙ copied_front (wide_size name) (encode_utf8 c) (drop (wide_size name) name) (spelled.width ∙ sym size),
     )
 
--- what shows a name of bytes, where so is what stands behind its first byte or character
-shown_first : (b : ℕ) (rest : List ℕ) → IsByte b → IsUtf8 (name_after 0 rest)
-    → ((size : ℕ) → 0 < size → IsUtf8 (name_after 0 (drop size (b ∷ rest)))) → IsUtf8 (name_after 0 (b ∷ rest))
-shown_first b rest byte behind further = go (nat_lt b 0x80) (nat_lt 0 (wide_size (b ∷ rest))) refl refl
-  where
-    go : (low wide : Bool) → nat_lt b 0x80 ≡ low → nat_lt 0 (wide_size (b ∷ rest)) ≡ wide
-        → IsUtf8 (name_after 0 (b ∷ rest))
-    go true wide e f =
-        let lt : b < 0x80 = grind (arith, nat_tests) in
-        subst IsUtf8 {x = ascii_shown b ++ name_after 0 rest} (sym (ascii_first (b ∷ rest) (omega arith) lt))
-        (IsUtf8-append _ _ (ascii_utf8 b lt) behind)
-    go false true e f =
-        let size = wide_size (b ∷ rest) in
-        let some : 0 < size = grind (arith, nat_tests) in
-        let (c, utf8, is) = wide_front (b ∷ rest) (omega arith) (grind (arith, nat_tests)) some in
-        subst IsUtf8 {x = encode_utf8 c ++ name_after 0 (drop size (b ∷ rest))} (sym is)
-        (IsUtf8-append _ _ utf8 (further size some))
-    go false false e f =
-        subst IsUtf8 {x = byte_escape b ++ name_after 0 rest}
-        (sym (escaped_first (b ∷ rest) (omega arith) (grind (arith, nat_tests)) (grind (arith, nat_tests))))
-        (IsUtf8-append _ _ (escape_utf8 b byte) behind)
+-- What is so of no text, of two texts if it is so of each, and of what shows a byte or a character: it is so of what
+-- shows a name of bytes.
+module _ (Q : List ℕ → Type 0) (none : Q []) (both : (a b : List ℕ) → Q a → Q b → Q (a ++ b))
+    (ascii : (b : ℕ) → b < 0x80 → Q (ascii_shown b)) (escaped : (b : ℕ) → b < 0x100 → Q (byte_escape b))
+    (wide : (c : ℕ) → IsScalar c → is_shown c ≡ true → Q (encode_utf8 c)) where
+  shown_first : (b : ℕ) (rest : List ℕ) → IsByte b → Q (name_after 0 rest)
+      → ((size : ℕ) → 0 < size → Q (name_after 0 (drop size (b ∷ rest)))) → Q (name_after 0 (b ∷ rest))
+  shown_first b rest byte after further = go (nat_lt b 0x80) (nat_lt 0 (wide_size (b ∷ rest))) refl refl
+    where
+      go : (low far : Bool) → nat_lt b 0x80 ≡ low → nat_lt 0 (wide_size (b ∷ rest)) ≡ far
+          → Q (name_after 0 (b ∷ rest))
+      go true far e f =
+          let lt : b < 0x80 = grind (arith, nat_tests) in
+          subst Q {x = ascii_shown b ++ name_after 0 rest} (sym (ascii_first (b ∷ rest) (omega arith) lt))
+          (both _ _ (ascii b lt) after)
+      go false true e f =
+          let size = wide_size (b ∷ rest) in
+          let some : 0 < size = grind (arith, nat_tests) in
+          let (c, is, shown, same) = wide_front (b ∷ rest) (omega arith) (grind (arith, nat_tests)) some in
+          subst Q {x = encode_utf8 c ++ name_after 0 (drop size (b ∷ rest))} (sym same)
+          (both _ _ (wide c is shown) (further size some))
+      go false false e f =
+          subst Q {x = byte_escape b ++ name_after 0 rest}
+          (sym (escaped_first (b ∷ rest) (omega arith) (grind (arith, nat_tests)) (grind (arith, nat_tests))))
+          (both _ _ (escaped b byte) after)
 
-shown_within : (most : ℕ) (name : List ℕ) → length name ≤ most → All IsByte name → IsUtf8 (name_after 0 name)
-shown_within most [] within bytes = IsUtf8-nil
-shown_within zero (b ∷ rest) within bytes = absurd (omega (arith, within))
-shown_within (suc most) (b ∷ rest) within bytes =
-    shown_first b rest (All-get_or IsByte (b ∷ rest) 0 0 (omega arith) bytes)
-    (shown_within most rest (omega (arith, within)) (All-drop IsByte 1 (b ∷ rest) bytes))
-    (λ size some. shown_within most (drop size (b ∷ rest)) (omega (arith, within, some, length-drop size (b ∷ rest)))
-    (All-drop IsByte size (b ∷ rest) bytes))
+  shown_within : (most : ℕ) (name : List ℕ) → length name ≤ most → All IsByte name → Q (name_after 0 name)
+  shown_within most [] within bytes = none
+  shown_within zero (b ∷ rest) within bytes = absurd (omega (arith, within))
+  shown_within (suc most) (b ∷ rest) within bytes =
+      shown_first b rest (All-get_or IsByte (b ∷ rest) 0 0 (omega arith) bytes)
+      (shown_within most rest (omega (arith, within)) (All-drop IsByte 1 (b ∷ rest) bytes))
+      (λ size some. shown_within most (drop size (b ∷ rest)) (omega (arith, within, some, length-drop size (b ∷ rest)))
+      (All-drop IsByte size (b ∷ rest) bytes))
+
+  pub shown_of : (name : List ℕ) → All IsByte name → Q (name_text name)
+  shown_of name bytes = shown_within (length name) name (omega arith) bytes
 
 pub shown_utf8 : (name : List ℕ) → All IsByte name → IsUtf8 (name_text name)
-shown_utf8 name bytes = shown_within (length name) name (omega arith) bytes
+shown_utf8 =
+    shown_of IsUtf8 IsUtf8-nil IsUtf8-append ascii_utf8 escape_utf8 (λ c is shown. IsUtf8-encode c is)
