@@ -52,7 +52,7 @@ IsNamed is_file is_standard (Some name) reader =
     MatchBool (names_standard name) (is_standard reader) (is_file name reader)
 IsNamed is_file is_standard None reader = is_standard reader
 
--- The program ends as a run on the input of this name. `tells` says what the run tells of a file, and `ending_of` how
+-- The program ends as a run on the input of this name. `tells` says what the run says of a file, and `ending_of` how
 -- the program ends at its answer.
 pub record EndsAsServed {R W A : Type 0} (remaining : R → Option (List ℕ)) (contents : W → Option (List ℕ))
     (is_file : Text → R → Type 0) (is_standard : R → Type 0) (tells : List ℕ → A → List ℕ → Type 0)
@@ -227,14 +227,14 @@ EndsHelp contents output output_after ending =
     ((text : List ℕ) × PrintsHelp contents output output_after text ending)
     ⊎ ((ending ≡ UnreadableWords) × (output_after ≡ output))
 
--- the ending where the words' error alone would lead to this one
+-- the ending, if the words' error by itself would lead to this one
 abbrev pub EndsAfter : {W : Type 0} → (W → Option (List ℕ)) → Ending → Tried W → Tried W → Ending → Type 0
 EndsAfter contents Help output output_after ending = EndsHelp contents output output_after ending
 EndsAfter contents Usage output output_after ending =
     ((ending ≡ Usage) ⊎ (ending ≡ UnreadableWords)) × (output_after ≡ output)
 EndsAfter contents told output output_after ending = (ending ≡ told) × (output_after ≡ output)
 
--- the ending tells of a failed write exactly where the output failed
+-- the ending reports a failed write exactly if the output failed
 abbrev pub TellsFailure : {W : Type 0} → Tried W → Ending → Type 0
 TellsFailure output ending = (ending ≡ Run (Err error.Write)) ↔ IsTrue (has_failed output)
 
@@ -243,7 +243,7 @@ abbrev pub Tells : {E : Type 0} → (E → Option (List ℕ)) → Tried E → Tr
 Tells contents errors errors_after text =
     AppendsUnless (has_failed errors_after) (contents (inner_of errors)) (contents (inner_of errors_after)) text
 
--- the message of an ending, which has this text if no name is told
+-- the message of an ending, which has this text if no name is given
 abbrev pub named_message : Naming → Ending → List ℕ → List ℕ
 named_message naming (UnopenedFile reason) text = unopened_text naming reason
 named_message naming (Run (Err error.Read)) text = front_text naming ++ text

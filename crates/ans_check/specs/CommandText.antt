@@ -135,14 +135,14 @@ pub record ReportsLeast (file text : List ℕ) : Type 0 where
   pub needs : NeedsClass file apart class
   pub text_is : text ≡ needs_text (heading apart None) class
 
--- What the file needs is told; or it is not good even from the cleared start, and why is told.
+-- What the file needs is reported; or it is not good even from the cleared start, and the reason is reported.
 abbrev pub ReportsNeeds : List ℕ → Bool → List ℕ → Type 0
 ReportsNeeds file true text = ReportsLeast file text
 ReportsNeeds file false text = ReportsRefusal file all_known None text
 
--- Whether the file passes and the text are what the command is to write of it. Of one file, which has no name here, a
--- table has no row; what its row would tell first is told as `needs` tells it. A file that is to be mended or
--- redrawn has no report either, and what it needs is told too.
+-- Whether the file passes and the text are what the command is to write of it. A table has no row
+-- for one file, which has no name here; what its row would say first is reported as `needs` reports it. A file that is
+-- to be mended or redrawn has no report either, and what it needs is reported too.
 abbrev pub ReportsBy : Command → Start → Bool → List ℕ → Bool → List ℕ → Type 0
 ReportsBy Why start cells file passed text = ReportsWhy file passed text
 ReportsBy Check start cells file passed text = ReportsCheck file start cells passed text
@@ -158,7 +158,7 @@ ReportsBy Redraw start cells file passed text = ReportsNeeds file passed text
 abbrev pub Reports : Options → List ℕ → Bool → List ℕ → Type 0
 Reports options file passed text = ReportsBy options.command options.start options.cells file passed text
 
--- the report tells the verdict, from this start, with the cells of a pass or without
+-- the report gives the verdict, from this start, with the cells of a pass or without
 abbrev pub IsReportOf : {G : Type 0} → Verdict G → Start → Bool → Report G → Type 0
 IsReportOf (Pass parts picture) start cells (report.Pass told told_start told_picture told_cells) =
     (told.now ≡ parts) × (told_start ≡ start) × (told_picture.now ≡ picture) × (told_cells ≡ cells)

@@ -20,13 +20,13 @@ was_read_whole listing = listing.whole
 abbrev pub ends_name : ℕ → Bool
 ends_name b = b == 0x00
 
--- the first name that 00h ends, and what stands behind that
+-- the first name that 00h ends, and what comes after that
 pub record IsFirstName (bytes name more : List ℕ) : Type 0 where
   pub first : slice_split ends_name bytes ≡ name ∷ slice_split ends_name more
   pub shorter : length more < length bytes
 
--- The names by the parts between the bytes 00h. After the last 00h stands one more name, or none where nothing stands
--- there. Where the input failed it is none, since it may have been cut off.
+-- The names by the parts between the bytes 00h. After the last 00h there is one more name, unless nothing
+-- comes after it. If the input failed there is none, since it may have been cut off.
 abbrev pub named_by : Bool → List Text → List Text
 named_by whole [] = []
 named_by whole (last ∷ []) = if whole && not (length last == 0) then last ∷ [] else []

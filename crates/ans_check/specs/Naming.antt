@@ -1,4 +1,4 @@
--- What standard error calls the input, and how an input that cannot be opened is told.
+-- What standard error calls the input, and what is said of an input that cannot be opened.
 use Rattle.std.specs.Prelude.{◌≡◌, ℕ, Bool, true, false, not, ◌&&◌, ◌||◌, ◌==◌, List, [], ◌∷◌, ◌++◌, Option, Some, None}
 use Rattle.std.specs.Prelude.{IfOk, IfSome, MatchResult, Ok, codes, if◌then◌else◌, is_some, map, option_map}
 use Rattle.std.specs.Prelude.{string_bytes, unwrap_or}
@@ -27,7 +27,7 @@ use Rattle.ans_table.specs.declared.unopened.Unopened.TheVariants.{Missing}
 abbrev pub names_standard : Text → Bool
 names_standard name = bytes_eq name (codes "-")
 
--- whether a command's messages tell the name of its file and the system's reason
+-- whether a command's messages give the name of its file and the system's reason
 abbrev pub tells_reason : Command → Bool
 tells_reason Check = false
 tells_reason Sauce = false
@@ -44,7 +44,7 @@ abbrev pub first_called : List Text → Option Text
 first_called [] = None
 first_called (name ∷ more) = Some name
 
--- the name that is told of what is asked for
+-- the name that messages give of what is asked for
 abbrev pub name_called : Asked → Option Text
 name_called (asked.One options file) =
     if tells_reason options.command then file_called (option_map string_bytes file) else None
@@ -90,7 +90,7 @@ pub record IsNaming (words : List Text) (a : Asked) (ending : Ending) (n : Namin
   pub meant : n.is_word ≡ true → ending ≡ UnopenedFile Missing
       → IfSome (name_called a) (λ name. IfOk n.meant (λ meant. meant ≡ meant_by name))
 
--- nothing is told
+-- no name is given
 abbrev pub unnamed : Naming
 unnamed = record { name = None; is_word = false; meant = Ok meant.Nothing }
 
@@ -123,6 +123,6 @@ missing_text n =
 abbrev pub reason_told : Naming → Unopened → List ℕ
 reason_told n reason = if n.is_word && is_missing reason then missing_text n else reason_text reason
 
--- why an input was not opened, after its name if that is told
+-- why an input was not opened, after its name if that is given
 abbrev pub unopened_text : Naming → Unopened → List ℕ
 unopened_text n reason = if is_some n.name then front_text n ++ reason_told n reason else plain_text reason

@@ -17,7 +17,7 @@ use Rattle.ans_check.specs.declared.errors.RunError.TheVariants as error
 pub record ServesAs {R W A : Type 0} (remaining : R → Option (List ℕ)) (contents : W → Option (List ℕ))
     (tells : List ℕ → A → List ℕ → Type 0) (reader reader_after : Tried R) (writer writer_after : Tried W)
     (result : Result A RunError) : Type 0 where
-  -- at `Ok` one file was read, and what is to be told of it is told
+  -- at `Ok` one file was read, and what is to be said of it is said
   pub ok : IfOk result (λ answer. (file : List ℕ) × (text : List ℕ)
       × HasRead (remaining (inner_of reader)) (remaining (inner_of reader_after)) file
       × tells file answer text × Wrote contents writer writer_after text)

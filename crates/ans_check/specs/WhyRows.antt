@@ -31,18 +31,18 @@ abbrev pub outcome_of_why : Why → Outcome
 outcome_of_why (Passes parts pass) = pass_outcome pass.needs
 outcome_of_why _ = Refused
 
--- what is wrong with the file is told, or what it relies on
+-- what is wrong with the file is said, or what it relies on
 pub record TellsJudged (file : List ℕ) (outcome : Outcome) (text : List ℕ) : Type 0 where
   pub said : Why
   pub is_true : IsTrueOf file said
   pub outcome_is : outcome ≡ outcome_of_why said
   pub text_is : text ≡ why_text said
 
--- the file was not read, and the reason is told
+-- the file was not read, and the reason is given
 abbrev pub TellsUnread : reason.Unread → Outcome → List ℕ → Type 0
 TellsUnread e outcome text = (outcome ≡ Unread) × (text ≡ error_line e)
 
--- What is told of a file, of which this was read. Memory may run out for judging it.
+-- What is said of a file, of which this was read. Memory may run out for judging it.
 abbrev pub TellsWhyOf : Given → Outcome → List ℕ → Type 0
 TellsWhyOf (Ok file) outcome text = TellsJudged file outcome text ⊎ TellsUnread why.Memory outcome text
 TellsWhyOf (Err e) outcome text = TellsUnread e outcome text

@@ -57,7 +57,7 @@ fn put_word<W: Write>(out: &mut Outbox<'_, W>, name: Option<&str>)
     }
 }
 
-/// Puts the name of the input, if it is told, before what is said of it.
+/// Puts the name of the input, if it is given, before what is said of it.
 fn put_front<W: Write>(out: &mut Outbox<'_, W>, naming: &Naming<'_>)
     ensures { Puts W.contents out.old out.new (front_text naming.now) }
 {
@@ -107,7 +107,7 @@ fn put_reason<W: Write>(out: &mut Outbox<'_, W>, naming: &Naming<'_>, reason: Un
     out.put(reason.reason().as_bytes());
 }
 
-/// Puts why an input was not opened, after its name if that is told.
+/// Puts why an input was not opened, after its name if that is given.
 fn put_unopened<W: Write>(out: &mut Outbox<'_, W>, naming: &Naming<'_>, reason: Unopened)
     ensures { Puts W.contents out.old out.new (unopened_text naming.now reason) }
 {
@@ -119,7 +119,7 @@ fn put_unopened<W: Write>(out: &mut Outbox<'_, W>, naming: &Naming<'_>, reason: 
     out.put(reason.text().as_bytes());
 }
 
-/// Puts a message that speaks of the input, after its name if that is told.
+/// Puts a message that speaks of the input, after its name if that is given.
 fn put_input_message<W: Write>(out: &mut Outbox<'_, W>, naming: &Naming<'_>, text: &str)
     ensures { Puts W.contents out.old out.new (front_text naming.now ++ text.now) }
 {
@@ -127,7 +127,7 @@ fn put_input_message<W: Write>(out: &mut Outbox<'_, W>, naming: &Naming<'_>, tex
     out.put(text.as_bytes());
 }
 
-/// Puts the message of an ending, which has this text if no name is told.
+/// Puts the message of an ending, which has this text if no name is given.
 fn put_named_message<W: Write>(
     out: &mut Outbox<'_, W>,
     naming: &Naming<'_>,
@@ -172,7 +172,7 @@ fn put_said<E: Write>(out: &mut Outbox<'_, E>, naming: &Naming<'_>, ending: &End
 }
 
 /// Says why there is no answer, if there is none: `anscheck: ` and the ending's message, with the name of the input
-/// if it is told; of a table how many files came out how; and of a file that was to be mended or redrawn what was
+/// if it is given; of a table how many files came out how; and of a file that was to be mended or redrawn what was
 /// changed of it, or why it is not. What is wrong with rejected words is `clap`'s to say.
 pub(crate) fn say<E: Write>(errors: &mut Tried<E>, naming: &Naming<'_>, ending: Ending)
     requires { has_failed errors.old ≡ false }

@@ -42,11 +42,11 @@ pub enum Ending {
     UnreadableWords,
     /// The file that the words name cannot be opened, for this reason.
     UnopenedFile(Unopened),
-    /// What is wrong with several files was written: so many files came out so.
+    /// What is wrong with several files was written: how many came out how.
     Explained(Counts),
     /// The words name `-` among several files of `why`.
     InputAmong,
-    /// A table was written: so many files came out so.
+    /// A table was written: how many of its files came out how.
     Table(Counts),
     /// The words name `-` among the files of a table.
     NamedInput,
@@ -132,8 +132,8 @@ impl Ending {
 
     /// Why there is no answer, for standard error after `anscheck: `, without the name and the system's reason; or that
     /// `why` says more of a file that a check refuses for a fault of the start. There is none if the file has another
-    /// answer, none if `clap`'s text says it, none for a table and for several files, whose counts are told, and none
-    /// for mending and redrawing, of which more is told.
+    /// answer, none if `clap`'s text says it, none for a table and for several files, whose counts are reported, and
+    /// none for mending and redrawing, which report more.
     pub fn message(&self) -> Option<&'static str>
         ensures { option_map (λ text. text.now) result ≡ ending_message self.now }
     {

@@ -26,7 +26,7 @@ fn first_zero(bytes: &[u8]) -> Option<usize>
     bytes.iter().position(|byte| *byte == 0)
 }
 
-/// The name that the byte 00h ends, and what stands behind it, where there is one.
+/// The name that the byte 00h ends, and what comes after it, if there is one.
 fn cut_name(bytes: &[u8]) -> Option<(&[u8], &[u8])>
     ensures some { IfSome result (λ cut. IsFirstName bytes.now cut.0.now cut.1.now) }
     ensures none { IfNone result (slice_split ends_name bytes.now ≡ bytes.now ∷ []) }

@@ -20,7 +20,7 @@ use ans_write::Outbox;
 use std::alloc::{AllocError, Global};
 use std::io::Write;
 
-/// Puts the bytes that stand in front, where they are wanted.
+/// Puts the bytes that come first, if they are needed.
 fn put_front<W: Write>(out: &mut Outbox<'_, W>, front: bool)
     ensures { Puts W.contents out.old out.new (front_bytes front) }
 {
@@ -29,7 +29,7 @@ fn put_front<W: Write>(out: &mut Outbox<'_, W>, front: bool)
     }
 }
 
-/// Puts a mended file: the bytes in front, where they are wanted, and those of its draft.
+/// Puts a mended file: the bytes that come first, if they are needed, and those of its draft.
 fn put_file<W: Write>(out: &mut Outbox<'_, W>, front: bool, draft: &[u8])
     ensures { Puts W.contents out.old out.new (front_bytes front ++ draft.now) }
 {

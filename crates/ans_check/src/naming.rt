@@ -25,7 +25,7 @@ pub enum Meant {
 /// What standard error calls the input.
 #[derive(Debug, Clone, Copy)]
 pub struct Naming<'a> {
-    /// The name of the file, if it is told.
+    /// The name of the file, if it is given.
     pub name: Option<&'a str>,
     /// Whether the name is a word that may have been meant as a command.
     pub is_word: bool,
@@ -33,7 +33,7 @@ pub struct Naming<'a> {
     pub meant: Result<Meant, AllocError>,
 }
 
-/// No name is told.
+/// No name is given.
 pub(crate) fn unnamed() -> Naming<'static>
     ensures { result ≡ unnamed }
 {
@@ -44,7 +44,7 @@ pub(crate) fn unnamed() -> Naming<'static>
     }
 }
 
-/// Whether a command's messages tell the name and the reason: those of `check`, `sauce` and `tokens` do not.
+/// Whether a command's messages give the name and the reason: those of `check`, `sauce` and `tokens` do not.
 pub(crate) fn tells_reason(command: Command) -> bool
     ensures { result ≡ tells_reason command }
 {
@@ -81,7 +81,7 @@ pub(crate) fn first_of(names: &[String]) -> Option<&str>
     }
 }
 
-/// The name that is told of what is asked for.
+/// The name that messages give of what is asked for.
 fn name_called(asked: &Asked) -> Option<&str>
     ensures { option_map (λ n. n.now) result ≡ name_called asked.now }
 {

@@ -31,7 +31,7 @@ use ans_write::Outbox;
 use std::alloc::{AllocError, Global};
 use std::io::{Read, Write};
 
-/// The report that tells a verdict.
+/// The report of a verdict.
 fn report_of<'a, G: Screen>(verdict: &'a Verdict<'a, G>, start: Start, cells: bool) -> Report<'a, G>
     ensures { IsReportOf verdict.now start cells result }
 {
@@ -202,7 +202,7 @@ fn run_command<W: Write>(
         Command::Sauce => Ok(tell_record(out, file)),
         Command::Tokens => Ok(tell_tokens(out, file)),
         Command::Needs => tell_needs(alloc, out, file),
-        // of the one input here what it needs is told
+        // for one input they report what it needs
         Command::Table(_) | Command::Mend(_) | Command::Redraw => tell_needs(alloc, out, file),
     }
 }

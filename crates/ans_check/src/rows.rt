@@ -27,7 +27,7 @@ use ans_write::Outbox;
 use std::alloc::{AllocError, Global};
 use std::io::Write;
 
-/// What a row tells of a file, by what it needs.
+/// What a row says of a file, by what it needs.
 fn finding_by<'a>(file: &'a [u8], found: Needs<'a>) -> Finding<'a>
     requires length { length file.now ≤ longest_file }
     requires needs { IsNeedsOf file.now found }
@@ -46,7 +46,7 @@ fn finding_by<'a>(file: &'a [u8], found: Needs<'a>) -> Finding<'a>
     }
 }
 
-/// What a row tells of a file, of which this was read.
+/// What a row says of a file, of which this was read.
 fn finding_in<'a>(screens: &mut KeptScreens, given: Result<&'a [u8], Unread>) -> RowFinding<'a>
     requires { IfOk (bytes_given given) (λ file. length file ≤ longest_file) }
     ensures { IsFoundIn (bytes_given given.entry) result }

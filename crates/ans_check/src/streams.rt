@@ -58,8 +58,8 @@ pub fn mend<R: Read, W: Write>(
 
 /// Reads the whole input, redraws it, and writes the redrawn file, of which the writer then hands on what it
 /// holds back. The redrawn file shows the picture that the file shows from the cleared start, from every start.
-/// Behind its content stands all that stood behind the file's, with an end mark where there was none, and of the
-/// record the file size alone is set anew. `Ok` says what was changed; or why the file is not redrawn, and then
+/// All that came after the file's content comes after its own, with an end mark if there was none, and only the file
+/// size in the record changes. `Ok` says what was changed; or why the file is not redrawn, and then
 /// nothing is written. That the writer is asked to hand on what it holds is only tested, as with [`serve`].
 ///
 /// `Read` comes exactly where the reader failed in the call, `Write` exactly where the writer did, and

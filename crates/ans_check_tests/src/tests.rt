@@ -2,7 +2,7 @@
 ghost use Rattle.std.specs.Prelude.{◌≡◌, false};
 ghost use Rattle.ans_write.specs.Tried.{has_failed};
 
-/// A table: the words behind `anscheck`, and what is expected of them.
+/// A table: the words after `anscheck`, and what is expected of them.
 macro_rules! words {
     ($($($word:literal)* => $($expected:expr),+;)*) => {
         [$((&["anscheck", $($word),*], $($expected),+)),*]
@@ -40,7 +40,7 @@ const CLEARED: Options = Options {
     ..ANY
 };
 
-/// A check from the cleared screen that tells the cells.
+/// A check from the cleared screen that reports the cells.
 const CELLS: Options = Options {
     cells: true,
     ..CLEARED
@@ -78,7 +78,7 @@ const HI_RECORD: &[u8] = b"title: \n\
     file size: 2\n\
     comments: 0\n";
 
-/// What stands before the record, and the plain record with this width and these lines.
+/// What comes before the record, and the plain record with this width and these lines.
 fn file_of_size(
     rt: &impl AllocGlobal,
     front: &[u8],

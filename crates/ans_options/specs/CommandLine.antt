@@ -110,7 +110,7 @@ commands =
 abbrev pub command_names : List Text
 command_names = map command_name commands
 
--- `anscheck`, which has a version, wants a subcommand, and has no subcommand `help`
+-- `anscheck`, which has a version, needs a subcommand, and has no subcommand `help`
 abbrev pub anscheck_top : App
 anscheck_top = let a = new_app (codes "anscheck") in
     record a { top = record a.top { has_version = true; subcommand_required = true; disable_help_subcommand = true } }
@@ -155,7 +155,7 @@ IsNoCommand name = (c : Command) → name ≢ command_name c
 
 -- What `help COMMAND` means: `COMMAND --help`. A word after it is a mistake. To have clap name it, the command gets its
 -- own name as the FILE, after `--`, and then the word, which is one too many. For `why` and `table` no word is one too
--- many, so there the word comes after `--` alone, where the program takes none.
+-- many, so there only `--` comes before the word, where the program takes none.
 abbrev pub help_on_command : Text → List Text → List Text
 help_on_command name [] = name ∷ codes "--help" ∷ []
 help_on_command name (word ∷ more) =
@@ -350,7 +350,7 @@ words_asked words = words
 abbrev pub edits : Text → Text → ℕ
 edits word name = levenshtein_row nat_eq (chars word) (chars name) (length (chars name))
 
--- the first command, in the order of the help, whose name is at most so many edits from a word
+-- the first command, in the order of the help, whose name is at most this many edits from a word
 abbrev pub command_within : ℕ → Text → Option Command
 command_within most word = find (λ c. nat_le (edits word (command_name c)) most) commands
 
@@ -377,8 +377,8 @@ abbrev pub HasKindAmong : Kinds → WordsError → Type 0
 HasKindAmong kinds (words_error.Clap e) = HasKind kinds e
 HasKindAmong kinds words_error.Memory = ⊤
 
--- What an error of these words tells: where clap takes them, or they have no fault, memory ran out; and else it may
--- also be of one of the kinds of their faults.
+-- What an error of these words means: if clap takes them, or they have no fault, memory ran out; and else it may also
+-- be of one of the kinds of their faults.
 pub record IsErrorOf (words : List Text) (e : WordsError) : Type 0 where
   pub refuses : takes anscheck (words_meant words) ≡ true → RanOutOfMemory e
   pub faultless : faults_of words ≡ [] → RanOutOfMemory e

@@ -23,7 +23,7 @@ pub enum Form {
 pub enum TableForm {
     /// Rows of columns, under a line of the columns' names.
     Headed,
-    /// Rows of columns alone.
+    /// Rows of columns, without that line.
     Bare,
     /// A JSON object a line.
     Json,
@@ -48,7 +48,7 @@ pub enum Command {
     Table(TableForm),
     /// Writes the file mended, so that it passes from every start.
     Mend(Mends),
-    /// Writes the file redrawn: with its picture written anew in the plainest form, which shows it from every start.
+    /// Writes the file redrawn: its picture written again in the plainest form, which shows it from every start.
     Redraw,
 }
 

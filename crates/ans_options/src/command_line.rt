@@ -784,8 +784,8 @@ pub fn near_command(alloc: Global, word: &str) -> Result<Option<Command>, AllocE
 ///
 /// Fails if `clap` rejects the words, if they ask for help or for the version, and if memory
 /// runs out. Help is asked for by `--help`, `-h`, `help` and `help COMMAND`, the version by
-/// `--version` and `-V`; the error then has the text that was asked for. Except for want of memory the
-/// words alone decide: there is an answer exactly if they have no fault, and else the error has one
+/// `--version` and `-V`; the error then has the text that was asked for. Except for want of memory
+/// only the words decide: there is an answer exactly if they have no fault, and else the error has one
 /// of the kinds that their first fault may have. To ask for help or for the version counts as a fault.
 pub fn asked(alloc: Global, words: &[&str]) -> Result<Asked, WordsError>
     ensures ok { IfOk result (IsAskedBy (texts_of words.now)) }

@@ -7,7 +7,7 @@ macro_rules! rows {
     };
 }
 
-/// A table: the words behind `anscheck`, and what is expected of them.
+/// A table: the words after `anscheck`, and what is expected of them.
 macro_rules! words {
     ($($($word:literal)* => $($expected:expr),+;)*) => {
         rows! { $("anscheck" $($word)* => $($expected),+;)* }

@@ -22,7 +22,7 @@ fn put_record(
     bytes.extend_from_slice(sample_file(alloc, b"", edits.as_slice())?.as_slice())
 }
 
-/// Appends a drawing: a content, an end mark, and the plain record of so many columns and lines.
+/// Appends a drawing: a content, an end mark, and the plain record with these columns and lines.
 pub(crate) fn put_drawing(
     alloc: Global,
     bytes: &mut Vec<u8>,
@@ -44,7 +44,7 @@ pub(crate) fn put_drawing(
     bytes.extend_from_slice(record.as_slice())
 }
 
-/// Appends a piece so many times.
+/// Appends a piece this number of times.
 fn put_times(bytes: &mut Vec<u8>, count: usize, piece: &[u8]) -> Result<(), AllocError> {
     for _ in 0..count {
         bytes.extend_from_slice(piece)?;

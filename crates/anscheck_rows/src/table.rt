@@ -52,7 +52,7 @@ pub(crate) struct Row {
     pub also: Vec<Vec<String>>,
     /// Standard input.
     pub input: Option<File>,
-    /// Standard input, where it is a drawing alone.
+    /// Standard input, if it is only a drawing.
     pub drawing: Option<(String, u16, u16)>,
     /// The text that is printed.
     #[serde(default)]

@@ -67,8 +67,8 @@ fn answer_whole(
     answer_in(rt, words, Shelf::new(files, NAMES), (4096, 4096))
 }
 
-/// Asserts that the words end where the output has room for so many bytes, and at the one write that fails after as
-/// many, which may be a byte more. The device is not asked again.
+/// Asserts that the words end if the output has room for this number of bytes, and at the one write that fails after
+/// them, which may be a byte more. The device is not asked again.
 fn expect_front(
     rt: &(impl Abort + AllocGlobal),
     words: &[&str],

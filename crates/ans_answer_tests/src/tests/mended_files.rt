@@ -7,7 +7,7 @@ use ans_samples::{FailingOnce, Failure, Narrow};
 use std::alloc::AllocError;
 use std::process::Abort;
 
-/// What came of mending: whether a file was put with the bytes in front, or why there is none.
+/// What came of mending: whether the file was put with the bytes at its start, or why there is none.
 type Came = Result<Result<bool, Unmended>, RunError>;
 
 /// What mending by itself comes to. It fails where memory runs out, and nothing is then written.

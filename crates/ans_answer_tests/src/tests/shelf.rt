@@ -16,7 +16,7 @@ pub(super) enum Stored<'a> {
     Bytes(&'a [u8]),
     /// Its reading fails after these bytes.
     Torn(&'a [u8]),
-    /// What is left of a text, and then so many times the whole of it.
+    /// What is left of a text, and then the whole of it this number of times.
     Repeated {
         rest: &'a [u8],
         text: &'a [u8],
@@ -25,7 +25,7 @@ pub(super) enum Stored<'a> {
 }
 
 impl<'a> Stored<'a> {
-    /// So many times this text.
+    /// This text, this number of times.
     pub(super) fn repeated(text: &'a [u8], times: usize) -> Stored<'a> {
         Stored::Repeated {
             rest: b"",
@@ -163,8 +163,8 @@ pub(super) struct Answered<W> {
     pub errors: Narrow,
 }
 
-/// Answers words over a shelf, on a device and one with so much room for errors. It fails where memory
-/// ran out, for the words, for a command or for a row. But for the rows before, nothing is then written.
+/// Answers words over a shelf, on a device and one with this much room for errors. It fails if memory
+/// ran out, for the words, for a command or for a row. Nothing is then written, except for the rows before.
 pub(super) fn answer_on<W: Write + Drop>(
     rt: &(impl Abort + AllocGlobal),
     words: &[&str],

@@ -27,7 +27,7 @@ const HI_WHY: &[u8] = b"size: 2 x 1\n\
     taller screens: same\n\
     fix: anscheck mend\n";
 
-/// Gives one byte a read, and fails at one of the reads alone.
+/// Gives one byte a read, and fails at one of the reads.
 #[derive(Clone, Copy)]
 struct Dripping<'a> {
     left: &'a [u8],
@@ -58,7 +58,7 @@ static TEXTS: [(Options, &[u8]); 6] = [
     (WHY, HI_WHY),
 ];
 
-/// Asserts that a run ends at the one write that fails, behind so many bytes, with these written.
+/// Asserts that a run ends at the one write that fails, after this number of bytes, with these written.
 fn expect_end_at_write(
     rt: &(impl Abort + AllocGlobal),
     file: &[u8],

@@ -200,7 +200,7 @@ fn words_without_options_have_their_endings(rt: HostRuntime) -> Result<(), Alloc
     Ok(())
 }
 
-/// A device with room for so many bytes, which may fail to hand on what it took.
+/// A device with room for this number of bytes, which may fail to hand on what it took.
 #[derive(Clone, Copy)]
 pub(super) struct Output {
     room: usize,

@@ -45,8 +45,8 @@ impl Read for Overprinted<'_> {
     }
 }
 
-/// What a run makes of a screen of one line of 1024 columns: the first bytes, then so many times all
-/// columns but the last, then `Hi` at the front.
+/// What a run makes of a screen of one line of 1024 columns: the first bytes, then all columns but the
+/// last this number of times, then `Hi` at the left.
 fn run_overprinted(
     rt: &(impl Abort + AllocGlobal),
     first: &[u8],
@@ -236,7 +236,7 @@ fn the_largest_screen_is_cleared_from_any_start(rt: HostRuntime) -> Result<(), A
 }
 
 /// Asserts that a file passes over one kind of grid, with 4095 `a` on 80 columns and 52 lines, a bright `b`
-/// behind them, and blanks up to the border.
+/// after them, and blanks up to the border.
 fn expect_bright_end<G: Grid>(
     rt: &(impl Abort + AllocGlobal),
     file: &[u8],
@@ -284,7 +284,7 @@ const PIECES_REPORT: &[u8] = b"size: 3 x 1\n\
     cells:\n\
     6107620f630f\n";
 
-/// A sequence stands across the end of the first 4096 bytes, and one across the end of the next. The
+/// A sequence goes across the end of the first 4096 bytes, and one across the end of the next. The
 /// bytes about them are returns, which move the cursor to the first column.
 #[test]
 fn two_sequences_cross_three_pieces(rt: HostRuntime) -> Result<(), AllocError> {
@@ -315,7 +315,7 @@ fn sequences_longer_than_a_piece_are_read(rt: HostRuntime) -> Result<(), AllocEr
     expect_verdict(&rt, file.as_slice(), Start::cleared(), fault)
 }
 
-/// What stands before the picture in the report of the largest screen.
+/// What comes before the picture in the report of the largest screen.
 const LARGEST_HEADING: &[u8] =
     b"size: 1024 x 8192\nstart: any\ncontent: 8 bytes\nverdict: pass\npicture:\n";
 

@@ -102,7 +102,7 @@ pub(super) fn expect_verdict(
     expect_verdict_on::<PlaneGrid>(rt, file, start, expected)
 }
 
-/// Asserts that what the file needs, found over both kinds of grid, tells from which starts it passes:
+/// Asserts that what the file needs, found over both kinds of grid, says from which starts it passes:
 /// from this one exactly where it passes.
 fn expect_needs_agree(
     rt: &(impl Abort + AllocGlobal),
@@ -180,7 +180,7 @@ fn expect_parts(rt: &impl Abort, parts: &Parts<'_>, row: &AcceptedFile) {
 }
 
 /// Asserts the parts and the verdict of an accepted file from the cleared start, over one kind of grid:
-/// `Hi` passes but in one column, where the second letter stands below the stated lines.
+/// `Hi` passes, except in one column, where the second letter is below the stated lines.
 fn expect_accepted<G: Grid>(
     rt: &(impl Abort + AllocGlobal),
     row: &AcceptedFile,

@@ -55,7 +55,7 @@ static REQUESTS: [Row; 23] = words! {
     "-V" "check" => DisplayVersion;
 };
 
-/// Words without any behind the program's name, or without that name.
+/// Words without any after the program's name, or without that name.
 static ALONE: [Row; 3] = rows! {
     => MissingSubcommand;
     "anscheck" => MissingSubcommand;
