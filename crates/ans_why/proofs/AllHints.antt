@@ -5,7 +5,7 @@ use Rattle.ans_model.specs.Screen.State.{Size}
 use Rattle.ans_hints.specs.declared.hints.Hints.{Hints}
 use Rattle.ans_why.specs.Explained.{AreHintsOf}
 
--- nothing stands behind it
+-- nothing comes after it
 pub hints_of_all : (z : Size) (flag : Bool) (content : List ℕ) (hints : Hints)
     → AreHintsOf z flag (take (length content) content) (drop (length content) content) hints
     → AreHintsOf z flag content [] hints

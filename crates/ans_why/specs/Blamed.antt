@@ -1,4 +1,4 @@
--- The bytes to blame for a fault of a content.
+-- The bytes that cause a fault of a content.
 use Rattle.std.specs.Prelude.{◌≡◌, ◌⊎◌, ℕ, List, [], ◌++◌}
 use Rattle.ans_model.specs.declared.fault.Fault.{Fault}
 use Rattle.ans_model.specs.declared.fault.Cause.{Cause}

@@ -8,7 +8,7 @@ pub record Words : Type 0 where
   pub one : List ℕ
   pub more : List ℕ
 
--- the text for so many
+-- the text for that many
 abbrev pub words_for : Words → ℕ → List ℕ
 words_for words count = if count == 1 then words.one else words.more
 

@@ -1,4 +1,4 @@
--- What the bytes to blame are known as, by their form.
+-- What the offending bytes are known as, by their form.
 use Rattle.std.specs.Prelude.{ℕ, ◌-◌, ◌%◌, Bool, true, false, not, ◌&&◌, ◌==◌, nat_eq, nat_lt, List}
 use Rattle.std.specs.Prelude.{length, drop, codes, Option, None, Some, if◌then◌else◌}
 use Rattle.std.specs.List.{list_any, starts_with}

@@ -37,16 +37,16 @@ use Rattle.ans_why.specs.declared.why.Reliance.{Reliance}
 use Rattle.ans_why.specs.declared.why.Shown.{Shown}
 use Rattle.ans_why.specs.declared.why.Shown.TheVariants.{Cursors, Cells}
 
--- the bytes to blame, after a fault; nothing if there are none
+-- the offending bytes, after a fault; nothing if there are none
 abbrev pub blamed_text : List ℕ → List ℕ
 blamed_text [] = []
 blamed_text (byte ∷ more) = codes ": " ++ quoted (byte ∷ more)
 
--- a line of this name: a fault, and the bytes to blame for it
+-- a line of this name: a fault, and its offending bytes
 abbrev pub blamed_line : List ℕ → Fault → List ℕ → List ℕ
 blamed_line name fault bytes = named_line name (fault_told fault ++ blamed_text bytes)
 
--- the verdict of a refusal, its fault, and the bytes to blame
+-- the verdict of a refusal, its fault, and the offending bytes
 abbrev pub fault_lines : Fault → List ℕ → List ℕ
 fault_lines fault bytes =
     named_line (codes "verdict") (codes "refused") ++ blamed_line (codes "fault") fault bytes
@@ -89,7 +89,7 @@ abbrev pub known_line : Option Known → List ℕ
 known_line None = []
 known_line (Some known) = named_line (codes "is") (known_text known)
 
--- what comes after the number of lines if the rows are torn
+-- what comes after the number of lines if the rows look broken
 abbrev pub torn_text : Bool → List ℕ
 torn_text true = codes ", but the rows look broken"
 torn_text false = []

@@ -1,4 +1,4 @@
-//! What the bytes to blame are known as.
+//! What the offending bytes are known as.
 
 ghost use Rattle.std.specs.Prelude.{◌≡◌, nat_lt, not};
 ghost use Rattle.std.specs.List.{list_any, position};

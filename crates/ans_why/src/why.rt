@@ -29,7 +29,7 @@ pub enum Shown {
 #[derive(Debug, Clone, Copy)]
 pub struct Reliance<'a> {
     pub fault: Fault,
-    /// The bytes to blame: none for F25.
+    /// The offending bytes: none for F25.
     pub bytes: &'a [u8],
     pub shown: Shown,
     /// Whether the file has room for the 25 bytes of the safe beginning, with which it relies on nothing.
@@ -54,7 +54,7 @@ pub struct Pass<'a> {
 #[derive(Debug, Clone, Copy)]
 pub struct Refusal<'a> {
     pub fault: Fault,
-    /// The bytes to blame.
+    /// The offending bytes.
     pub bytes: &'a [u8],
     /// What they are known as.
     pub known: Option<Known>,

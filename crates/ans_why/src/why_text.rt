@@ -27,7 +27,7 @@ use ans_sauce::{Found, Judged, Parts};
 use ans_write::{Outbox, hex_byte, put_characters};
 use std::io::Write;
 
-/// Puts the bytes to blame, after a fault.
+/// Puts the offending bytes, after a fault.
 fn put_blamed<W: Write>(out: &mut Outbox<'_, W>, bytes: &[u8])
     ensures { Puts W.contents out.old out.new (blamed_text bytes.now) }
 {
@@ -48,7 +48,7 @@ fn put_blamed_line<W: Write>(out: &mut Outbox<'_, W>, name: &[u8], fault: &Fault
     out.put(b"\n");
 }
 
-/// Puts the verdict of a refusal, its fault, and the bytes to blame.
+/// Puts the verdict of a refusal, its fault, and the offending bytes.
 fn put_fault_lines<W: Write>(out: &mut Outbox<'_, W>, fault: &Fault, bytes: &[u8])
     ensures { Puts W.contents out.old out.new (fault_lines fault.now bytes.now) }
 {
@@ -353,7 +353,7 @@ fn put_heading<W: Write>(out: &mut Outbox<'_, W>, parts: &Parts<'_>)
 /// If the file passes: what it needs, where and why, on which players it shows its picture, whether it plays
 /// the same on taller screens, the command that fixes it, and the hints.
 ///
-/// If its content is refused: the fault with the bytes to blame, what they are known as, where the cursor is
+/// If its content is refused: the fault with the offending bytes, what they are known as, where the cursor is
 /// before them, the hints, and the number of lines that is enough.
 ///
 /// If its record or its layout is refused, there are no size and no notes. The fault comes, what is found there,

@@ -360,7 +360,7 @@ macro_rules! fronts {
     };
 }
 
-/// Contents of which only the first bytes count, so many, and what is said of these.
+/// Contents, how many of their first bytes count, and what is said about those.
 static FRONTS: [(&[u8], usize, &str); 8] = fronts! {
     front(3, b"ab\ncd\n") => loose(1, 2);
     front(3, b"ab\n\rcd") => nothing;
@@ -437,7 +437,7 @@ fn fonts_have_their_names_and_code_pages(rt: HostRuntime) {
     expect_content(&rt, (2, 1), b"Hi", b"IBM VGA\0rubbish", "");
 }
 
-/// Contents on 4 columns and 9 lines, and whether their rows are torn.
+/// Contents on 4 columns and 9 lines, and whether their rows look broken.
 static TORN: [(&[u8], bool); 16] = [
     (b"ab\ncd", true),
     (b"ab\ncd\r", false),
@@ -516,7 +516,7 @@ fn sequences_are_known_by_their_form(rt: HostRuntime) {
     assert!(rt; key == Some(Known::ReassignedKey));
 }
 
-/// Music of so many notes is known, or is too long to be.
+/// Music with this many notes is known, or is too long to be.
 #[test]
 fn music_has_at_most_250_notes(rt: HostRuntime) {
     let mut bytes = [b'c'; 255];
@@ -528,7 +528,7 @@ fn music_has_at_most_250_notes(rt: HostRuntime) {
     assert!(rt; known_sequence(&bytes, &Cause::UnknownSequence).is_none());
 }
 
-/// What follows the first end mark, whether a record stands in it, and what it is known as.
+/// What follows the first end mark, whether a record is in it, and what it is known as.
 static BEHIND: [(&[u8], bool, Option<Known>); 11] = [
     (b"SAUCE00", true, Some(Known::OlderRecord)),
     (b"x", false, Some(Known::Arrow)),
