@@ -1,4 +1,4 @@
-//! The bytes to blame for a fault of a content.
+//! The bytes that cause a fault of a content.
 ghost use Rattle.std.specs.Prelude.{◌≡◌, ◌≤◌, List, ℕ, length};
 ghost use Rattle.ans_model.specs.Bytes.{longest_file};
 ghost use Rattle.ans_model.specs.Verdict.LastFault.{IsDeserved};
@@ -25,7 +25,7 @@ fn read_first(bytes: &[u8]) -> &[u8]
     bytes
 }
 
-/// The bytes to blame for a fault that the content has from the class: those of the token, or those of
+/// The bytes that cause a fault that the content has from the class: those of the token, or those of
 /// the refused sequence up to the byte that decides, or those of the sequence in which the content
 /// ends. There are none for F25, a cell that stays unknown.
 pub fn bytes_to_blame(content: &[u8], size: Size, start: Start, fault: Fault) -> &[u8]
