@@ -31,6 +31,7 @@ use Rattle.ans_hints.specs.Hints.{AreHints}
 use Rattle.ans_hints.specs.declared.hints.Hints.{Hints}
 use Rattle.ans_why.specs.Blamed.{AreToBlame}
 use Rattle.ans_why.specs.Known.{known_sequence}
+use Rattle.ans_why.specs.OtherFiles.{known_file}
 use Rattle.ans_why.specs.declared.why.Enough.{Enough}
 use Rattle.ans_why.specs.declared.why.Pass.{Pass}
 use Rattle.ans_why.specs.declared.why.Place.{Place}
@@ -143,6 +144,7 @@ pub record IsSaidOfLines (file : List ℕ) (cause : Cause) (said : Option Enough
 pub record IsRecordRefusal (file : List ℕ) (said : RecordRefusal) : Type 0 where
   pub refused : IsRecordFault file said.fault
   pub found : IsFound file said.found said.fault.cause
+  pub other : said.other ≡ known_file file
   pub enough : IsSaidOfLines file said.fault.cause said.enough
 
 -- what is said about a file

@@ -1,4 +1,6 @@
+pub mod TerminalLetters
 pub mod Known
+pub mod OtherFiles
 pub mod Blamed
 pub mod Fonts
 pub mod HintRows

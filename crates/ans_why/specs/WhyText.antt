@@ -16,7 +16,7 @@ use Rattle.ans_model.specs.Text.ReportText.{size_text}
 use Rattle.ans_sauce.specs.declared.found.Found.{Found}
 use Rattle.ans_sauce.specs.declared.found.Found.TheVariants as found
 use Rattle.ans_sauce.specs.declared.parts.Parts.{Parts}
-use Rattle.ans_sauce.specs.Parts.{notes_of, record_of, size_of}
+use Rattle.ans_sauce.specs.Parts.{content_of, notes_of, record_of, size_of}
 pub use Rattle.ans_report.specs.Counted.{counted_text}
 use Rattle.ans_report.specs.FaultTold.{fault_told}
 pub use Rattle.ans_report.specs.Quoted.{quoted, quoted_byte}
@@ -24,6 +24,7 @@ use Rattle.ans_hints.specs.Hints.{are_torn}
 use Rattle.ans_hints.specs.declared.hints.Hints.{Hints}
 use Rattle.ans_why.specs.HintsText.{hints_text}
 use Rattle.ans_why.specs.Known.{known_behind_end_mark, known_text}
+use Rattle.ans_why.specs.OtherFiles.{first_known, known_file}
 use Rattle.ans_why.specs.PlayersText.{is_same_class, players_lines}
 use Rattle.ans_sauce.specs.Judged.{is_pass}
 use Rattle.ans_sauce.specs.declared.judged.Judged.TheVariants.{NoContent, Refused, Passes}
@@ -152,11 +153,12 @@ taller_line false = []
 abbrev pub pass_lines : Parts → Pass → List ℕ
 pass_lines parts pass =
     named_line (codes "verdict") (verdict_words pass.needs)
+    ++ (known_line (known_file (content_of parts))
     ++ (named_line (codes "needs") (needed_parts pass.needs)
     ++ (reliance_lines pass.reliance
     ++ (players_lines pass.needs pass.players
     ++ (taller_line pass.taller
-    ++ (fix_line (is_fixed pass.reliance) ++ hints_text pass.hints (font_of parts))))))
+    ++ (fix_line (is_fixed pass.reliance) ++ hints_text pass.hints (font_of parts)))))))
 
 -- Empty rows at the end are not spoken of if not all is played.
 abbrev pub told_hints : Refusal → Hints
@@ -165,7 +167,7 @@ told_hints r = if is_some r.lines then r.hints else record r.hints { empty_rows 
 abbrev pub refusal_lines : Parts → Refusal → List ℕ
 refusal_lines parts r =
     fault_lines r.fault r.bytes.now
-    ++ (known_line r.known
+    ++ (known_line (first_known r.known (known_file (content_of parts)))
     ++ (named_line (codes "cursor") (place_text r.cursor)
     ++ (hints_text (told_hints r) (font_of parts) ++ lines_line r.lines (are_torn r.hints))))
 
@@ -177,7 +179,8 @@ heading_lines parts = size_line parts ++ flat_map note_line (notes_of parts)
 abbrev pub why_text : Why → List ℕ
 why_text (NoContent said) =
     fault_lines said.fault []
-    ++ (found_line said.found ++ (known_line (known_found said.found) ++ enough_lines said.enough))
+    ++ (found_line said.found
+    ++ (known_line (first_known said.other (known_found said.found)) ++ enough_lines said.enough))
 why_text (Refused parts refusal) = heading_lines parts ++ refusal_lines parts refusal
 why_text (Passes parts pass) = heading_lines parts ++ pass_lines parts pass
 

@@ -20,6 +20,7 @@ ghost use Rattle.ans_why.specs.Explained.{IsRecordRefusal, IsRefusal};
 
 use crate::blamed::bytes_to_blame;
 use crate::known_bytes::known_sequence;
+use crate::other_files::known_file;
 use crate::why::{Enough, Pass, Place, RecordRefusal, Refusal, Reliance, Shown};
 use ans_hints::{Hints, Overview};
 use ans_model::beginning::SAFE_BEGINNING;
@@ -173,6 +174,7 @@ impl<'a> RecordRefusal<'a> {
         RecordRefusal {
             fault,
             found: find(file, fault),
+            other: known_file(file),
             enough: match fault.cause {
                 Cause::LinesUnstated => enough(file),
                 _ => None,

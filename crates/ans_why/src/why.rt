@@ -83,6 +83,8 @@ pub struct Enough<'a> {
 pub struct RecordRefusal<'a> {
     pub fault: Fault,
     pub found: Found<'a>,
+    /// Which other kind of file it is, if it is known as one.
+    pub other: Option<Known>,
     /// For F5, if neither F6 nor F8 would follow: the number of lines, if one is enough.
     pub enough: Option<Enough<'a>>,
 }

@@ -10,10 +10,12 @@ ghost use Rattle.ans_why.specs.WhyText.{blamed_text, blamed_line, fault_lines, p
 ghost use Rattle.ans_why.specs.WhyText.{reliance_lines, verdict_words, taller_line, is_fixed, fix_line, lines_line};
 ghost use Rattle.ans_why.specs.WhyText.{after_end_mark_text, enough_lines, heading_lines, known_found, known_line};
 ghost use Rattle.ans_hints.specs.Hints.{are_torn};
+ghost use Rattle.ans_why.specs.OtherFiles.{first_known, known_file};
 ghost use Rattle.ans_why.specs.WhyText.{found_line, pass_lines, refusal_lines, told_hints, torn_text, why_text};
 
 use crate::hints_text::put_hints;
 use crate::known_bytes::{Known, known_behind_end_mark};
+use crate::other_files::known_file;
 use crate::players_text::{is_same_class, put_players};
 use crate::why::{Enough, Pass, Place, RecordRefusal, Refusal, Reliance, Shown, Why};
 use ans_hints::Hints;
@@ -172,6 +174,7 @@ fn put_pass<W: Write>(out: &mut Outbox<'_, W>, parts: &Parts<'_>, pass: &Pass<'_
     ensures { Puts W.contents out.old out.new (pass_lines parts.now pass.now) }
 {
     put_named_line(out, b"verdict", verdict_words(pass.needs));
+    put_known_line(out, known_file(parts.content()));
     out.put(b"needs: ");
     put_needed_parts(out, pass.needs);
     out.put(b"\n");
@@ -187,6 +190,16 @@ fn put_known_line<W: Write>(out: &mut Outbox<'_, W>, known: Option<Known>)
 {
     if let Some(known) = known {
         put_named_line(out, b"is", known.text().as_bytes());
+    }
+}
+
+/// What is known, or otherwise the other.
+fn first_known(known: Option<Known>, other: Option<Known>) -> Option<Known>
+    ensures { result ≡ first_known known other }
+{
+    match known {
+        Some(_) => known,
+        None => other,
     }
 }
 
@@ -229,7 +242,7 @@ fn put_refused<W: Write>(out: &mut Outbox<'_, W>, parts: &Parts<'_>, refusal: &R
     ensures { Puts W.contents out.old out.new (refusal_lines parts.now refusal.now) }
 {
     put_fault_lines(out, &refusal.fault, refusal.bytes);
-    put_known_line(out, refusal.known);
+    put_known_line(out, first_known(refusal.known, known_file(parts.content())));
     put_place_line(out, b"cursor", refusal.cursor);
     put_hints(out, &told_hints(refusal), parts.sauce().font());
     put_lines_line(out, refusal.lines, &refusal.hints);
@@ -335,7 +348,7 @@ fn put_record_refusal<W: Write>(out: &mut Outbox<'_, W>, said: &RecordRefusal<'_
 {
     put_fault_lines(out, &said.fault, b"");
     put_found(out, &said.found);
-    put_known_line(out, known_found(&said.found));
+    put_known_line(out, first_known(said.other, known_found(&said.found)));
     put_enough(out, said.enough);
 }
 
@@ -350,15 +363,15 @@ fn put_heading<W: Write>(out: &mut Outbox<'_, W>, parts: &Parts<'_>)
 /// Puts what `why` says of a file: lines of a key, a colon and a value. The size, the notes and the verdict come
 /// first.
 ///
-/// If the file passes: what it needs, where and why, on which players it shows its picture, whether it plays
-/// the same on taller screens, the command that fixes it, and the hints.
+/// If the file passes: which other kind of file it is known as, what it needs, where and why, on which players it
+/// shows its picture, whether it plays the same on taller screens, the command that fixes it, and the hints.
 ///
-/// If its content is refused: the fault with the offending bytes, what they are known as, where the cursor is
-/// before them, the hints, and the number of lines that is enough.
+/// If its content is refused: the fault with the offending bytes, what they or the file are known as, where the
+/// cursor is before them, the hints, and the number of lines that is enough.
 ///
 /// If its record or its layout is refused, there are no size and no notes. The fault comes, what is found there,
-/// and what that is known as; and if nothing but the number of lines is missing, the hints on as many as are
-/// enough, and that number.
+/// and what the file or that is known as; and if nothing but the number of lines is missing, the hints on as many
+/// as are enough, and that number.
 pub fn put_why<W: Write>(out: &mut Outbox<'_, W>, why: &Why<'_>)
     ensures { Puts W.contents out.old out.new (why_text why.now) }
 {

@@ -6,8 +6,8 @@ use ans_model::size::Size;
 use ans_samples::Narrow;
 use ans_sauce::Found;
 use ans_why::{
-    Known, font_name, has_other_code_page, known_behind_end_mark, known_found, known_sequence,
-    put_hints,
+    Known, Terminal, font_name, has_other_code_page, known_behind_end_mark, known_file,
+    known_found, known_sequence, put_hints,
 };
 use ans_write::{Outbox, Tried};
 use std::process::Abort;
@@ -467,14 +467,13 @@ fn some_rows_are_torn(rt: HostRuntime) {
 }
 
 /// Bytes, and what they are known as where a content is refused for an unknown sequence.
-static KNOWN: [(&[u8], Option<Known>); 34] = [
+static KNOWN: [(&[u8], Option<Known>); 33] = [
     (b"\x1b[MFT120O3L8CDE\x0e", Some(Known::Music)),
     (b"\x1b[Na#b+c-d.e<f>g h\x0e", Some(Known::Music)),
     (b"\x1b[|\x0erest", Some(Known::Music)),
     (b"\x1b[MF", None),
     (b"\x1b[MF!\x0e", None),
     (b"\x1b[M\x1b[0m\x0e", None),
-    (b"\x1b[LF\x0e", None),
     (b"\x1b[0;40 D", Some(Known::FontSelection)),
     (b"\x1b[12;3 Dabc", Some(Known::FontSelection)),
     (b"\x1b[0;0 ", None),
@@ -499,9 +498,36 @@ static KNOWN: [(&[u8], Option<Known>); 34] = [
     (b"\x1b[=h", None),
     (b"\x1b[3h", None),
     (b"\x1b[6n", None),
-    (b"\x1b7", None),
+    (b"\x1b9", None),
     (b"\x1b", None),
     (b"", None),
+];
+
+/// Sequences of modern terminals.
+static TERMINAL: [(&[u8], Terminal); 23] = [
+    (b"\x1b[79b", Terminal::Repeats),
+    (b"\x1b[G", Terminal::Column),
+    (b"\x1b[40Grest", Terminal::Column),
+    (b"\x1b[40`", Terminal::Column),
+    (b"\x1b[999G", Terminal::Column),
+    (b"\x1b[2d", Terminal::Row),
+    (b"\x1b[8X", Terminal::Blanks),
+    (b"\x1b[@", Terminal::Inserts),
+    (b"\x1b[P", Terminal::Deletes),
+    (b"\x1b[LF\x0e", Terminal::MoreRows),
+    (b"\x1b[1M", Terminal::LessRows),
+    (b"\x1b[3MF\x0e", Terminal::LessRows),
+    (b"\x1b[S", Terminal::Scrolls),
+    (b"\x1b[1;2T", Terminal::Scrolls),
+    (b"\x1b[2E", Terminal::Below),
+    (b"\x1b[F", Terminal::Above),
+    (b"\x1b[5a", Terminal::Right),
+    (b"\x1b[e", Terminal::Down),
+    (b"\x1b7", Terminal::Saves),
+    (b"\x1b78", Terminal::Saves),
+    (b"\x1b8", Terminal::Restores),
+    (b"\x1bc", Terminal::Resets),
+    (b"\x1bc\x1b[2J", Terminal::Resets),
 ];
 
 #[test]
@@ -509,6 +535,12 @@ fn sequences_are_known_by_their_form(rt: HostRuntime) {
     for (bytes, known) in KNOWN {
         assert!(rt;
             known_sequence(bytes, &Cause::UnknownSequence) == known,
+            "{bytes:?}"
+        );
+    }
+    for (bytes, what) in TERMINAL {
+        assert!(rt;
+            known_sequence(bytes, &Cause::UnknownSequence) == Some(Known::Terminal(what)),
             "{bytes:?}"
         );
     }
@@ -529,10 +561,15 @@ fn music_has_at_most_250_notes(rt: HostRuntime) {
 }
 
 /// What follows the first end mark, whether a record is in it, and what it is known as.
-static BEHIND: [(&[u8], bool, Option<Known>); 11] = [
+static BEHIND: [(&[u8], bool, Option<Known>); 20] = [
     (b"SAUCE00", true, Some(Known::OlderRecord)),
     (b"x", false, Some(Known::Arrow)),
-    (b"\x1a\x1a\x1b[0m", false, Some(Known::Arrow)),
+    (b"\x1b[0mmore\x1a\x1a", false, Some(Known::Arrow)),
+    (b"\x1a\x1a\x1b[0m", false, None),
+    (b"one\x1atwo\x1a", false, None),
+    (CONTROL_IN_50, false, Some(Known::Arrow)),
+    (CONTROL_IN_49, false, None),
+    (b"\r\n\x1b[1mab\r\n", false, Some(Known::Arrow)),
     (b"\r\n\0 \x1a", false, None),
     (b"", false, None),
     (COMMENT, false, Some(Known::UncountedComments)),
@@ -541,7 +578,33 @@ static BEHIND: [(&[u8], bool, Option<Known>); 11] = [
     (b"COMNT and more", false, None),
     (b"\x1aSAUCE01 and more", false, None),
     (b" COMNT", false, Some(Known::Arrow)),
+    (OLDER_AND_DRAWING, true, Some(Known::AnotherDrawing)),
+    (OLDER_AND_COMMENT, true, Some(Known::OlderRecord)),
+    (OLDER_AND_BLANKS, true, Some(Known::OlderRecord)),
+    (OLDER_TWICE, true, Some(Known::OlderRecord)),
 ];
+
+/// One byte of 50 below 20h, or of 49.
+const CONTROL_IN_50: &[u8] = b"\x0112345678901234567890123456789012345678901234567\r\n";
+
+const CONTROL_IN_49: &[u8] = b"\x011234567890123456789012345678901234567890123456\r\n";
+
+/// A record of version 00, and something after it.
+const OLDER_AND_DRAWING: &[u8] =
+    b"SAUCE00                                                                      \
+    \x20                                                  \x1b[0mmore\x1a";
+
+const OLDER_AND_COMMENT: &[u8] =
+    b"\x1aSAUCE00                                                                      \
+    \x20                                                  COMNT and more";
+
+const OLDER_AND_BLANKS: &[u8] =
+    b"SAUCE00                                                                      \
+    \x20                                                  \x1a\r\n  \x1a";
+
+const OLDER_TWICE: &[u8] =
+    b"SAUCE00                                                                      \
+    \x20                                                  \x1aSAUCE00";
 
 /// End marks, and a block of one comment.
 const COMMENT: &[u8] =
@@ -557,6 +620,61 @@ fn what_follows_the_end_mark_is_known(rt: HostRuntime) {
     }
 }
 
+/// Of each content with bytes of other kinds of file, which kind it is.
+static FILES: [(&[u8], Option<Known>); 26] = [
+    (b"XBIN\x1a", Some(Known::XBin)),
+    (b"XBIN", None),
+    (b" XBIN\x1a", None),
+    (b"PK\x03\x04\x0a", Some(Known::Zip)),
+    (b"PK\x05\x06", None),
+    (
+        b"\x16\x01\x1fA\x16\x01\x07B\x16\x01\x0fC",
+        Some(Known::Avatar),
+    ),
+    (b"\x16\x01\x1fA\x16\x01\x07B\x16\x02C", None),
+    (b"\x16\x01\x1fA\x16\x01\x07B\x16\x01\x0fC\x1b[0m", None),
+    (b"\x16\x04\x16\x04\x16\x04\x16\x04\x16", None),
+    (BINARY_TEXT, Some(Known::BinaryText)),
+    (BLANK_TEXT, None),
+    (b"@X1FA@X07B@X0FC", Some(Known::PcBoard)),
+    (b"\x1b[0m@X1F@X07@X0F", Some(Known::PcBoard)),
+    (b"@X1FA@X07B@X0fC", None),
+    (b"@X1FA@X07B", None),
+    (b"a@Xactor.org b@Xactor.org c@Xactor.org", None),
+    (b"|07A|15B|23C", Some(Known::Pipe)),
+    (b"|07\xdb|08\xdb|09\xdb|15", Some(Known::Pipe)),
+    (b"|07A|15B|24C", None),
+    (b"|01|02|03|04|", None),
+    (b"|01 |02 |03 |", None),
+    (b"|011|022|033|", None),
+    (b"@1F@A@07@B@0F@C", Some(Known::Wildcat)),
+    (b"@1F@A@07@B@0G@C", None),
+    (b"caf\xe9 \xe0 la cr\xe8me\r\n", None),
+    (b"", None),
+];
+
+/// A row of 80 pairs, in half of which the second byte is a colour.
+const BINARY_TEXT: &[u8] = b"\
+    A\x07B\x70A\x07B\x70A\x07B\x70A\x07B\x70A\x07B\x70A\x07B\x70A\x07B\x70A\x07B\x70A\x07B\x70A\x07B\x70\
+    A\x07B\x70A\x07B\x70A\x07B\x70A\x07B\x70A\x07B\x70A\x07B\x70A\x07B\x70A\x07B\x70A\x07B\x70A\x07B\x70\
+    A\x1eB\x70A\x1eB\x70A\x1eB\x70A\x1eB\x70A\x1eB\x70A\x1eB\x70A\x1eB\x70A\x1eB\x70A\x1eB\x70A\x1eB\x70\
+    A\x1eB\x70A\x1eB\x70A\x1eB\x70A\x1eB\x70A\x1eB\x70A\x1eB\x70A\x1eB\x70A\x1eB\x70A\x1eB\x70A\x1eB\x70";
+
+/// A text in which each second byte is a blank or ends a line.
+const BLANK_TEXT: &[u8] = b"\
+    \r\n\r\n\r\n\r\n\r\n\r\n\r\n\r\n\r\n\r\n\r\n\r\n\r\n\r\n\r\n\r\n\r\n\r\n\r\n\r\n\
+    \r\n\r\n\r\n\r\n\r\n\r\n\r\n\r\n\r\n\r\n\r\n\r\n\r\n\r\n\r\n\r\n\r\n\r\n\r\n\r\n\
+    A B C D E F G H I J K L M N O P Q R S T U V W X Y Z a b c d e f g h i j k l m n \
+    A B C D E F G H I J K L M N O P Q R S T U V W X Y Z a b c d e f g h i j k l m n ";
+
+#[test]
+fn other_files_are_known_by_their_bytes(rt: HostRuntime) {
+    for (bytes, known) in FILES {
+        assert!(rt; known_file(bytes) == known, "{bytes:?}");
+    }
+    assert!(rt; known_file(&BINARY_TEXT[2..]).is_none());
+}
+
 #[test]
 fn of_what_is_found_the_bytes_behind_the_end_mark_are_known(rt: HostRuntime) {
     let found = Found::AfterEndMark {
@@ -570,4 +688,6 @@ fn of_what_is_found_the_bytes_behind_the_end_mark_are_known(rt: HostRuntime) {
 #[test]
 fn what_is_known_has_its_name(rt: HostRuntime) {
     assert_eq!(rt; Known::Music.text(), "ANSI music");
+    let column = "a sequence of modern terminals: goes to a column; write ESC[row;columnH";
+    assert_eq!(rt; Known::Terminal(Terminal::Column).text(), column);
 }

@@ -1,6 +1,8 @@
-use Rattle.std.proofs.Common.{rules, ◌≡◌}
-use Rattle.ans_write.proofs.PutsLemmas.{Puts-then}
-use Rattle.ans_why.specs.WhyText.{font_of, is_fixed, verdict_words}
+use Rattle.std.proofs.Common.{rules, ◌≡◌, ap}
+use Rattle.ans_sauce.specs.Parts.{content_of}
+use Rattle.ans_write.proofs.PutsLemmas.{Puts-same, Puts-then}
+use Rattle.ans_why.specs.OtherFiles.{known_file}
+use Rattle.ans_why.specs.WhyText.{font_of, is_fixed, known_line, verdict_words}
 use Rattle.ans_why.proofs.why_text.put_pass.Goals as goal
 
 pub returns : goal.returns
@@ -8,9 +10,11 @@ returns g c =
     let verdict : c.verdict_words.result.now ≡ verdict_words c.args.pass.now.needs = search rules in
     let fixed : c.is_fixed.result ≡ is_fixed c.args.pass.now.reliance = search rules in
     let font : c.font.result.now ≡ font_of c.args.parts.now = search rules in
+    let known : c.known_file.result ≡ known_file (content_of c.args.parts.now) = search rules in
     Puts-then (rw verdict at c.put_named_line.ensures)
+    (Puts-then (Puts-same (ap known_line known) c.put_known_line.ensures)
     (Puts-then (Puts-then (Puts-then c.put.ensures c.put_needed_parts.ensures) c.put-2.ensures)
     (Puts-then c.put_reliance.ensures
     (Puts-then c.put_players.ensures
     (Puts-then c.put_taller_line.ensures
-    (Puts-then (rw fixed at c.put_fix_line.ensures) (rw font at c.put_hints.ensures))))))
+    (Puts-then (rw fixed at c.put_fix_line.ensures) (rw font at c.put_hints.ensures)))))))

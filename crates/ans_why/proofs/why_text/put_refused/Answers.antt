@@ -1,14 +1,18 @@
-use Rattle.std.proofs.Common.{rules, ◌≡◌, ap₂}
+use Rattle.std.proofs.Common.{rules, ◌≡◌, ◌∙◌, ap, ap₂}
+use Rattle.ans_sauce.specs.Parts.{content_of}
 use Rattle.ans_write.proofs.PutsLemmas.{Puts-same, Puts-then}
 use Rattle.ans_why.specs.HintsText.{hints_text}
-use Rattle.ans_why.specs.WhyText.{font_of}
+use Rattle.ans_why.specs.OtherFiles.{first_known, known_file}
+use Rattle.ans_why.specs.WhyText.{font_of, known_line}
 use Rattle.ans_why.proofs.why_text.put_refused.Goals as goal
 
 pub returns : goal.returns
 returns g c =
     let font : c.font.result.now ≡ font_of c.args.parts.now = search rules in
+    let of_file : c.known_file.result ≡ known_file (content_of c.args.parts.now) = search rules in
+    let known = c.first_known.ensures ∙ ap (first_known c.args.refusal.now.known) of_file in
     Puts-then c.put_fault_lines.ensures
-    (Puts-then c.put_known_line.ensures
+    (Puts-then (Puts-same (ap known_line known) c.put_known_line.ensures)
     (Puts-then c.put_place_line.ensures
     (Puts-then (Puts-same (ap₂ hints_text c.told_hints.ensures font) c.put_hints.ensures)
     c.put_lines_line.ensures)))

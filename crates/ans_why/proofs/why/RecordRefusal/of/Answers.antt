@@ -6,6 +6,7 @@ pub returns : goal.returns
 returns c = record {
   refused = c.requires.refused;
   found = c.find.ensures;
+  other = c.known_file.ensures;
   enough = elim c.match-fault.branch [
     | in-LinesUnstated w ↦
         rw w.result-is (said_of_lines c.args.file.now c.args.fault.cause w.enough.result w.in-LinesUnstated.is
