@@ -6,7 +6,7 @@ It finds each line of that text except those on players by itself, from the word
 - `note`, `found` and the faults of the record: it takes the file apart by itself;
 - the evidence: where the cursors are in the plays from the low and the high start before the fault, or
   what the named cell holds in both; and on a refusal where the one from the cleared start is;
-- `is`: by patterns over the bytes from the fault's offset on, or over those after the end mark;
+- `is`: by patterns over the bytes from the fault's offset on, or over those after the end mark, or over the file;
 - `lines`: it plays the content on 1 to 24 lines, and then halves what is left up to 8192. A number is
   right if the content passes with it and is refused with one less, and with a few others below; none
   is right if it is refused with 8192. The line also says if the rows look broken;
@@ -93,6 +93,35 @@ KNOWN_FORMS = {
     "the switch that hides or shows the cursor": re.compile(rb"\x1b\[\?25[hl]"),
     "a screen mode of DOS": re.compile(rb"\x1b\[=[0-9]+[hl]"),
 }
+# What modern terminals do at a letter after ESC[ and numbers, and at a byte after ESC; and what to write for it.
+MODERN = "a sequence of modern terminals: "
+AT_LETTER = {
+    "b": "repeats a character; write it out",
+    "G`": "goes to a column; write ESC[row;columnH",
+    "d": "goes to a row; write ESC[row;columnH",
+    "X": "blanks cells; write blanks, go back",
+    "@": "inserts cells; write the row again",
+    "P": "deletes cells; write the row again",
+    "L": "inserts rows; write the rows again",
+    "ST": "scrolls; write the rows again",
+    "E": "starts a row below; write CR ESC[nB",
+    "F": "starts a row above; write CR ESC[nA",
+    "a": "goes right; write ESC[nC",
+    "e": "goes down; write ESC[nB",
+}
+AFTER_ESCAPE = {
+    b"\x1b7": "saves the place; write ESC[s",
+    b"\x1b8": "goes to the saved place; write ESC[u",
+    b"\x1bc": "resets; write ESC[0m ESC[2J ESC[?7h",
+}
+# Codes in place of sequences, each with what a file is called that has three of them. Those of AVATAR count in a file
+# without ESC.
+AVATAR_CODE = re.compile(rb"\x16(?=\x01)")
+BOARD_FILES = {
+    "text with PCBoard colour codes (@X1F)": re.compile(rb"@X(?=[0-9A-F]{2})"),
+    "text with Renegade or Telegard colour codes (|07)": re.compile(rb"\|(?=(?:[01][0-9]|2[0-3])[^\x00-\x200-9|])"),
+    "text with Wildcat colour codes (@1F@)": re.compile(rb"@(?=[0-9A-F]{2}@)"),
+}
 # Tokens that may stand between a glyph and its line end, and tokens that move within a row.
 SILENT = {"bell", "save", "colours", "wrap", "erase"}
 IN_A_ROW = {"backspace", "tab", "C", "D"}
@@ -166,7 +195,37 @@ def known_sequence(content, offset, number):
     """What the bytes from here on are known as, or None."""
     if number == 15:
         return "a reassigned key"
-    return next((name for name, form in KNOWN_FORMS.items() if form.match(content, offset)), None)
+    known = next((name for name, form in KNOWN_FORMS.items() if form.match(content, offset)), None)
+    return known or modern_sequence(content[offset:])
+
+
+def modern_sequence(rest):
+    """What modern terminals do at the bytes, or None."""
+    does, numbers = AFTER_ESCAPE.get(rest[:2]), re.match(rb"\x1b\[[0-9;]*", rest)
+    if re.match(rb"\x1b\[[0-9]+M", rest):
+        does = "deletes rows; write the rows again"
+    elif numbers and numbers.end() < len(rest):
+        does = next((does for letters, does in AT_LETTER.items() if chr(rest[numbers.end()]) in letters), None)
+    return MODERN + does if does else None
+
+
+def known_file(file):
+    """Which other kind of file the bytes are, or begin; or None."""
+    if file.startswith(b"XBIN\x1a"):
+        return "an XBin file"
+    if file.startswith(b"PK\x03\x04"):
+        return "a ZIP archive"
+    if b"\x1b" not in file:
+        if len(AVATAR_CODE.findall(file)) >= 3:
+            return "a drawing in AVATAR codes"
+        colours = sum(byte in set(range(1, 0x20)) - {10, 13} for byte in file[1::2])
+        if len(file) >= 160 and colours >= len(file) // 4:
+            return "BinaryText, pairs of a character and a colour"
+    return next((name for name, code in BOARD_FILES.items() if len(code.findall(file)) >= 3), None)
+
+
+def is_line(known):
+    return ["is: " + known] if known else []
 
 
 def cleared(width, lines):
@@ -422,12 +481,19 @@ def note_lines(body, record):
 def known_behind(behind):
     """What the bytes behind the end mark are known as, or None."""
     if has_whole_record(behind):
-        return "an older record"
+        later = behind[behind.find(b"SAUCE00") + 128:].lstrip(b"\x1a")
+        return "another drawing" if may_be_drawing(later) else "an older record"
     rest = behind.lstrip(b"\x1a")
     if rest.startswith(b"COMNT") and len(rest) > 5 and len(rest) % 64 == 5:
         return "comments that the record does not count"
-    is_drawing = not rest.startswith((b"COMNT", b"SAUCE")) and any(byte > 0x20 for byte in rest)
-    return "an arrow in the drawing" if is_drawing else None
+    drawing = behind.rstrip(b"\x1a")
+    controls = sum(byte < 0x20 and byte not in b"\r\n\x1b" for byte in drawing)
+    is_arrow = b"\x1a" not in drawing and may_be_drawing(drawing) and 100 * controls <= 2 * len(drawing)
+    return "an arrow in the drawing" if is_arrow else None
+
+
+def may_be_drawing(rest):
+    return not rest.startswith((b"COMNT", b"SAUCE")) and any(byte > 0x20 for byte in rest)
 
 
 def has_whole_record(behind):
@@ -492,7 +558,7 @@ def reliance_lines(chance, content, width, lines):
 
 def pass_lines(chance, content, width, lines, needs, picture):
     known = [part for part in PARTS if part in needs.split()]
-    said = ["verdict: pass on a cleared screen" if known else "verdict: pass", needs]
+    said = ["verdict: pass on a cleared screen" if known else "verdict: pass"] + is_line(known_file(content)) + [needs]
     said += reliance_lines(chance, content, width, lines) if known else []
     said += taller_lines(chance, content, width, lines, known, picture)
     return said + ([fix_line(chance, content, width, lines, picture)] if known else [])
@@ -504,7 +570,7 @@ def refusal_lines(chance, content, width, lines, record):
     offset, number = fault_in(content, [machine])
     blamed, known = to_blame(content, offset), known_sequence(content, offset, number)
     said = ["verdict: refused", "fault: " + fault_told(offset, number, blamed=blamed)]
-    said += ["is: " + known] if known else []
+    said += is_line(known or known_file(content))
     said.append("cursor: " + place_text(machine))
     least = least_lines(chance, content, width) if 19 <= number <= 21 else None
     if least:
@@ -516,13 +582,14 @@ def refusal_lines(chance, content, width, lines, record):
 def record_lines(chance, file, offset, number, found):
     """The lines of a file whose record or layout is refused."""
     said = ["verdict: refused", "fault: " + fault_told(offset, number)] + ([f"found: {found}"] if found else [])
+    known = known_file(file)
     if number not in (5, 8):
-        return said
+        return said + is_line(known)
     record = record_of(file)
     content, mark, behind = body_of(file, record).partition(b"\x1a")
+    said += is_line(known or (known_behind(behind) if number == 8 else None))
     if number == 8:
-        known = known_behind(behind)
-        return said + (["is: " + known] if known else [])
+        return said
     if record.width > MOST_COLUMNS or behind.strip(b"\x1a"):
         return said
     width = record.width or 80
@@ -610,7 +677,13 @@ def a_known_form(chance):
         b"?25" + chance.choice([b"l", b"h", b"l", b"5l", b"n"]),
         chance.choice([b"=", b"=", b"=", b"?", b""]) + digits[0] + chance.choice([b"h", b"l", b"h", b"m"]),
         b"13;" + chance.choice([b'"dir"', b"65", b"'p'", b""]) + b"p",
+        *[
+            chance.choice([b"", b"1", b"3", b"999", b"2;5", b";", b"?2", b"!"]) + bytes([letter])
+            for letter in chance.choices(b"bG`dX@PLMMSTEFaeIZ", k=4)
+        ],
     ]
+    if chance.random() < 0.06:
+        return b"\x1b" + chance.choice([b"7", b"8", b"c", b"9", b"C", b""])
     form = b"\x1b[" + chance.choice(forms)
     return form if chance.random() < 0.9 else form[:chance.randrange(2, len(form) + 1)]
 
@@ -631,6 +704,25 @@ def a_foreign_code(chance):
     return b"@" + chance.choice([b"X", b"X", b"X", b"x", b""]) + number
 
 
+def another_file(chance):
+    """Bytes of another kind of file, or nearly so."""
+    kind, count = chance.random(), chance.choice([1, 2, 3, 3, 4, 5])
+    if kind < 0.2:
+        return chance.choice([b"XBIN\x1a", b"XBIN", b"XBIN\x1b", b"PK\x03\x04", b"PK\x03", b"PK\x05\x06"]) + b"AB"
+    if kind < 0.4:
+        codes = [b"\x16\x01\x1fA", b"\x16\x01\x07B", b"\x16\x01\x16\x01", b"\x16\x02", b"\x16\x08\x01", b"\x19A\x05"]
+        return b"".join(chance.choices(codes, [4, 4, 1, 1, 1, 1], k=count + 1))
+    if kind < 0.6:
+        colours = chance.choice([b"\x07", b"\x07\x1f", b"\x07\x70", b"\x07\x0fp", b"\x07\n\r", b"\x07pp", b"\x1a\x07"])
+        pairs = chance.choice([5, 79, 80, 80, 81, 100])
+        return b"".join(bytes([chance.choice(b"AB \xdb\x07"), chance.choice(colours)]) for _ in range(pairs))
+    codes = chance.choice([
+        [b"@X1F", b"@X07A", b"@X0G", b"@X0f"], [b"@1F@", b"@07@A", b"@0G@", b"@1F"],
+        [b"|07A", b"|15\xdb", b"|23[", b"|24A", b"|07|", b"|07 ", b"|07"], [b"@X1F", b"@1F@", b"|07A"],
+    ])
+    return b"".join(chance.choices(codes, k=count + 1))
+
+
 def a_why_piece(chance, width, lines):
     """A few bytes of which something is said besides the verdict."""
     kind = chance.random()
@@ -643,6 +735,8 @@ def a_why_piece(chance, width, lines):
         wrong = [b"\xe0\x80\x80", b"\xed\xa0\x80", b"\xf0\x80\x80\x80", b"\xf4\x90\x80\x80", b"\xf8\x88\x80\x80\x80"]
         text = chance.choice(characters + characters + wrong)
         return text if chance.random() < 0.8 else text[:-1]
+    if kind < 0.47:
+        return another_file(chance)
     if kind < 0.57:
         return b"".join(a_foreign_code(chance) for _ in range(chance.choice([1, 2, 3])))
     if kind < 0.66:
@@ -707,10 +801,15 @@ def packed(record):
 
 def behind_the_end_mark(chance, record):
     """Bytes that are no end marks alone, or that are."""
-    older = packed(record)
+    older, long = packed(record), b"A" * chance.randrange(40, 110)
     notes = b"COMNT" + b"a comment".ljust(64 * chance.choice([0, 1, 1, 2]) + chance.choice([0, 0, 0, 1, -1]))
     some = [
-        older, older + b"\x1a", older[:127], b"COMNT".ljust(69) + older, older[5:], notes, notes, notes + b"\x1a",
+        older, older + b"\x1a", older[:127], older + b"\x1b[0mAB\x1a",
+        older + b"\x1a" + chance.choice([b"A", b" ", older]), older + chance.choice([notes, b"COMNT", b"SAUC"]),
+        older + chance.choice([b"\x1aAB" + older + b"\x1a", b"A" + older]),
+        long + b"\x01" * chance.choice([0, 1, 1, 2, 3]) + chance.choice([b"\x1a", b"\x1a\x1a", b"\x1aA"]),
+        b"AB\x1a", b"AB\x1a\x1a", b"\r\n\x1b[0mAB\x1a", b"\x1aAB\x1a",
+        b"COMNT".ljust(69) + older, older[5:], notes, notes, notes + b"\x1a",
         b"\x1b[0mAB\r\n", b" ", b"\r\n \0", b"!", b"AB\x1aAB", b"\x1a" + b"A" * chance.randrange(70), b"",
     ]
     return b"\x1a" * chance.choice([0, 0, 1, 2]) + chance.choice(some)
@@ -739,7 +838,12 @@ def a_broken_file(chance, content, record):
 
 
 def a_file(chance):
-    """A content with its record. Some are refused for that record, or for what stands between the two."""
+    """A content with its record. Some are refused for that record, or for what stands between the two. Others are of
+    another kind, with a record or without one."""
+    if chance.random() < 0.04:
+        content = another_file(chance) + a_why_content(chance, 80, 9) * (chance.random() < 0.3)
+        record = packed(a_record(chance, 80, 9, len(content)))
+        return content + chance.choice([b"", b"\x1a" + record, b"\x1a" + record, record, b"\x1a", record[:100]])
     width = chance.randrange(*chance.choices([(1, 5), (5, 21), (21, 81)], [50, 47, 3])[0])
     lines = chance.randrange(1, 7)
     content = a_why_content(chance, width, lines)

@@ -56,10 +56,13 @@ count_colours bytes = 0
 abbrev pub is_binary_text : List ℕ → Bool
 is_binary_text bytes = nat_le 160 (length bytes) && nat_le (length bytes / 4) (count_colours bytes)
 
+abbrev pub is_escape : ℕ → Bool
+is_escape b = b == 0x1B
+
 -- AVATAR and BinaryText have no ESC
 abbrev pub known_without_escapes : List ℕ → Option Known
 known_without_escapes bytes =
-    if list_any (nat_eq 0x1B) bytes then None
+    if list_any is_escape bytes then None
     else if has_codes Avatar bytes then Some known.Avatar
     else if is_binary_text bytes then Some known.BinaryText
     else None

@@ -16,7 +16,7 @@ use ans_forms::{
 };
 use ans_model::fault::Cause;
 use ans_sauce::cut_content;
-use ans_sauce::fields::END_MARK;
+use ans_sauce::fields::{END_MARK, RECORD_SIZE};
 
 /// What refused bytes are: things that artists and their programs are known to write.
 #[derive(Debug, Clone, Copy, PartialEq, Eq)]
@@ -213,7 +213,7 @@ fn is_arrow(bytes: &[u8]) -> bool
 fn after_128(bytes: &[u8]) -> &[u8]
     ensures { result.now ≡ drop 128 bytes.now }
 {
-    bytes.split_at(bytes.len().min(128)).1
+    bytes.split_at(RECORD_SIZE.min(bytes.len())).1
 }
 
 /// What comes after the first record of version 00: nothing if there is none.

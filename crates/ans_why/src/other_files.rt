@@ -1,10 +1,10 @@
 //! Other kinds of file, by their first bytes or by the codes in them.
 
-ghost use Rattle.std.specs.Prelude.{◌≡◌, ◌≤◌, length, nat_eq};
+ghost use Rattle.std.specs.Prelude.{◌≡◌};
 ghost use Rattle.std.specs.List.{list_any};
 ghost use Rattle.ans_why.specs.OtherFiles.{begins_with_code, count_codes, count_colours, has_codes, is_binary_text};
 ghost use Rattle.ans_why.specs.OtherFiles.{is_colour, is_hex_digit, is_pipe_number, known_by_codes, known_file};
-ghost use Rattle.ans_why.specs.OtherFiles.{is_code_end, known_without_escapes};
+ghost use Rattle.ans_why.specs.OtherFiles.{is_code_end, is_escape, known_without_escapes};
 
 use crate::known_bytes::Known;
 
@@ -65,7 +65,7 @@ fn begins_with_code(code: Code, bytes: &[u8]) -> bool
 
 /// At how many places such a code begins.
 fn count_codes(code: Code, bytes: &[u8]) -> usize
-    ensures count { result ≡ count_codes code bytes.now }
+    ensures { result ≡ count_codes code bytes.now }
 {
     let mut count = 0;
     let mut rest = bytes;
@@ -93,7 +93,7 @@ fn is_colour(byte: u8) -> bool
 
 /// Of the bytes in pairs, in how many of them the second one is such a colour.
 fn count_colours(bytes: &[u8]) -> usize
-    ensures count { result ≡ count_colours bytes.now }
+    ensures { result ≡ count_colours bytes.now }
 {
     let mut count = 0;
     let mut rest = bytes;
@@ -114,9 +114,9 @@ fn is_binary_text(bytes: &[u8]) -> bool
 }
 
 fn has_escape(bytes: &[u8]) -> bool
-    ensures { result ≡ list_any (nat_eq 0x1B) bytes.now }
+    ensures { result ≡ list_any is_escape bytes.now }
 {
-    bytes.contains(&0x1B)
+    bytes.iter().any(|byte| *byte == 0x1B)
 }
 
 /// What the bytes are where none of them is ESC.
