@@ -28,6 +28,7 @@ FAULT = re.compile(r"fault: at \d+, F\d+ [^:]*")
 # Wrap, colours and screen are set, by 13 bytes. So what follows stands at offset 13.
 SAFE = b"\x1b[?7h\x1b[0m\x1b[2J"
 CRLF = b"\r\n"
+PIPE_CODES = "is: text with Renegade or Telegard colour codes (|07)"
 
 
 @dataclass
@@ -195,8 +196,9 @@ MISTAKES = [
     Drawing("letters in Latin-1", SAFE + texts(WORDS, "latin-1"), (foreign("letter", "letters", "Latin-1", 100, 17),)),
     Drawing("wrap off, and no line ends", SAFE + b"\x1b[?7l" + rows(80, b""),
             (printed_over(1520, 98), "hint: the last 19 lines are empty")),
-    Drawing("pipe codes", SAFE + texts("|15Welcome |07to the |11board|07."), (board(60, 13),)),
-    Drawing("@X codes", SAFE + texts("@X1FWelcome @X07to the board"), (board(40, 13),)),
+    Drawing("pipe codes", SAFE + texts("|15Welcome |07to the |11board|07."), (PIPE_CODES, board(60, 13))),
+    Drawing("@X codes", SAFE + texts("@X1FWelcome @X07to the board"),
+            ("is: text with PCBoard colour codes (@X1F)", board(40, 13))),
     Drawing("music", SAFE + b"\x1b[MFT120O3L8CDEFG\x0e" + rows(60),
             (fault(13, "F13 unknown sequence"), "is: ANSI music")),
     Drawing("music by ESC[|", SAFE + b"\x1b[|T120O3L8CDEFG\x0e" + rows(60),
@@ -222,6 +224,21 @@ MISTAKES = [
         fault(1254, "F8 bytes after the end mark"), "found: 129 bytes after the end mark, with an older record",
         "is: an older record",
     ), behind=b"\x1a" + record(80, 20, 1253) + b"\x1a"),
+    Drawing("two drawings in one file", SHORT, (
+        fault(1254, "F8 bytes after the end mark"), "found: 1382 bytes after the end mark, with an older record",
+        "is: another drawing",
+    ), behind=b"\x1a" + record(80, 20, 1253) + SHORT + b"\x1a"),
+    Drawing("two arrows", SHORT[:663] + b"\x1a" + SHORT[664:700] + b"\x1a" + SHORT[701:], (
+        fault(664, "F8 bytes after the end mark"), "found: 590 bytes after the end mark, without a record",
+    )),
+    Drawing("XBin", b"XBIN\x1a" + struct.pack("<HHBB", 80, 2, 16, 0) + b"A\x07" * 160, (
+        fault(5, "F8 bytes after the end mark"), "found: 327 bytes after the end mark, without a record",
+        "is: an XBin file",
+    )),
+    Drawing("a column by its number", SAFE + b"A\x1b[40GB" + rows(60), (
+        fault(14, "F13 unknown sequence"),
+        "is: a sequence of modern terminals: goes to a column; write ESC[row;columnH",
+    )),
     Drawing("no lines stated", SHORT, (fault(1352, "F5 number of lines not stated"), "found: 0 lines stated", "lines: 20"),
             lines=0),
     Drawing("no lines stated, and a full row with CR LF", SAFE + rows([60] * 19 + [80]), (
@@ -291,7 +308,7 @@ SPOKEN_OF = [
     Drawing("a blank row by the line end of a full one", SAFE + rows([60] * 17 + [80, 60], count=19), (full(1, 1147),)),
     Drawing("titles edge to edge", SAFE + texts("┤Size├┤Date├"), (foreign("letter", "letters", "UTF-8", 20, 18),)),
     Drawing("a sign between letters", SAFE + texts("  x≤y"), (foreign("letter", "letters", "Latin-1", 20, 16),)),
-    Drawing("a calendar without blanks", SAFE + texts("|01Mo|02Tu|03We"), (board(60, 13),)),
+    Drawing("a calendar without blanks", SAFE + texts("|01Mo|02Tu|03We"), (PIPE_CODES, board(60, 13))),
 ]
 
 
