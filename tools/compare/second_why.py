@@ -99,7 +99,7 @@ AT_LETTER = {
     "b": "repeats a character; write it out",
     "G`": "goes to a column; write ESC[row;columnH",
     "d": "goes to a row; write ESC[row;columnH",
-    "X": "blanks cells; write blanks, go back",
+    "X": "blanks cells; write blanks, then ESC[nD",
     "@": "inserts cells; write the row again",
     "P": "deletes cells; write the row again",
     "L": "inserts rows; write the rows again",

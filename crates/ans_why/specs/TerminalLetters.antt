@@ -54,7 +54,7 @@ abbrev pub terminal_text : Terminal → List ℕ
 terminal_text Repeats = codes "a sequence of modern terminals: repeats a character; write it out"
 terminal_text Column = codes "a sequence of modern terminals: goes to a column; write ESC[row;columnH"
 terminal_text Row = codes "a sequence of modern terminals: goes to a row; write ESC[row;columnH"
-terminal_text Blanks = codes "a sequence of modern terminals: blanks cells; write blanks, go back"
+terminal_text Blanks = codes "a sequence of modern terminals: blanks cells; write blanks, then ESC[nD"
 terminal_text Inserts = codes "a sequence of modern terminals: inserts cells; write the row again"
 terminal_text Deletes = codes "a sequence of modern terminals: deletes cells; write the row again"
 terminal_text MoreRows = codes "a sequence of modern terminals: inserts rows; write the rows again"

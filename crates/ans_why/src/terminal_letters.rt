@@ -64,7 +64,7 @@ impl Terminal {
             Repeats => "a sequence of modern terminals: repeats a character; write it out",
             Column => "a sequence of modern terminals: goes to a column; write ESC[row;columnH",
             Row => "a sequence of modern terminals: goes to a row; write ESC[row;columnH",
-            Blanks => "a sequence of modern terminals: blanks cells; write blanks, go back",
+            Blanks => "a sequence of modern terminals: blanks cells; write blanks, then ESC[nD",
             Inserts => "a sequence of modern terminals: inserts cells; write the row again",
             Deletes => "a sequence of modern terminals: deletes cells; write the row again",
             MoreRows => "a sequence of modern terminals: inserts rows; write the rows again",
