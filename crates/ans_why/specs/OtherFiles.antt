@@ -1,6 +1,6 @@
 -- Other kinds of file, by their first bytes or by the codes in them.
-use Rattle.std.specs.Prelude.{ℕ, ◌+◌, ◌/◌, Bool, true, false, not, ◌&&◌, ◌||◌, ◌==◌, nat_eq, nat_le, nat_lt, List, []}
-use Rattle.std.specs.Prelude.{◌∷◌, length, codes, slice_index, cond, Option, None, Some, if◌then◌else◌}
+use Rattle.std.specs.Prelude.{ℕ, ◌+◌, ◌/◌, Bool, not, ◌&&◌, ◌||◌, ◌==◌, nat_eq, nat_le, nat_lt, List, []}
+use Rattle.std.specs.Prelude.{◌∷◌, length, slice_index, cond, Option, None, Some, if◌then◌else◌}
 use Rattle.std.specs.Int.{is_in_range}
 use Rattle.std.specs.List.{list_any, starts_with}
 use Rattle.ans_why.specs.declared.known_bytes.Known.{Known}

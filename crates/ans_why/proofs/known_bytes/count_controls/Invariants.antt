@@ -1,4 +1,4 @@
-use Rattle.std.proofs.Common.{◌≡◌, ◌≤◌, count_by, take}
+use Rattle.std.proofs.Common.{◌≡◌, count_by, take}
 use Rattle.ans_why.specs.Known.{is_control}
 use Rattle.ans_why.proofs.known_bytes.count_controls.Given as goal
 
