@@ -672,6 +672,7 @@ fn other_files_are_known_by_their_bytes(rt: HostRuntime) {
     for (bytes, known) in FILES {
         assert!(rt; known_file(bytes) == known, "{bytes:?}");
     }
+    assert!(rt; BINARY_TEXT.len() == 160);
     assert!(rt; known_file(&BINARY_TEXT[2..]).is_none());
 }
 

@@ -1,4 +1,4 @@
-use Rattle.std.proofs.Common.{rules, ◌≡◌, ap}
+use Rattle.std.proofs.Common.{rules, ◌≡◌, ◌∙◌, ap}
 use Rattle.ans_sauce.specs.Parts.{content_of}
 use Rattle.ans_write.proofs.PutsLemmas.{Puts-same, Puts-then}
 use Rattle.ans_why.specs.OtherFiles.{known_file}
@@ -10,7 +10,8 @@ returns g c =
     let verdict : c.verdict_words.result.now ≡ verdict_words c.args.pass.now.needs = search rules in
     let fixed : c.is_fixed.result ≡ is_fixed c.args.pass.now.reliance = search rules in
     let font : c.font.result.now ≡ font_of c.args.parts.now = search rules in
-    let known : c.known_file.result ≡ known_file (content_of c.args.parts.now) = search rules in
+    let known : c.known_file.result ≡ known_file (content_of c.args.parts.now) =
+    c.known_file.ensures ∙ ap known_file c.content.ensures in
     Puts-then (rw verdict at c.put_named_line.ensures)
     (Puts-then (Puts-same (ap known_line known) c.put_known_line.ensures)
     (Puts-then (Puts-then (Puts-then c.put.ensures c.put_needed_parts.ensures) c.put-2.ensures)
