@@ -17,8 +17,8 @@ loose_line_feed z s _ rest = false
 abbrev pub wide_size : ℕ → ℕ
 wide_size first = if nat_lt first 0xF0 then 3 else 4
 
--- The bytes begin with such a character. One whose second byte is from B0h on is none to speak of: in code page 437
--- these are shades and boxes, and stand behind other characters by intent.
+-- The bytes begin with such a character. A second byte from B0h on does not count: in code page 437 these are shades
+-- and boxes, which often follow other characters on purpose.
 abbrev pub begins_with_wide : List ℕ → Bool
 begins_with_wide bytes =
     nat_le 0xE0 (slice_index bytes 0) && nat_lt (slice_index bytes 1) 0xB0
@@ -70,26 +70,26 @@ is_letter b = is_in_range 0x41 0x5A b || is_small_letter b
 abbrev pub is_second_byte : ℕ → Bool
 is_second_byte b = is_in_range 0x80 0xBF b && not (b == 0x97) && not (b == 0xB7)
 
--- The bytes begin with such a letter. One whose second byte is from B0h on, a shade or a box in code page 437, has a
--- letter behind it.
+-- The bytes begin with such a letter. If its second byte is B0h or above, a shade or a box in code page 437, a letter
+-- follows it.
 abbrev pub begins_with_two_byte_letter : List ℕ → Bool
 begins_with_two_byte_letter bytes =
     slice_index bytes 0 == 0xC3 && is_second_byte (slice_index bytes 1)
     && (nat_lt (slice_index bytes 1) 0xB0 || is_letter (slice_index bytes 2))
 
--- a letter, and behind it such a one
+-- a letter, followed by such a one
 abbrev pub two_byte_letter : Condition
 two_byte_letter z s (Glyph byte) rest = is_letter byte && begins_with_two_byte_letter rest
 two_byte_letter z s _ rest = false
 
 -- A small letter of Latin-1: a, o and u with two dots, e with a grave and an acute accent and with a circumflex, n with
--- a tilde, o with the three accents. In code page 437 their bytes are capital Greek letters and signs, which seldom
--- stand between small letters. Others are left out: theirs are small Greek letters, or signs that stand so by intent.
+-- a tilde, o with the three accents. In code page 437 their bytes are capital Greek letters and signs, which are seldom
+-- between small letters. Others are left out: theirs are small Greek letters, or signs that are used there on purpose.
 abbrev pub is_latin_letter : ℕ → Bool
 is_latin_letter b =
     b == 0xE4 || is_in_range 0xE8 0xEA b || is_in_range 0xF1 0xF4 b || b == 0xF6 || b == 0xFC
 
--- a small letter, and behind it such a one and a small letter
+-- a small letter, followed by such a one and a small letter
 abbrev pub latin_letter : Condition
 latin_letter z s (Glyph byte) rest =
     is_small_letter byte && is_latin_letter (slice_index rest 0) && is_small_letter (slice_index rest 1)
@@ -102,14 +102,14 @@ is_digit b = is_in_range 0x30 0x39 b
 abbrev pub is_hex_digit : ℕ → Bool
 is_hex_digit b = is_digit b || is_in_range 0x41 0x46 b
 
--- the two digits of a number up to 23, and a letter: behind `|`, a pipe code and what it colours
+-- the two digits of a number up to 23, and a letter: after `|`, a pipe code and what it colours
 abbrev pub begins_with_pipe_number : List ℕ → Bool
 begins_with_pipe_number bytes =
     is_digit (slice_index bytes 1) && is_letter (slice_index bytes 2)
     && (is_in_range 0x30 0x31 (slice_index bytes 0)
     || (slice_index bytes 0 == 0x32 && is_in_range 0x30 0x33 (slice_index bytes 1)))
 
--- `X` and two hexadecimal digits: behind `@`, a code of PCBoard
+-- `X` and two hexadecimal digits: after `@`, a code of PCBoard
 abbrev pub begins_with_x_number : List ℕ → Bool
 begins_with_x_number bytes =
     slice_index bytes 0 == 0x58 && is_hex_digit (slice_index bytes 1) && is_hex_digit (slice_index bytes 2)

@@ -1,4 +1,4 @@
--- What the search for line ends behind full rows has found so far. Only private contracts cite it.
+-- What the search for line ends after full rows has found so far. Only private contracts cite it.
 use Rattle.std.specs.Prelude.{◌≡◌, ⊤, ℕ, ◌+◌, ◌<◌, ◌≤◌, Bool, true, false, List, [], ◌∷◌, ◌++◌, length, Option, None}
 use Rattle.std.specs.Prelude.{Some}
 use Rattle.std.specs.List.{concat}
@@ -35,12 +35,12 @@ abbrev pub end_by : Behind → ℕ → TokenKind → Option FullRowEnd
 end_by seen offset LineFeed = line_end seen offset
 end_by seen offset _ = None
 
--- what stands behind in the row tells of line ends what its seam tells
+-- what came last in the row says of line ends what its seam says
 pub record Agrees (seen : Behind) (seam : Seam) : Type 0 where
   pub full : is_full seen ≡ is_wrapped seam
   pub ends : (offset : ℕ) → found_list (line_end seen offset) ≡ end_behind seam offset
 
--- a return that was seen stands between these offsets
+-- a return that was seen is between these offsets
 abbrev pub SeenBetween : ℕ → Behind → ℕ → Type 0
 SeenBetween from (behind.Returned at) to = (from ≤ at) × (at < to)
 SeenBetween from _ to = ⊤
@@ -51,8 +51,8 @@ IsFoundAt from true found to = found ≡ None
 IsFoundAt from false None to = ⊥
 IsFoundAt from false (Some e) to = StandsBetween from e.return_at e.line_feed × (e.line_feed + 1 ≡ to)
 
--- From this state in this row the search has played the front's tokens. Those that come behind them have their line
--- ends besides what is found.
+-- From this state in this row the search has played the front's tokens. The tokens after them have their line ends
+-- besides what is found.
 pub record HasFound (first : Search) (s : State) (from : Row) (front : Front) (goes_on : Bool) (now : Search)
     : Type 0 where
   pub row : Row

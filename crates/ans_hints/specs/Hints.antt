@@ -13,8 +13,8 @@ use Rattle.ans_hints.specs.declared.hints.Hints.{Hints}
 use Rattle.ans_pens.specs.declared.times.Times.{Times}
 
 -- The hints of bytes that are read as these tokens with these texts, in the play from the cleared start. Other bytes
--- may stand behind them: no token there counts, but what stands there tells of the tokens before it. A letter of UTF-8
--- or of Latin-1 has its own offset, one byte after the letter before it.
+-- may follow: no token there counts, but those bytes decide what the last tokens are. A letter of UTF-8 or of Latin-1
+-- has its own offset, one byte after the letter before it.
 pub record AreHints (z : Size) (non_blink : Bool) (tokens : List TokenKind) (texts : List (List ℕ)) (behind : List ℕ)
     (hints : Hints) : Type 0 where
   pub loose_line_feeds : hints.loose_line_feeds ≡ times_of (places loose_line_feed z (cleared z) 0 tokens texts behind)
@@ -35,8 +35,8 @@ abbrev pub much_dark : Hints → Option Times
 much_dark hints =
     if nat_lt (count_of hints.seen_glyphs) (10 * count_of hints.dark_glyphs) then hints.dark_glyphs else None
 
--- The rows are torn: line feeds go straight down and there is no return; or a line end stands behind every full row; or
--- the rows are those of a drawing for more columns; or characters are in three or four bytes of UTF-8.
+-- The rows are broken: line feeds go straight down and there is no return; or every full row has a line end after it;
+-- or the rows are those of a drawing for more columns; or characters are in three or four bytes of UTF-8.
 abbrev pub are_torn : Hints → Bool
 are_torn hints =
     (is_some hints.loose_line_feeds && not hints.row_ends.returns) || are_all_ended hints.row_ends

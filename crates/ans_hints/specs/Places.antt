@@ -11,12 +11,12 @@ use Rattle.ans_pens.specs.declared.times.Times.{Times}
 abbrev pub Condition : Type 0
 Condition = Size → State → TokenKind → List ℕ → Bool
 
--- the offset alone where the test holds, and else none
+-- only the offset where the test holds, and else none
 abbrev pub offset_if : Bool → ℕ → List ℕ
 offset_if test offset = if test then offset ∷ [] else []
 
--- The offsets of the tokens at which the condition holds. The tokens are played from this state, the first of them
--- stands at this offset, and other bytes may stand behind the last.
+-- The offsets of the tokens at which the condition holds. The tokens are played from this state, the first of them is
+-- at this offset, and other bytes may follow the last.
 abbrev pub places : Condition → Size → State → ℕ → List TokenKind → List (List ℕ) → List ℕ → List ℕ
 places holds z s offset [] texts behind = []
 places holds z s offset (t ∷ tokens) [] behind = []

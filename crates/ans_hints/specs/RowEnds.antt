@@ -1,5 +1,5 @@
 -- Rows as they are written, and their line ends. A line end is a line feed, or a return and then a line feed. Colours,
--- wrap, a save, a bell and an erased line may stand before it and inside it.
+-- wrap, a save, a bell and an erased line may come before it and inside it.
 use Rattle.std.specs.Prelude.{ℕ, ◌+◌, ◌-◌, ◌*◌, ◌≤◌, Bool, true, false, ◌&&◌, ◌==◌, nat_le, nat_lt, max, List, []}
 use Rattle.std.specs.Prelude.{◌∷◌, length, Option, None, Some, if◌then◌else◌}
 use Rattle.ans_model.specs.Sequence.TokenKind.{TokenKind, Glyph, Bell, LineFeed, CarriageReturn, Tab, Up, Down, Place}
@@ -27,7 +27,7 @@ first_row = record { begun = 0; wraps = 0; seam = Other }
 abbrev pub wraps : Size → State → Bool
 wraps z s = s.cursor.column + 1 == z.width && s.wrap
 
--- what stands behind it
+-- the seam after a glyph that is printed in this state
 abbrev pub seam_behind : Size → State → Seam
 seam_behind z s =
     if s.cursor.column + 1 == z.width then (if s.wrap then Wrapped else Stuck) else Other
@@ -62,7 +62,7 @@ ended_by_line_feed z s offset row = returned_or row.seam (row_up_to z s offset r
 abbrev pub row_from : Size → State → TokenKind → Seam → Row
 row_from z s t seam = record { begun = (step z s t).cursor.column; wraps = 0; seam = seam }
 
--- the row with one token more, which stands at this offset in this state
+-- the row with one token more, which is at this offset in this state
 abbrev pub row_with : Size → State → ℕ → Row → TokenKind → Row
 row_with z s offset row (Glyph byte) = record {
   begun = row.begun;
@@ -99,7 +99,7 @@ no_row_ends width = record {
   returns = false;
 }
 
--- how many are as wide as the widest, with a row more of so many columns
+-- how many are as wide as the widest, with one row more, which has this many columns
 abbrev pub as_wide_with : RowsOver → ℕ → ℕ
 as_wide_with over columns =
     if nat_lt over.widest columns then 1 else if columns == over.widest then over.as_wide + 1 else over.as_wide
@@ -114,7 +114,7 @@ over_with width over row =
       as_wide = as_wide_with over row.columns;
     }
 
--- something is printed behind what there is
+-- something is printed after what there is
 abbrev pub printed_behind : RowEnds → RowEnds
 printed_behind ends = record ends { full_before = ends.full; ended_before = count_of ends.ended }
 
@@ -133,7 +133,7 @@ with_end ends row = record ends {
   over = over_with ends.width ends.over row;
 }
 
--- with one token more, which stands at this offset in this state and in this row
+-- with one token more, which is at this offset in this state and in this row
 abbrev pub row_ends_with : Size → State → ℕ → Row → RowEnds → TokenKind → RowEnds
 row_ends_with z s offset row ends (Glyph byte) = with_glyph ends offset (wraps z s) (is_stuck row.seam)
 row_ends_with z s offset row ends Tab = printed_behind ends
@@ -153,7 +153,7 @@ abbrev pub written_with : Size → State → ℕ → Written → TokenKind → W
 written_with z s offset w t =
     record { row = row_with z s offset w.row t; ends = row_ends_with z s offset w.row w.ends t }
 
--- after tokens with these texts, which are played from this state; the first stands at this offset
+-- after tokens with these texts, which are played from this state; the first is at this offset
 abbrev pub written_after : Size → State → ℕ → Written → List TokenKind → List (List ℕ) → Written
 written_after z s offset w [] texts = w
 written_after z s offset w (t ∷ tokens) [] = w
@@ -166,7 +166,7 @@ nothing_written z = record { row = first_row; ends = no_row_ends z.width }
 
 -- ---- what they tell
 
--- a line end stands behind every full row that something is printed behind, and there are two of these
+-- every full row that something is printed after has a line end after it, and there are at least two of these
 abbrev pub are_all_ended : RowEnds → Bool
 are_all_ended ends = nat_le 2 ends.ended_before && ends.ended_before == ends.full_before
 

@@ -29,7 +29,7 @@ pub record IsReadyForBoth (survey : Survey) (offset : ℕ) : Type 0 where
   pub at : IsAt survey.walk offset
   pub few : AreFew survey.used offset
 
--- players are in sync, so many bytes that are printed next stay in their row, and none is printed over another
+-- players are in sync, this many bytes that are printed next stay in their row, and none is printed over another
 pub record StaysForBoth (survey : Survey) (count : ℕ) : Type 0 where
   pub in_sync : survey.sync ≡ InSync
   pub stays : StaysInRow survey.walk count

@@ -18,7 +18,7 @@ use Rattle.ans_hints.specs.declared.hints.Hints.{Hints}
 use Rattle.ans_hints.specs.declared.row.Seam.TheVariants.{Other}
 use Rattle.ans_hints.specs.declared.walk.Walk.{Walk}
 
--- the hints with one token more, which stands at this offset in this state, before these bytes
+-- the hints with one token more, which is at this offset in this state, before these bytes
 abbrev pub hints_with : Walk → State → ℕ → TokenKind → List ℕ → Hints
 hints_with walk s offset t rest = record {
   loose_line_feeds = counted walk.hints.loose_line_feeds (loose_line_feed walk.size s t rest) offset;
@@ -42,7 +42,7 @@ seen_at run k = is_seen (get_or run k 0)
 abbrev pub dark_at : List ℕ → ℕ → ℕ → Bool
 dark_at run attribute k = is_seen (get_or run k 0) && attribute == 0x08
 
--- the hints after a run of plain bytes that stays in its row, the first of which stands at this offset
+-- the hints after a run of plain bytes that stays in its row, the first of which is at this offset
 abbrev pub hints_past : Walk → List ℕ → ℕ → Hints
 hints_past walk run offset = record walk.hints {
   row_ends = printed_behind walk.hints.row_ends;
@@ -61,7 +61,7 @@ walk_past walk run offset = record walk {
   hints = hints_past walk run offset;
 }
 
--- so many bytes that are printed next stay in their row, and none is printed over another
+-- this many bytes that are printed next stay in their row, and none is printed over another
 pub record StaysInRow (walk : Walk) (count : ℕ) : Type 0 where
   pub loose : is_stuck walk.row.seam ≡ false
   pub stays : walk.pen.cursor.column + count < walk.size.width
@@ -79,14 +79,13 @@ pub record CountsWithin (hints : Hints) (offset : ℕ) : Type 0 where
   pub seen_glyphs : count_of hints.seen_glyphs ≤ offset
   pub dark_glyphs : count_of hints.dark_glyphs ≤ offset
 
--- the cursors stand on the screen, and no more was counted than the bytes up to this offset
+-- the cursors are on the screen, and no more was counted than the bytes up to this offset
 pub record IsAt (walk : Walk) (offset : ℕ) : Type 0 where
   pub stands : StandsOn walk.size walk.pen
   pub within : CountsWithin walk.hints offset
   pub wraps : walk.row.wraps ≤ offset
 
--- The first walk has gone over one token more, which stands at this offset before these bytes, and has become the
--- other.
+-- The first walk has gone over one token more, which is at this offset before these bytes, and has become the other.
 pub record GoesOver (old new : Walk) (offset : ℕ) (t : TokenKind) (rest : List ℕ) : Type 0 where
   pub size : new.size ≡ old.size
   pub non_blink : new.non_blink ≡ old.non_blink

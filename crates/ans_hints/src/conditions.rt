@@ -36,7 +36,7 @@ fn wide_size(first: u8) -> usize
     if first < 0xF0 { 3 } else { 4 }
 }
 
-/// Whether the first of the bytes, if there is one, stands before the shades and boxes of code page 437.
+/// Whether the first of the bytes, if there is one, is below the shades and boxes of code page 437.
 #[inline(always)]
 fn is_below_shades(bytes: &[u8]) -> bool
     ensures { result ≡ nat_lt (slice_index bytes.now 0) 0xB0 }

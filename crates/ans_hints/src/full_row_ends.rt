@@ -1,4 +1,4 @@
-//! The line ends behind full rows, one after the other.
+//! The line ends after full rows, one after the other.
 
 ghost use Rattle.std.specs.Prelude.{◌≡◌, ◌+◌, ◌≤◌, ◌<◌, ℕ, List, length, is_some, true, false};
 ghost use Rattle.ans_model.specs.Bytes.{longest_file};
@@ -20,22 +20,22 @@ use ans_model::size::Size;
 use ans_pens::pen::Pen;
 use ans_tokens::{Token, Walker, walk};
 
-/// The line end behind a full row: where its return stands, if it has one, and its line feed, as offsets
-/// in bytes from the content's start.
+/// The line end after a full row: the offsets of its return, if it has one, and of its line feed, in
+/// bytes from the content's start.
 #[derive(Debug, Clone, Copy, PartialEq, Eq)]
 pub struct FullRowEnd {
     pub return_at: Option<usize>,
     pub line_feed: usize,
 }
 
-/// What stands right behind in a row; colours, wrap, a save, a bell and an erased line may stand between.
+/// What came last in a row; colours, wrap, a save, a bell and an erased line may come between.
 #[derive(Debug, Clone, Copy, PartialEq, Eq)]
 pub(crate) enum Behind {
     /// Something else.
     Other,
     /// A glyph that has wrapped.
     Full,
-    /// A return at this offset behind a full row.
+    /// A return at this offset after a full row.
     Returned(usize),
 }
 
@@ -67,7 +67,7 @@ impl Behind {
         }
     }
 
-    /// With one token more, which stands at this offset. The pen is given as it was before the token.
+    /// With one token more, which is at this offset. The pen is given as it was before the token.
     fn with(self, size: Size, before: &Pen, offset: usize, kind: &Kind) -> Behind
         ensures agrees { (s : State) (row : Row) → before.now ≡ pen_of s → Agrees self row.seam
             → Agrees result (row_with size s offset row (shown_kind kind.now)).seam }
@@ -84,7 +84,7 @@ impl Behind {
     }
 }
 
-/// The search for the next line end, in bytes of which the first stands at an offset in the content.
+/// The search for the next line end, in bytes the first of which is at an offset in the content.
 #[derive(Clone, Copy)]
 pub(crate) struct Search {
     pub(crate) size: Size,
@@ -123,8 +123,8 @@ impl Walker for Search {
     fn take(&mut self, _run: &[u8], _offset: usize) {}
 }
 
-/// Whether a content is read as tokens, and a line end stands behind every full row of it that something
-/// is printed behind, and there are two of these.
+/// Whether a content is read as tokens, every full row of it that something is printed after has a line
+/// end after it, and there are at least two of these.
 pub fn ends_full_rows(size: Size, content: &[u8]) -> bool
     requires { length content.now ≤ longest_file }
     ensures ended { result ≡ true

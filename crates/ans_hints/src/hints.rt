@@ -22,7 +22,7 @@ pub struct Hints {
     pub row_ends: RowEnds,
     /// Characters of UTF-8 in three or four bytes.
     pub wide_characters: Option<Times>,
-    /// Letters of Latin-1 in two bytes of UTF-8, behind a letter.
+    /// Letters of Latin-1 in two bytes of UTF-8, after a letter.
     pub two_byte_letters: Option<Times>,
     /// The letters ä è é ê ñ ò ó ô ö ü of Latin-1 in one byte, between small letters.
     pub latin_letters: Option<Times>,
@@ -42,10 +42,10 @@ pub struct Hints {
 
 impl Hints {
     /// The hints of the first bytes of a content, as many as `end` says, which are read as tokens: of
-    /// all of a content, or of a refused one up to the end of the token to blame, or up to the sequence
-    /// that means nothing. What stands behind them tells of the last of them. Where these bytes are not
+    /// all of a content, or of a refused one up to the end of the offending token, or up to the sequence
+    /// that means nothing. The bytes after them decide what the last tokens are. If these bytes are not
     /// read as tokens, nothing is promised. Offsets are in bytes from the content's start. Glyphs that
-    /// blink are none where the record sets the non-blink flag. It takes no memory, and reads the bytes
+    /// blink are none if the record sets the non-blink flag. It takes no memory, and reads the bytes
     /// once.
     pub fn of(size: Size, non_blink: bool, content: &[u8], end: usize) -> Hints
         requires length { length content.now ≤ longest_file }
@@ -71,10 +71,10 @@ impl Hints {
         }
     }
 
-    /// Whether the rows are torn, so that more lines would keep a drawing that nobody meant: line feeds
-    /// go straight down and there is no return; a line end stands behind every full row that something is
-    /// printed behind, and there are two of these; the rows are those of a drawing for more columns; or
-    /// characters are in three or four bytes of UTF-8.
+    /// Whether the rows are broken, so that more lines would keep a drawing that nobody meant: line
+    /// feeds go straight down and there is no return; every full row that something is printed after has
+    /// a line end after it, and there are at least two of these; the rows are those of a drawing for
+    /// more columns; or characters are in three or four bytes of UTF-8.
     pub fn are_torn(&self) -> bool
         ensures { result ≡ are_torn self.now }
     {

@@ -1,11 +1,12 @@
 //! What is worth a look in a drawing, though it changes no verdict.
 //!
-//! [`Hints::of`] counts it along a pen. [`Overview::of`] tells hints, players and taller screens together, with
-//! fewer walks. [`ends_full_rows`] says whether all full rows end in line ends, and [`RowPlay`] finds these one
-//! by one. Nothing here takes memory. What is proved of rows is in `ans_play_laws`.
+//! [`Hints::of`] counts it along a pen. [`Overview::of`] finds hints, players and taller screens
+//! together, with fewer walks. [`ends_full_rows`] says whether all full rows end in line ends, and
+//! [`RowPlay`] finds these one by one. Nothing here takes memory. What is proved of rows is in
+//! `ans_play_laws`.
 //!
-//! What each hint is about stands in `specs/Conditions.antt`, `specs/RowEnds.antt` and `specs/Rows.antt`, and how
-//! it is counted in `specs/Places.antt`.
+//! What each hint is about is in `specs/Conditions.antt`, `specs/RowEnds.antt` and `specs/Rows.antt`,
+//! and how it is counted in `specs/Places.antt`.
 #![tactic(auto)]
 
 mod conditions;

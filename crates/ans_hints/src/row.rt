@@ -25,7 +25,7 @@ pub struct EndedRow {
     pub is_full: bool,
 }
 
-/// What stands right behind in a row; colours, wrap, a save, a bell and an erased line may stand between.
+/// What came last in a row; colours, wrap, a save, a bell and an erased line may come between.
 #[derive(Debug, Clone, Copy, PartialEq, Eq)]
 pub enum Seam {
     /// Something else.
@@ -123,8 +123,8 @@ impl Row {
         }
     }
 
-    /// One token more, which stands at this offset. The pen is given as it was before the token, and
-    /// the column to which the token took the cursor.
+    /// One token more, which is at this offset. The pen is given as it was before the token, and the
+    /// column to which the token took the cursor.
     #[inline(always)]
     pub(crate) fn step(
         &mut self,

@@ -28,9 +28,9 @@ pub struct WiderRows {
     pub columns: usize,
 }
 
-/// What the ends of a drawing's rows tell. A *line end* is a line feed, or a return and then a line feed;
-/// a row is *full* where its last glyph wraps. Colours, wrap, a save, a bell or an erased line may stand
-/// between the glyph and the line end, and between return and line feed.
+/// What the ends of a drawing's rows show. A *line end* is a line feed, or a return and then a line
+/// feed; a row is *full* where its last glyph wraps. Colours, wrap, a save, a bell or an erased line may
+/// come between the glyph and the line end, and between return and line feed.
 #[derive(Debug, Clone, Copy, PartialEq, Eq)]
 pub struct RowEnds {
     /// How many columns the screen has.
@@ -39,11 +39,11 @@ pub struct RowEnds {
     pub full: usize,
     /// How many line ends there are.
     pub line_ends: usize,
-    /// Full rows with a line end behind them, at the offset of the line end.
+    /// Full rows with a line end after them, at the offset of the line end.
     pub ended: Option<Times>,
     /// How many rows were full when something was printed last.
     pub full_before: usize,
-    /// How many of these had a line end behind them.
+    /// How many of these had a line end after them.
     pub ended_before: usize,
     pub over: RowsOver,
     /// Glyphs that are printed over the glyph before them, in the last column with wrap off.
@@ -53,7 +53,7 @@ pub struct RowEnds {
 }
 
 impl RowsOver {
-    /// One row more has ended, on a screen of so many columns.
+    /// One row more has ended, on a screen with this many columns.
     fn end(&mut self, width: usize, row: EndedRow)
         requires rows { self.old.as_wide ≤ longest_file }
         requires times { count_of self.old.times ≤ longest_file }
@@ -133,8 +133,8 @@ impl RowEnds {
         self.over.end(self.width, row);
     }
 
-    /// Whether a line end stands behind every full row that something is printed behind, and there are
-    /// two of these.
+    /// Whether every full row that something is printed after has a line end after it, and there are at
+    /// least two of these.
     pub fn are_all_ended(&self) -> bool
         ensures { result ≡ are_all_ended self.now }
     {

@@ -1,4 +1,4 @@
-//! A play that stops behind the line ends of full rows.
+//! A play that stops after the line ends of full rows.
 
 ghost use Rattle.ans_pens.specs.Pens.{StandsOn};
 
@@ -7,7 +7,7 @@ use ans_model::size::Size;
 use ans_pens::pen::Pen;
 use ans_tokens::walk;
 
-/// A play from the cleared start without its screen, which stops behind line ends.
+/// A play from the cleared start without its screen, which stops after line ends.
 #[derive(Clone, Copy)]
 pub struct RowPlay {
     pub(crate) size: Size,
@@ -38,8 +38,8 @@ impl RowPlay {
         }
     }
 
-    /// The next line end behind a full row in the bytes that stand behind those that were played; the play
-    /// has then gone on behind it. None where there is none. It reads each byte once.
+    /// The next line end after a full row in the bytes that follow those that were played; the play has
+    /// then gone past it. None if there is none. It reads each byte once.
     pub fn next_end(&mut self, bytes: &[u8]) -> Option<FullRowEnd>
         requires { self.old.played + length bytes.now ≤ longest_file }
         ensures behind { IfSome result (IsBehindEnd self.old bytes.now self.new) }

@@ -54,7 +54,7 @@ fn count_first_seen(times: &mut Option<Times>, run: &[u8], offset: usize)
     }
 }
 
-/// Counts those of the bytes that are seen, the first of which stands at this offset.
+/// Counts those of the bytes that are seen, the first of which is at this offset.
 #[inline(always)]
 pub(crate) fn count_seen(times: &mut Option<Times>, run: &[u8], offset: usize)
     requires room { offset + length run.now ≤ longest_file }

@@ -181,7 +181,7 @@ impl Walk {
         self.hints.row_ends.glyph(offset, wraps, is_over);
     }
 
-    /// A glyph of its row; most stand inside.
+    /// A glyph of its row; most are inside it.
     #[inline(always)]
     fn glyph_in_row(&mut self, offset: usize)
         requires room { offset < longest_file }
@@ -241,7 +241,7 @@ impl Walk {
         self.print_in(self.pen.cursor.row);
     }
 
-    /// Looks at a token that stands at this offset, before it is played.
+    /// Looks at a token at this offset, before it is played.
     #[inline(always)]
     fn look(&mut self, offset: usize, kind: &Kind, behind: &[u8])
         requires room { offset < longest_file }
@@ -268,8 +268,8 @@ impl Walk {
         }
     }
 
-    /// Goes over a token that stands at this offset: looks at it, and plays it. `behind` are the content's
-    /// bytes behind it.
+    /// Goes over a token at this offset: looks at it, and plays it. `behind` is the content's bytes
+    /// after it.
     #[inline(always)]
     pub(crate) fn go_over(&mut self, offset: usize, kind: &Kind, behind: &[u8])
         requires room { offset < longest_file }
@@ -284,8 +284,8 @@ impl Walk {
         self.row.step(self.size, &before, column, offset, kind);
     }
 
-    /// Goes over a sequence of colours that stands at this offset, as it goes over its token. The attribute is
-    /// given to which its numbers lead.
+    /// Goes over a sequence of colours at this offset, as it goes over its token. The attribute is given
+    /// to which its numbers lead.
     #[inline(always)]
     pub(crate) fn go_over_colours(&mut self, offset: usize, numbers: &[u8], attribute: u8)
         requires room { offset < longest_file }
@@ -299,8 +299,8 @@ impl Walk {
         self.pen.attribute = attribute;
     }
 
-    /// Goes past plain bytes, which stay in their row: looks at them, and plays them. The first stands at this
-    /// offset.
+    /// Goes past plain bytes, which stay in their row: looks at them, and plays them. The first is at
+    /// this offset.
     #[inline(always)]
     pub(crate) fn go_past(&mut self, run: &[u8], offset: usize)
         requires room { offset + length run.now ≤ longest_file }

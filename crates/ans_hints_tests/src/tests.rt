@@ -31,8 +31,8 @@ struct Played {
     content: &'static [u8],
 }
 
-/// A content, its fault, and where the two cursors stand before it: their rows and columns, counted
-/// from 0.
+/// A content, its fault, and where the two cursors are before it: their rows and columns, counted from
+/// 0.
 struct Stand {
     played: Played,
     fault: Fault,
@@ -91,8 +91,8 @@ macro_rules! left {
     };
 }
 
-/// A low start stands at the first position, with wrap off; a high start in the last column of the
-/// spare row, with wrap on.
+/// A low start is at the first position, with wrap off; a high start is in the last column of the spare
+/// row, with wrap on.
 static STANDS: [Stand; 27] = stands! {
     any 3 x 2, b"A" => 0 PrintUnknownPlace, (0, 0), (2, 2);
     any 10 x 5, b"\x1b[5C\x1b[3B\x1b[2DA" => 12 PrintUnknownPlace, (3, 3), (5, 7);
@@ -184,7 +184,7 @@ fn faulty(rt: &impl Abort, alloc: Global, played: Played) -> Result<(Size, Fault
     }
 }
 
-/// Asserts the fault of a content, and where the two cursors stand before it.
+/// Asserts the fault of a content, and where the two cursors are before it.
 fn expect_stand(rt: &impl Abort, alloc: Global, row: &Stand) -> Result<(), Fail> {
     let Stand {
         played,

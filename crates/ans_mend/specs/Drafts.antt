@@ -13,6 +13,6 @@ draft_of file room = record { file = file; room = room }
 abbrev pub memory_of : DraftView → ℕ
 memory_of draft = length draft.file + draft.room
 
--- this byte at the offset, before what stands there
+-- this byte at the offset, before what is there
 abbrev pub with_byte : ℕ → ℕ → List ℕ → List ℕ
 with_byte offset byte file = take offset file ++ byte ∷ drop offset file

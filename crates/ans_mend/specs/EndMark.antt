@@ -1,4 +1,4 @@
--- The end mark behind the content.
+-- The end mark after the content.
 use Rattle.std.specs.Prelude.{ℕ, Bool, not, ◌&&◌, List, length, if◌then◌else◌, Option, Some, None}
 use Rattle.std.specs.List.{list_any}
 use Rattle.ans_model.specs.Bytes.{end_mark}
@@ -7,11 +7,11 @@ use Rattle.ans_model.specs.File.Refusals.{has_record}
 use Rattle.ans_sauce.specs.Found.{body_in}
 use Rattle.ans_mend.specs.Drafts.{with_byte}
 
--- the file has a record, and no end mark stands before the comments that it counts
+-- the file has a record, and there is no end mark before the comments that it counts
 abbrev pub lacks_end_mark : List ℕ → Bool
 lacks_end_mark file = has_record file && not (list_any is_end_mark (body_in file))
 
--- the file with an end mark behind its content, before the comments, where it lacks one
+-- the file with an end mark after its content, before the comments, where it lacks one
 abbrev pub with_end_mark : List ℕ → List ℕ
 with_end_mark file = if lacks_end_mark file then with_byte (length (body_in file)) end_mark file else file
 

@@ -1,4 +1,4 @@
--- Line ends behind full rows, which take a row of their own where the full row has wrapped.
+-- Line ends after full rows, which take a row of their own where the full row has wrapped.
 use Rattle.std.specs.Prelude.{◌≡◌, ◌⊎◌, ℕ, true, List, fold, Option, None, unwrap_or, MatchBool}
 use Rattle.ans_model.specs.File.Refusals.{has_record}
 use Rattle.ans_model.specs.Screen.State.{Size}
@@ -13,11 +13,11 @@ use Rattle.ans_sauce.specs.Contents.{content_in, with_content}
 abbrev pub first_byte : FullRowEnd → ℕ
 first_byte e = unwrap_or e.return_at e.line_feed
 
--- so many more, by where each begins
+-- the times with these line ends, by where each begins
 abbrev pub times_with : Option Times → List FullRowEnd → Option Times
 times_with times ends = fold (λ (t : Option Times) (e : FullRowEnd). counted t true (first_byte e)) times ends
 
--- the line ends behind the full rows of a content are taken out, so often
+-- the line ends after the full rows of a content are taken out, this many times
 pub record TakesRowEnds (z : Size) (content left : List ℕ) (times : Option Times) : Type 0 where
   pub tokens : List TokenKind
   pub texts : List (List ℕ)
@@ -25,8 +25,8 @@ pub record TakesRowEnds (z : Size) (content left : List ℕ) (times : Option Tim
   pub left_is : left ≡ without_ends 0 (full_row_ends z tokens texts) content
   pub times_are : times ≡ times_with None (full_row_ends z tokens texts)
 
--- they are, where a line end stands behind every full row that something is printed behind, and there are two of these;
--- and else nothing is
+-- they are, if every full row that something is printed after has a line end after it, and there are at least two of
+-- these; and else nothing is
 abbrev pub AreRowEndsOut : Size → List ℕ → List ℕ → Option Times → Type 0
 AreRowEndsOut z content left times =
     TakesRowEnds z content left times

@@ -13,11 +13,11 @@ use Rattle.ans_sauce.specs.Contents.{content_in, with_content}
 abbrev pub is_line_end : ℕ → Bool
 is_line_end b = b == 0x0A || b == 0x0D
 
--- a return stands before the offset, and its line feed behind it
+-- a return is before the offset, and its line feed after it
 abbrev pub splits_line_end : List ℕ → ℕ → Bool
 splits_line_end bytes at = slice_index bytes (at - 1) == 0x0D && slice_index bytes at == 0x0A
 
--- So many of the first bytes stay. What goes is line feeds and returns, and no return stays whose line feed goes.
+-- This many of the first bytes stay. What goes is line feeds and returns, and no return stays if its line feed goes.
 pub record LeavesOutEnds (bytes : List ℕ) (count : ℕ) : Type 0 where
   pub within : count ≤ length bytes
   pub ends : IsTrue (list_all is_line_end (drop count bytes))
@@ -37,14 +37,14 @@ pub record LeavesMost (z : Size) (bytes : List ℕ) (count : ℕ) : Type 0 where
 abbrev pub NeverPasses : Size → List ℕ → Type 0
 NeverPasses z bytes = (count : ℕ) → LeavesOutEnds bytes count → ¬ FrontPasses z bytes count
 
--- how many line ends the bytes are: a return with its line feed behind it is one, and every other byte is one
+-- how many line ends the bytes are: a return with its line feed after it is one, and every other byte is one
 abbrev pub line_ends : List ℕ → ℕ
 line_ends [] = 0
 line_ends (b ∷ []) = 1
 line_ends (b ∷ next ∷ bytes) =
     1 + (if b == 0x0D && next == 0x0A then line_ends bytes else line_ends (next ∷ bytes))
 
--- so many, from this offset on
+-- this many, from this offset on
 abbrev pub times_at : ℕ → ℕ → Option Times
 times_at count first = if count == 0 then None else Some (record { count = count; first = first })
 

@@ -33,7 +33,7 @@ abbrev pub AreReturns : List ℕ → Option Times → Type 0
 AreReturns bytes times = MatchOption times (wants_returns bytes ≡ false)
     (λ t. (wants_returns bytes ≡ true) × (t.count ≡ line_feeds bytes) × (position is_line_feed bytes ≡ Some t.first))
 
--- the file with a return before each line feed of its content, where that wants them
+-- the file with a return before each line feed of its content, if that needs them
 abbrev pub with_line_ends : List ℕ → List ℕ
 with_line_ends file = if has_record file && wants_returns (content_in file)
     then with_content (with_returns (content_in file)) file else file

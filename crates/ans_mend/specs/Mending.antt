@@ -93,34 +93,34 @@ opened mends file =
 abbrev pub returned : Mends → List ℕ → List ℕ
 returned mends file = if mends.crlf then with_line_ends file else file
 
--- the returns that were put into it are told
+-- the returns that were put into it are reported
 abbrev pub TellsReturns : Mends → List ℕ → Option Times → Type 0
 TellsReturns mends file times = MatchBool mends.crlf (ArePut file times) (times ≡ None)
 
--- the sequences that go are taken out and told, where that is asked for
+-- the sequences that go are taken out and reported, if that is asked for
 abbrev pub AreSequencesOut : Mends → List ℕ → List ℕ → Told → Type 0
 AreSequencesOut mends file out told =
     MatchBool mends.take_out (AreTakenOut file out told) ((out ≡ file) × (told ≡ nothing_told))
 
--- the line ends behind full rows are taken out and told, where that is asked for; the number of lines does not matter
+-- the line ends after full rows are taken out and reported, if that is asked for; the number of lines does not matter
 abbrev pub AreRowsJoined : Mends → Size → List ℕ → List ℕ → Option Times → Type 0
 AreRowsJoined mends z file joined times =
     MatchBool mends.join_rows (HasFullRows (sized z.width most_lines) file joined times)
     ((joined ≡ file) × (times ≡ None))
 
--- As few line ends at the very end are taken out, and told, as must go for the content to pass from the cleared start,
--- where sequences are to be taken out.
+-- As few line ends at the very end are taken out, and reported, as must go for the content to pass from the cleared
+-- start, if sequences are to be taken out.
 abbrev pub AreLastEndsGone : Mends → Size → List ℕ → List ℕ → Option Times → Type 0
 AreLastEndsGone mends z file new times =
     MatchBool mends.take_out (HasFewerEnds z file new times) ((new ≡ file) × (times ≡ None))
 
--- the colours are named and told, where that is asked for
+-- the colours are named and reported, if that is asked for
 abbrev pub AreNamed : Mends → List ℕ → List ℕ → Option Times → Type 0
 AreNamed mends file new times =
     MatchBool mends.name_colours (HasNamedColours file new times) ((new ≡ file) × (times ≡ None))
 
--- The file with its content changed as it is asked for, on a screen of this size, and what is told of that. With its
--- returns it is not too long.
+-- The file with its content changed as it is asked for, on a screen of this size, and what is reported of that. With
+-- its returns it is not too long.
 pub record IsEdited (mends : Mends) (z : Size) (file edited : List ℕ) (edits : Edits) : Type 0 where
   pub returns : TellsReturns mends file edits.returns
   pub fits : length (returned mends file) ≤ longest_file
@@ -138,13 +138,13 @@ IsEditedAsStated mends file edited edits = IsEdited mends (stated_size (record_i
 
 -- ---- the lines, by the record and the content of what is left
 
--- the hints of the whole content on so many lines say that its rows are torn, or that they are not
+-- the hints of the whole content on this many lines say that its rows are broken, or that they are not
 abbrev pub TellsTorn : Bool → List ℕ → List ℕ → ℕ → Type 0
 TellsTorn torn sauce content lines = (hints : Hints)
     × AreHintsOf (sized (stated_width sauce) lines) (is_non_blink sauce) content [] hints × (are_torn hints ≡ torn)
 
 -- the least number of lines with which the content passes from the cleared start, up to the most, and whether its rows
--- are torn on them
+-- are broken on them
 abbrev pub HasLeast : Bool → List ℕ → List ℕ → ℕ → Type 0
 HasLeast torn sauce content lines =
     (lines ≤ most_lines) × IsLeastLines (stated_width sauce) content lines × TellsTorn torn sauce content lines
@@ -153,7 +153,7 @@ HasLeast torn sauce content lines =
 abbrev pub AsksForLeast : Mends → Type 0
 AsksForLeast mends = (mends.lines ≡ None) × IsTrue mends.least_lines
 
--- The number that is asked for: the one that is given; else the least one, if the rows are not torn.
+-- The number that is asked for: the one that is given; else the least one, if the rows are not broken.
 abbrev pub IsAskedNumber : Mends → List ℕ → List ℕ → ℕ → Type 0
 IsAskedNumber mends sauce content lines =
     (mends.lines ≡ Some lines) ⊎ (AsksForLeast mends × HasLeast false sauce content lines)
@@ -185,12 +185,12 @@ abbrev pub lined : Option ℕ → List ℕ → List ℕ
 lined None file = file
 lined (Some lines) file = with_record (with_lines lines (record_in file)) file
 
--- so many lines are taken, or none, and those that are stated stay
+-- this many lines are taken, or none, and those that are stated stay
 abbrev pub AreLinesFor : Mends → Bool → List ℕ → Option ℕ → Type 0
 AreLinesFor mends lacks file lines = MatchOption lines (KeepsLines mends lacks (record_in file) (content_in file))
     (TakesLines mends lacks (record_in file) (content_in file))
 
--- The file with its content changed, its lines settled, and with an end mark after its content, and what is told of
+-- The file with its content changed, its lines settled, and with an end mark after its content, and what is reported of
 -- that. After each step the file was not too long, and could be read.
 pub record IsSettled (asked : Mends) (based : List ℕ) (edits : Edits) (mark : Option ℕ) (settled : List ℕ)
     : Type 0 where
@@ -210,8 +210,8 @@ abbrev pub BeginsUnnamed : Mends → List ℕ → Type 0
 BeginsUnnamed mends content = IsTrue mends.name_colours × (tokens : List TokenKind) × (reads : Reads content tokens)
     × IsTrue (begins_unnamed (spelled tokens reads.0))
 
--- From some start something arises that does not from the cleared one: a fault, or a kind in which players part. Or
--- names of colours are wanted from the beginning on.
+-- From some start something arises that does not from the cleared one: a fault, or a kind of difference between
+-- players. Or names of colours are needed from the beginning on.
 abbrev pub WantsMending : Mends → Size → List ℕ → Type 0
 WantsMending mends z content = (¬ IsSameWhereCleared z content) ⊎ BeginsUnnamed mends content
 
@@ -223,9 +223,9 @@ front_bytes front = if front then mending else []
 abbrev pub end_mark_counted : List ℕ → ℕ
 end_mark_counted file = if file_size (record_in file) == length (content_in file) + 1 then 1 else 0
 
--- The bytes in front and those of the draft are a file that passes from every start, and shows what the changed content
--- shows from the cleared one. Its record is that of the file except for the lines and the FileSize, which fits. On the
--- way no file was too long, and each was read.
+-- The bytes that are put before it and those of the draft are a file that passes from every start, and shows what the
+-- changed content shows from the cleared one. Its record is that of the file except for the lines and the FileSize,
+-- which fits. On the way no file was too long, and each was read.
 pub record IsMended (mends : Mends) (file : List ℕ) (mended : Mended) (draft : List ℕ) : Type 0 where
   pub cut : List ℕ
   pub is_cut : IsTailCut file cut
@@ -258,7 +258,7 @@ pub record IsMended (mends : Mends) (file : List ℕ) (mended : Mended) (draft :
 
 -- ---- why there is none
 
--- the rows are torn on the least number; or no lines are stated, and no number does
+-- the rows are broken on the least number; or no lines are stated, and no number does
 abbrev pub IsWithoutNumber : Bool → List ℕ → List ℕ → Unmended → Type 0
 IsWithoutNumber lacks sauce content Torn = (lines : ℕ) × HasLeast true sauce content lines
 IsWithoutNumber lacks sauce content NoLines = (lacks ≡ true) × IsNeverGood (stated_width sauce) content most_lines
@@ -333,8 +333,8 @@ abbrev pub mended_bytes : Result Mended Unmended → List ℕ → List ℕ
 mended_bytes (Ok mended) draft = front_bytes mended.front ++ draft
 mended_bytes (Err reason) draft = []
 
--- What is told of a file that was to be mended: what was changed of it, and the text is the mended file; or there is no
--- text, for this reason.
+-- What is reported of a file that was to be mended: what was changed of it, and the text is the mended file; or there
+-- is no text, for this reason.
 abbrev pub TellsMended : Mends → List ℕ → Result Mended Unmended → List ℕ → Type 0
 TellsMended mends file answer text = (draft : List ℕ) × IfOk answer (λ mended. IsMended mends file mended draft)
     × IfErr answer (IsReason mends file) × (text ≡ mended_bytes answer draft)

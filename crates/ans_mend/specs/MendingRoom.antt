@@ -16,8 +16,8 @@ use Rattle.ans_mend.specs.Mending.{HasSettled, asked_for, recorded}
 abbrev pub most_returns : Mends → List ℕ → ℕ
 most_returns mends bytes = if mends.crlf then line_feeds bytes else 0
 
--- how many bytes names of colours are at most, where they are asked for, in a file of so many bytes, of which so many
--- are before its record: eight for each of these, and no more than make the file the longest
+-- how many bytes names of colours are at most, if they are asked for, in a file of `long` bytes, `front` of them before
+-- its record: eight for each of these, and no more than make the file the longest
 abbrev pub most_names : Mends → ℕ → ℕ → ℕ
 most_names mends long front = if mends.name_colours then min (longest_file - long) (8 * front) else 0
 
@@ -26,12 +26,12 @@ abbrev pub most_added : Mends → List ℕ → ℕ
 most_added mends file =
     most_returns mends (front_in file) + most_names mends (length file) (length (front_in file))
 
--- how many bytes are put into a file at most: returns, names, an end mark and a record, and an end mark behind the
+-- how many bytes are put into a file at most: returns, names, an end mark and a record, and an end mark after the
 -- content
 abbrev pub most_put : Mends → List ℕ → ℕ
 most_put mends file = most_returns mends file + most_names mends (length file) (length file + 1) + 130
 
--- the draft has no room for so many
+-- the draft has no room for that many
 abbrev pub LacksRoom : Mends → DraftView → Type 0
 LacksRoom mends draft = draft.room < most_put mends draft.file
 

@@ -60,7 +60,7 @@ abbrev pub IsEditedTooLong : Mends → Size → List ℕ → Unmended → Type 0
 IsEditedTooLong mends z file reason = (reason ≡ TooLong) × ((longest_file < length (returned mends file))
     ⊎ ((edited : List ℕ) × (edits : Edits) × IsEdited mends z file edited edits × (longest_file < length edited)))
 
--- The FileSize was set to this for a content of so many bytes, with what is wanted in front of it.
+-- The FileSize was set to this for a content of `count` bytes, with what is put before it.
 pub record IsSized (front : Bool) (count : ℕ) (counts_end_mark : Bool) (settled : List ℕ) (size : ℕ) (draft : List ℕ)
     : Type 0 where
   pub draft_is : draft ≡ with_record (with_file_size size (record_in settled)) settled

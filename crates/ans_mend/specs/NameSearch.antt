@@ -125,7 +125,7 @@ pub record HasLookedAtFirst (first : First) (front : Front) (goes_on : Bool) (no
 
 -- ---- a content
 
--- so many bytes are added by naming, so often
+-- this many bytes are added by naming, this many times
 pub record Grows (content : List ℕ) (growth : Growth) : Type 0 where
   pub tokens : List TokenKind
   pub texts : List (List ℕ)
@@ -133,7 +133,7 @@ pub record Grows (content : List ℕ) (growth : Growth) : Type 0 where
   pub long : length (named_content (spelled tokens texts)) ≡ length content + growth.bytes
   pub times : growth.times ≡ times_named 0 None (spelled tokens texts)
 
--- the bytes are read, and have so many with their colours named
+-- the bytes are read, and have this length with their colours named
 pub record HaveNamedLength (bytes : List ℕ) (count : ℕ) : Type 0 where
   pub tokens : List TokenKind
   pub texts : List (List ℕ)

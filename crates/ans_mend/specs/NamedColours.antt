@@ -31,7 +31,7 @@ takes_names (Colours parameters) = list_any is_zero parameters
 takes_names t = false
 
 -- Which colours are named where something is printed or cleared next, if these are now; both, if that does not come
--- before the names are taken away anew.
+-- before the names are taken away again.
 abbrev pub names_at_print : Names → List Spelled → Names
 names_at_print n [] = both_named
 names_at_print n (x ∷ xs) =
@@ -56,11 +56,11 @@ abbrev pub count_to_zero : List ℕ → ℕ
 count_to_zero [] = 0
 count_to_zero (n ∷ ns) = if list_any is_zero (n ∷ ns) then count_to_zero ns + 1 else 0
 
--- `;` or `m`, which stands after each number
+-- `;` or `m`, which comes after each number
 abbrev pub ends_number : ℕ → Bool
 ends_number b = b == semicolon || b == 0x6D
 
--- the bytes of a sequence up to and with so many numbers
+-- the bytes of a sequence through this many of its numbers
 abbrev pub through_numbers : ℕ → List ℕ → List ℕ
 through_numbers count [] = []
 through_numbers count (b ∷ bs) =
@@ -88,8 +88,8 @@ opening = escape ∷ bracket ∷ []
 abbrev pub longest_sequence : ℕ
 longest_sequence = 16
 
--- The numbers stand in the sequence, if that has no omitted number and is not too long then, and else apart: after it,
--- or between it and what is left of it.
+-- The numbers go into the sequence, if that has no omitted number and is not too long then; else they are a sequence of
+-- their own: after it, or between it and what is left of it.
 abbrev pub way_of : List ℕ → List ℕ → List ℕ → Way
 way_of names front rest =
     if not (omits (front ++ rest)) && nat_le (length front + 1 + length names + length rest) longest_sequence
@@ -103,7 +103,7 @@ put_by Within names = semicolon ∷ names
 put_by After names = 0x6D ∷ (opening ++ names)
 put_by Between names = 0x6D ∷ (opening ++ (names ++ (0x6D ∷ opening)))
 
--- what stands after it then: a sequence that begins anew begins with no `;`
+-- what comes after it then: a sequence that begins again begins with no `;`
 abbrev pub left_by : Way → List ℕ → List ℕ
 left_by Between rest = drop 1 rest
 left_by _ rest = rest
@@ -130,7 +130,7 @@ abbrev pub named_content : List Spelled → List ℕ
 named_content [] = []
 named_content (x ∷ xs) = named_sequence (names_behind_token x xs) x ++ named_content xs
 
--- so many sequences get names besides, by where they stand, if the first token stands at this offset
+-- the sequences that get names besides, by where they are, if the first token is at this offset
 abbrev pub times_named : ℕ → Option Times → List Spelled → Option Times
 times_named offset times [] = times
 times_named offset times (x ∷ xs) =
@@ -159,7 +159,7 @@ HasNamedColours file new times = MatchBool (has_record file)
 abbrev pub names_room : List ℕ → ℕ
 names_room file = min (longest_file - length file) (4 * (length file - 128))
 
--- with its colours named the file is longer than so many bytes
+-- with its colours named the file is longer than this many bytes
 abbrev pub IsTooLongNamed : List ℕ → ℕ → Type 0
 IsTooLongNamed file most =
     (new : List ℕ) × (times : Option Times) × HasNamedColours file new times × (most < length new)

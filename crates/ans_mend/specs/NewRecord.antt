@@ -25,17 +25,17 @@ new_record width =
 abbrev pub begins_sauce : List ℕ → Bool
 begins_sauce bytes = bytes_eq (take 7 bytes) (codes "SAUCE00")
 
--- or somewhere behind
+-- or somewhere after
 abbrev pub holds_sauce : List ℕ → Bool
 holds_sauce [] = false
 holds_sauce (b ∷ bytes) = begins_sauce (b ∷ bytes) || holds_sauce bytes
 
--- There is no record at the end, `SAUCE00` stands nowhere, and behind the content stand only end marks, zero bytes and
--- line ends.
+-- There is no record at the end, `SAUCE00` is nowhere in the file, and after the content there are only end marks, zero
+-- bytes and line ends.
 abbrev pub takes_record : List ℕ → Bool
 takes_record file = not (has_record file) && (not (holds_sauce file) && list_all is_tail_byte (after_content file))
 
--- the file with such a record behind its content and an end mark, where it takes one
+-- the file with such a record after its content and an end mark, where it takes one
 abbrev pub with_new_record : ℕ → List ℕ → List ℕ
 with_new_record width file = if takes_record file then content file ++ end_mark ∷ new_record width else file
 

@@ -20,7 +20,7 @@ pub record HasTail (file : List ℕ) (place : ℕ) : Type 0 where
   pub last : IsLastRecord file (Some place)
   pub tail : IsTrue (list_all is_tail_byte (drop (place + 128) file))
 
--- They are cut, where only such bytes stand there; and else nothing is.
+-- They are cut if only such bytes are there; and else nothing is.
 abbrev pub IsTailCut : List ℕ → List ℕ → Type 0
 IsTailCut file cut =
     ((place : ℕ) × HasTail file place × (cut ≡ take (place + 128) file))

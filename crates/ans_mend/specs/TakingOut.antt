@@ -26,7 +26,7 @@ gone_at kind place text = record { kind = kind; place = place; text = text }
 
 -- ---- what is left
 
--- Of bytes, of which the first stands at an offset behind what this tells, these sequences go, one after the other, and
+-- From bytes, the first of which is at an offset after what `before` says, these sequences go, one after the other, and
 -- this is left.
 abbrev pub TakesOut : Before → ℕ → List Gone → List ℕ → List ℕ → Type 0
 TakesOut before from [] bytes left = NothingGoes before bytes × (left ≡ bytes)
@@ -34,7 +34,7 @@ TakesOut before from (g ∷ more) bytes left = (kept rest later : List ℕ) × (
     × GoesFirst before bytes kept g.kind g.text rest after × (g.place ≡ from + length kept) × (left ≡ kept ++ later)
     × TakesOut after (g.place + length g.text) more rest later
 
--- ---- what is told of it
+-- ---- what is reported of it
 
 -- the kinds in their order
 abbrev pub index_of : Unwanted → ℕ
@@ -85,11 +85,11 @@ told_with told g = record {
 abbrev pub nothing_told : Told
 nothing_told = record { kinds = replicate 9 None; bright_backgrounds = None }
 
--- what is told of all of them: of each kind how many, where the first stands, and its first bytes
+-- what is reported of all of them: of each kind how many, where the first is, and its first bytes
 abbrev pub told_of : List Gone → Told
 told_of gone = fold told_with nothing_told gone
 
--- of no kind there are more than so many
+-- there are no more than this many of any kind
 abbrev pub CountsWithin : Told → ℕ → Type 0
 CountsWithin told most =
     (kind : Unwanted) → IfSome (slice_index_or told.kinds (index_of kind) None) (λ t. t.times.count ≤ most)

@@ -67,7 +67,7 @@ pub(crate) fn read(file: &[u8], lacks: bool) -> Result<Reading, Unmended>
 /// The verdict on a drawing that passes from the cleared start.
 #[derive(Clone, Copy)]
 pub(crate) struct Judgement {
-    // whether it needs the mending in front
+    // whether it needs the mending before the content
     pub(crate) front: bool,
     pub(crate) reading: Reading,
 }

@@ -1,12 +1,12 @@
-//! The line ends behind full rows of small contents.
+//! The line ends after full rows of small contents.
 
 use ans_hints::{FullRowEnd, RowPlay, ends_full_rows};
 use ans_model::size::Size;
 use std::process::Abort;
 
-/// A content of rows of two columns, whether a line end stands behind each full one that something is
-/// printed behind, and where those stand that are behind full rows: the return, if there is one, and the
-/// line feed.
+/// A content of rows of two columns, whether every full row that something is printed after has a line
+/// end after it, and where the line ends after full rows are: the return, if there is one, and the line
+/// feed.
 #[derive(Clone, Copy)]
 struct Rows {
     content: &'static [u8],
@@ -44,7 +44,7 @@ static ROWS: [Rows; 21] = rows! {
     b"ab\ncd\nx\x1b[" => false, [(None, 2), (None, 5)];
 };
 
-/// The next line end behind a full row of a content.
+/// The next line end after a full row of a content.
 fn next_end(rt: &impl Abort, play: &mut RowPlay, content: &[u8]) -> Option<FullRowEnd> {
     let played = play.played;
     assert!(rt;
@@ -54,7 +54,7 @@ fn next_end(rt: &impl Abort, play: &mut RowPlay, content: &[u8]) -> Option<FullR
     play.next_end(&content[played..])
 }
 
-/// Asserts the line ends behind full rows of a content.
+/// Asserts the line ends after full rows of a content.
 fn expect_ends(rt: &impl Abort, row: &Rows) {
     let Rows {
         content,

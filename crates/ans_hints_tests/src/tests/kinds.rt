@@ -1,4 +1,4 @@
-//! The kinds in which players part that small contents make use of, and from which starts these show the
+//! The kinds of difference between players that small contents use, and from which starts these show the
 //! same.
 
 ghost use Rattle.std.specs.Prelude.{◌≡◌, ◌↔◌, ◌≤◌, IfOk, false, length};

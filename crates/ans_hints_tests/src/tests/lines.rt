@@ -55,7 +55,7 @@ static NEEDED: [(&[u8], usize, Option<u16>); 34] = [
     (FULL_ROWS, 80, Some(10)),
 ];
 
-/// Whether a content passes from the cleared start with so many lines, as the player finds it.
+/// Whether a content passes from the cleared start with this many lines, as the player finds it.
 fn passes(
     rt: &impl Abort,
     alloc: Global,
