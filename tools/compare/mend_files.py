@@ -172,6 +172,19 @@ def a_tail(chance):
     return tail if chance.random() < 0.85 else tail + chance.choice(others)
 
 
+def as_text(chance, record):
+    """A record after a transfer as text: with returns before its line feeds, of which it has one or more."""
+    record = record._replace(lines=chance.choice([10, 10, 2560, record.lines]), size=chance.choice([10, record.size]))
+    file = packed(record).replace(b"\n", b"\r\n")
+    return file + chance.choice([b"", b"", b"", b"\0", b"\r\n", b"\x1a"])
+
+
+def beyond_limits(chance, record):
+    """A record of more columns or lines than may be, and a tail."""
+    columns, lines = chance.choice([(1025, 5), (65535, 5), (80, 8193), (80, 65535), (1024, 8192)])
+    return packed(record._replace(width=columns, lines=lines)) + a_tail(chance)
+
+
 def around(chance, content, width, lines):
     """The file of a content: what stands between it and its record, and behind that."""
     record = a_record(chance, width, lines, len(content) + chance.choice([0, 0, 0, 1]))
@@ -186,6 +199,10 @@ def around(chance, content, width, lines):
         return content + chance.choice([b"", b"\x1a", b"\x1a\x1a\0\r\n", b"\x1aA", b"\x1a" + packed(record)[:100]])
     if kind < 0.40:
         return a_broken_file(chance, content, record)
+    if kind < 0.43:
+        return content + marks + as_text(chance, record)
+    if kind < 0.44:
+        return content + marks + beyond_limits(chance, record)
     return content + marks + packed(record)
 
 

@@ -48,8 +48,8 @@ from pens import MOST_LINES, Pen, first_fault, least_lines, passes, tokens_of
 from second_machine import CONTROLS, REFUSED, Machine, Refused, answer, play, read_sequence
 from second_players import OF_TOKENS, spelled, walk
 from second_why import (
-    MENDING, Hints, Rows, body_of, cleared, fault_line, last_record, many, quoted, record_fault, record_of,
-    rows_printed,
+    MENDING, MOST_COLUMNS, Hints, Rows, body_of, cleared, fault_line, last_record, many, quoted, record_fault,
+    record_of, rows_printed,
 )
 
 MOST_BYTES = 16777216
@@ -125,6 +125,18 @@ def without(text, places):
 # The record.
 
 
+def came_as_text(found):
+    """A transfer has put returns before line feeds, and without them the bytes are a whole record."""
+    was = found.replace(b"\r\n", b"\n")
+    return len(was) == 128 and was != found
+
+
+def states_too_much(record):
+    """The record is of a drawing that is wider or longer than any may be."""
+    stated = record_of(record)
+    return stated.width > MOST_COLUMNS or stated.lines > MOST_LINES
+
+
 def without_tail(file, said):
     """The file, without what stands behind its last record and is none of the drawing."""
     end = file[-128:]
@@ -132,7 +144,7 @@ def without_tail(file, said):
         return file
     place = last_record(file)
     behind = file[place + 128:] if place >= 0 else b""
-    if not behind or behind.strip(TAIL):
+    if not behind or behind.strip(TAIL) or came_as_text(file[place:]) or states_too_much(file[place:place + 128]):
         return file
     said.append(("cut off", f"cut off {many(len(behind), 'byte')} after the record, at {place + 128}"))
     return file[:place + 128]

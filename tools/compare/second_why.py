@@ -308,6 +308,8 @@ class Rows:
         self.ended, self.over, self.overprints, self.returns = [], [], [], False
         # The full rows, and those with a line end, that something is printed behind.
         self.followed = 0, 0
+        # The row to which the line end of the last full row led, if nothing was printed since.
+        self.led_to = None
 
     def meet(self, offset, token, machine):
         """A token that stands here, before it is played."""
@@ -315,6 +317,10 @@ class Rows:
         if name in SILENT:
             return
         if name in ("glyph", "tab"):
+            if self.led_to is not None and machine.row < self.led_to:
+                # The cursor went up again, so the line end left no empty row.
+                self.ended.pop()
+            self.led_to = None
             self.followed = self.full, len(self.ended)
         here = offset, max(0, self.wraps * self.width + machine.column - self.begun), self.has_wrapped
         row, was_stuck = self.returned or here, self.is_stuck
@@ -329,6 +335,8 @@ class Rows:
             self.returned, self.returns = here, True
         elif name == "linefeed":
             self.end(*row)
+            if row[2]:
+                self.led_to = min(machine.row + 1, machine.lines)
 
     def end(self, offset, columns, is_full):
         self.line_ends += 1

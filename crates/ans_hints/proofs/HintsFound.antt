@@ -181,6 +181,7 @@ is_at_later walk n m h later =
           full = omega (arith, w.row_ends.full, later);
           line_ends = omega (arith, w.row_ends.line_ends, later);
           ended = omega (arith, w.row_ends.ended, later);
+          ended_before = omega (arith, w.row_ends.ended_before, later);
           over = omega (arith, w.row_ends.over, later);
           as_wide = omega (arith, w.row_ends.as_wide, later);
           overprints = omega (arith, w.row_ends.overprints, later);

@@ -1,7 +1,7 @@
 -- The hints of a run of plain bytes.
 use Rattle.std.proofs.Common.{◌≡◌, ℕ, zero, suc, ◌+◌, ◌-◌, ◌<◌, Bool, true, false, not, List, [], ◌∷◌, length}
 use Rattle.std.proofs.Common.{refl, sym, ap, ap₂, ◌∙◌, subst, arith, Option, get_or}
-use Rattle.std.specs.Prelude.{◌&&◌, ◌==◌, min, nat_le}
+use Rattle.std.specs.Prelude.{◌&&◌, ◌==◌, if◌then◌else◌, min, nat_le}
 use Rattle.std.proofs.lemmas.Bool.{ne_eqb}
 use Rattle.ans_model.specs.Bytes.{IsByte}
 use Rattle.ans_model.specs.Sequence.TokenKind.{Glyph}
@@ -11,7 +11,7 @@ use Rattle.ans_tokens.proofs.Runs.{IsByteNext, KeptByBytes, kept_past}
 use Rattle.ans_hints.specs.Conditions.{is_seen}
 use Rattle.ans_pens.specs.Counted.{counted, counted_along, counted_times}
 use Rattle.ans_pens.specs.Pens.{further, pen_of}
-use Rattle.ans_hints.specs.RowEnds.{is_stuck, printed_behind, row_with, with_glyph, wraps}
+use Rattle.ans_hints.specs.RowEnds.{is_stuck, printed_in, row_with, with_glyph, wraps}
 use Rattle.ans_hints.specs.Walks.{HasWalked, StaysInRow, dark_at, hints_with, seen_at, walk_past}
 use Rattle.ans_hints.specs.declared.hints.Hints.{Hints}
 use Rattle.ans_pens.specs.declared.pen.Pen.{Pen}
@@ -26,12 +26,22 @@ use Rattle.ans_pens.proofs.PenSteps.{byte_further, further_zero}
 use Rattle.ans_hints.proofs.PlainConditions.{no_board_code, no_latin_letter, no_two_byte_letter, no_wide_character}
 
 -- a glyph that neither wraps nor is printed over another
-inside_row : (ends : RowEnds) (offset : ℕ) (wraps stuck : Bool) → wraps ≡ false → stuck ≡ false
-    → with_glyph ends offset wraps stuck ≡ printed_behind ends
-inside_row ends offset wraps stuck no_wrap no_stuck =
+inside_row : (ends : RowEnds) (row offset : ℕ) (wraps stuck : Bool) → wraps ≡ false → stuck ≡ false
+    → with_glyph ends row offset wraps stuck ≡ printed_in row ends
+inside_row ends row offset wraps stuck no_wrap no_stuck =
     let same : ends.full + 0 ≡ ends.full = omega arith in
-    ap₂ (λ (b d : Bool). with_glyph ends offset b d) no_wrap no_stuck
-    ∙ ap (λ (n : ℕ). record (printed_behind ends) { full = n }) same
+    ap₂ (λ (b d : Bool). with_glyph ends row offset b d) no_wrap no_stuck
+    ∙ ap (λ (n : ℕ). record (printed_in row ends) { full = n }) same
+
+either : (test : Bool) (times : Option Times) → (if test then times else times) ≡ times
+either true times = refl
+either false times = refl
+
+-- what is printed next in the same row changes nothing
+printed_twice : (row : ℕ) (ends : RowEnds) → printed_in row (printed_in row ends) ≡ printed_in row ends
+printed_twice row ends =
+    ap (λ (times : Option Times). record ends { full_before = ends.full; ended = times; ended_before = times })
+    (either (nat_le ends.led_to row) (if nat_le ends.led_to row then ends.ended else ends.ended_before))
 
 min_twice : (a b : ℕ) → min (min a b) b ≡ min a b
 min_twice a b = omega arith
@@ -76,7 +86,7 @@ module _ (first old : Walk) (front : Front) (run behind : List ℕ) (offset : �
 
   abbrev ends_at : ℕ → RowEnds
   ends_at zero = old.hints.row_ends
-  ends_at (suc k) = printed_behind old.hints.row_ends
+  ends_at (suc k) = printed_in old.pen.cursor.row old.hints.row_ends
 
   abbrev empty_at : ℕ → ℕ
   empty_at zero = old.hints.empty_rows
@@ -114,13 +124,18 @@ module _ (first old : Walk) (front : Front) (run behind : List ℕ) (offset : �
         go zero = rw inside (ap (λ (n : ℕ). record old.row { wraps = n; seam = Other }) same_wraps)
         go (suc k) = rw inside (ap (λ (n : ℕ). record old.row { wraps = n; seam = Other }) same_wraps)
 
-    ends_is : ends_at (suc k) ≡ with_glyph (ends_at k) (offset + k) (wraps old.size s) (is_stuck (row_at k).seam)
-    ends_is = go k
+    ends_is : ends_at (suc k)
+        ≡ with_glyph (ends_at k) s.cursor.row (offset + k) (wraps old.size s) (is_stuck (row_at k).seam)
+    ends_is =
+        go k ∙ ap (λ (p : Pen). with_glyph (ends_at k) p.cursor.row (offset + k) (wraps old.size s)
+        (is_stuck (row_at k).seam)) here
       where
-        go : (k : ℕ)
-            → ends_at (suc k) ≡ with_glyph (ends_at k) (offset + k) (wraps old.size s) (is_stuck (row_at k).seam)
-        go zero = sym (inside_row old.hints.row_ends (offset + 0) _ _ no_wrap stays.loose)
-        go (suc k) = sym (inside_row (printed_behind old.hints.row_ends) (offset + suc k) _ _ no_wrap refl)
+        go : (k : ℕ) → ends_at (suc k)
+            ≡ with_glyph (ends_at k) old.pen.cursor.row (offset + k) (wraps old.size s) (is_stuck (row_at k).seam)
+        go zero = sym (inside_row old.hints.row_ends old.pen.cursor.row (offset + 0) _ _ no_wrap stays.loose)
+        go (suc k) =
+            sym (inside_row (printed_in old.pen.cursor.row old.hints.row_ends) old.pen.cursor.row (offset + suc k) _ _
+            no_wrap refl ∙ printed_twice old.pen.cursor.row old.hints.row_ends)
 
     empty_is : empty_at (suc k) ≡ min (empty_at k) (old.size.lines - (s.cursor.row + 1))
     empty_is = go k ∙ ap (λ (p : Pen). min (empty_at k) (old.size.lines - (p.cursor.row + 1))) here

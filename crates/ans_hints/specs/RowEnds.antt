@@ -92,7 +92,8 @@ no_row_ends width = record {
   full = 0;
   ended = None;
   full_before = 0;
-  ended_before = 0;
+  ended_before = None;
+  led_to = 0;
   line_ends = 0;
   over = record { times = None; widest = 0; as_wide = 0 };
   overprints = None;
@@ -114,30 +115,36 @@ over_with width over row =
       as_wide = as_wide_with over row.columns;
     }
 
--- something is printed after what there is
-abbrev pub printed_behind : RowEnds → RowEnds
-printed_behind ends = record ends { full_before = ends.full; ended_before = count_of ends.ended }
+-- Something is printed in this row. A full row and its line end count only if it is in the row to which the line end
+-- led, or below.
+abbrev pub printed_in : ℕ → RowEnds → RowEnds
+printed_in row ends =
+    let ended : Option Times = if nat_le ends.led_to row then ends.ended else ends.ended_before in
+    record ends { full_before = ends.full; ended = ended; ended_before = ended }
 
--- a glyph is printed at this offset; it wraps or not, and is printed over the one before it or not
-abbrev pub with_glyph : RowEnds → ℕ → Bool → Bool → RowEnds
-with_glyph ends offset wraps is_over = record (printed_behind ends) {
+-- a glyph is printed in this row at this offset; it wraps or not, and is printed over the one before it or not
+abbrev pub with_glyph : RowEnds → ℕ → ℕ → Bool → Bool → RowEnds
+with_glyph ends row offset wraps is_over = record (printed_in row ends) {
   full = ends.full + (if wraps then 1 else 0);
   overprints = counted ends.overprints is_over offset;
 }
 
--- a row ends with a line end
-abbrev pub with_end : RowEnds → EndedRow → RowEnds
-with_end ends row = record ends {
+-- a row ends with a line end, which leads to this row of the screen
+abbrev pub with_end : RowEnds → ℕ → EndedRow → RowEnds
+with_end ends below row = record ends {
   line_ends = ends.line_ends + 1;
   ended = counted ends.ended row.is_full row.offset;
+  led_to = if row.is_full then below else ends.led_to;
   over = over_with ends.width ends.over row;
 }
 
 -- with one token more, which is at this offset in this state and in this row
 abbrev pub row_ends_with : Size → State → ℕ → Row → RowEnds → TokenKind → RowEnds
-row_ends_with z s offset row ends (Glyph byte) = with_glyph ends offset (wraps z s) (is_stuck row.seam)
-row_ends_with z s offset row ends Tab = printed_behind ends
-row_ends_with z s offset row ends LineFeed = with_end ends (ended_by_line_feed z s offset row)
+row_ends_with z s offset row ends (Glyph byte) =
+    with_glyph ends s.cursor.row offset (wraps z s) (is_stuck row.seam)
+row_ends_with z s offset row ends Tab = printed_in s.cursor.row ends
+row_ends_with z s offset row ends LineFeed =
+    with_end ends (step z s LineFeed).cursor.row (ended_by_line_feed z s offset row)
 row_ends_with z s offset row ends CarriageReturn = record ends { returns = true }
 row_ends_with z s offset row ends _ = ends
 
@@ -166,9 +173,10 @@ nothing_written z = record { row = first_row; ends = no_row_ends z.width }
 
 -- ---- what they tell
 
--- every full row that something is printed after has a line end after it, and there are at least two of these
+-- every full row that something is printed after has a line end after it that counts, and there are at least two of
+-- these
 abbrev pub are_all_ended : RowEnds → Bool
-are_all_ended ends = nat_le 2 ends.ended_before && ends.ended_before == ends.full_before
+are_all_ended ends = nat_le 2 (count_of ends.ended_before) && count_of ends.ended_before == ends.full_before
 
 -- Three rows run over the edge and then end, none of them twice; they are at least half of all that end, and at least
 -- half of them are as wide as the widest.
@@ -191,6 +199,7 @@ pub record CountsRows (ends : RowEnds) (offset : ℕ) : Type 0 where
   pub full : ends.full ≤ offset
   pub line_ends : ends.line_ends ≤ offset
   pub ended : count_of ends.ended ≤ offset
+  pub ended_before : count_of ends.ended_before ≤ offset
   pub over : count_of ends.over.times ≤ offset
   pub as_wide : ends.over.as_wide ≤ offset
   pub overprints : count_of ends.overprints ≤ offset

@@ -9,7 +9,7 @@ use Rattle.ans_pens.specs.Pens.{further, pen_of, StandsOn}
 use Rattle.ans_tokens.specs.Walk.{Front}
 use Rattle.ans_hints.specs.Conditions.{loose_line_feed, wide_character, two_byte_letter, latin_letter, board_code}
 use Rattle.ans_hints.specs.Conditions.{later_colours, blinking_glyph, dark_glyph, is_seen, seen_glyph}
-use Rattle.ans_hints.specs.RowEnds.{CountsRows, is_stuck, nothing_written, printed_behind, row_ends_with, row_with}
+use Rattle.ans_hints.specs.RowEnds.{CountsRows, is_stuck, nothing_written, printed_in, row_ends_with, row_with}
 use Rattle.ans_hints.specs.RowEnds.{written_after}
 use Rattle.ans_pens.specs.Counted.{count_of, counted, counted_along, counted_times}
 use Rattle.ans_hints.specs.Hints.{AreHints}
@@ -45,7 +45,7 @@ dark_at run attribute k = is_seen (get_or run k 0) && attribute == 0x08
 -- the hints after a run of plain bytes that stays in its row, the first of which is at this offset
 abbrev pub hints_past : Walk → List ℕ → ℕ → Hints
 hints_past walk run offset = record walk.hints {
-  row_ends = printed_behind walk.hints.row_ends;
+  row_ends = printed_in walk.pen.cursor.row walk.hints.row_ends;
   blinking_glyphs = counted_times walk.hints.blinking_glyphs
       (not walk.non_blink && nat_le 0x80 walk.pen.attribute) (length run) offset;
   seen_glyphs = counted_along walk.hints.seen_glyphs (seen_at run) offset (length run);

@@ -4,10 +4,10 @@ ghost use Rattle.std.specs.Prelude.{◌≡◌, ◌+◌, ◌≤◌, ◌<◌};
 ghost use Rattle.ans_model.specs.Bytes.{longest_file};
 ghost use Rattle.ans_pens.specs.Counted.{count_of};
 ghost use Rattle.ans_hints.specs.RowEnds.{CountsRows, no_row_ends, over_with, wider_rows};
-ghost use Rattle.ans_hints.specs.RowEnds.{are_all_ended, printed_behind, with_end, with_glyph};
+ghost use Rattle.ans_hints.specs.RowEnds.{are_all_ended, printed_in, with_end, with_glyph};
 
 use crate::row::EndedRow;
-use ans_pens::times::{Times, count};
+use ans_pens::times::{Times, count, count_of};
 
 /// Rows with a line end that take more columns than the screen has.
 #[derive(Debug, Clone, Copy, PartialEq, Eq)]
@@ -39,12 +39,15 @@ pub struct RowEnds {
     pub full: usize,
     /// How many line ends there are.
     pub line_ends: usize,
-    /// Full rows with a line end after them, at the offset of the line end.
+    /// Full rows with a line end after them, at the offset of the line end: unless what is printed next is
+    /// above the row to which it led.
     pub ended: Option<Times>,
     /// How many rows were full when something was printed last.
     pub full_before: usize,
-    /// How many of these had a line end after them.
-    pub ended_before: usize,
+    /// Those of them that had a line end after them.
+    pub ended_before: Option<Times>,
+    /// The row of the screen to which the last line end after a full row led, counted from 0.
+    pub led_to: usize,
     pub over: RowsOver,
     /// Glyphs that are printed over the glyph before them, in the last column with wrap off.
     pub overprints: Option<Times>,
@@ -85,7 +88,8 @@ impl RowEnds {
             line_ends: 0,
             ended: None,
             full_before: 0,
-            ended_before: 0,
+            ended_before: None,
+            led_to: 0,
             over: RowsOver {
                 times: None,
                 widest: 0,
@@ -96,49 +100,54 @@ impl RowEnds {
         }
     }
 
-    /// Something is printed.
+    /// Something is printed in this row of the screen. A line end after a full row counts only if that is
+    /// not above the row to which it led: a move up takes it back.
     #[inline(always)]
-    pub(crate) fn print(&mut self)
-        ensures { self.new ≡ printed_behind self.old }
+    pub(crate) fn print_in(&mut self, row: usize)
+        ensures { self.new ≡ printed_in row self.old }
     {
+        if row < self.led_to {
+            self.ended = self.ended_before;
+        }
         self.full_before = self.full;
-        self.ended_before = match self.ended {
-            Some(times) => times.count,
-            None => 0,
-        };
+        self.ended_before = self.ended;
     }
 
-    /// A glyph is printed at this offset: it wraps or not, and it is printed over the one before it or not.
+    /// A glyph is printed in this row at this offset: it wraps or not, and it is printed over the one before
+    /// it or not.
     #[inline(always)]
-    pub(crate) fn glyph(&mut self, offset: usize, wraps: bool, is_over: bool)
+    pub(crate) fn glyph(&mut self, row: usize, offset: usize, wraps: bool, is_over: bool)
         requires within { CountsRows self.old offset }
         requires room { offset < longest_file }
-        ensures rows { self.new ≡ with_glyph self.old offset wraps is_over }
+        ensures rows { self.new ≡ with_glyph self.old row offset wraps is_over }
         ensures within { CountsRows self.new (offset + 1) }
     {
-        self.print();
+        self.print_in(row);
         self.full += usize::from(wraps);
         count(&mut self.overprints, is_over, offset);
     }
 
-    /// A row ends with a line end.
-    pub(crate) fn end(&mut self, offset: usize, row: EndedRow)
+    /// A row ends with a line end, which leads to this row of the screen.
+    pub(crate) fn end(&mut self, offset: usize, below: usize, row: EndedRow)
         requires within { CountsRows self.old offset }
         requires room { offset < longest_file }
-        ensures rows { self.new ≡ with_end self.old row }
+        ensures rows { self.new ≡ with_end self.old below row }
         ensures within { CountsRows self.new (offset + 1) }
     {
         self.line_ends += 1;
         count(&mut self.ended, row.is_full, row.offset);
+        if row.is_full {
+            self.led_to = below;
+        }
         self.over.end(self.width, row);
     }
 
-    /// Whether every full row that something is printed after has a line end after it, and there are at
-    /// least two of these.
+    /// Whether every full row that something is printed after has a line end after it that counts, and
+    /// there are at least two of these.
     pub fn are_all_ended(&self) -> bool
         ensures { result ≡ are_all_ended self.now }
     {
-        self.ended_before >= 2 && self.ended_before == self.full_before
+        count_of(self.ended_before) >= 2 && count_of(self.ended_before) == self.full_before
     }
 
     /// The rows of a drawing that was made for more columns: three rows run over the edge and then end,

@@ -82,7 +82,8 @@ impl Walk {
         let comes = self.pen.cursor.column != 0 && !behind.starts_with(b"\r");
         count(&mut self.hints.loose_line_feeds, comes, offset);
         let row = self.row.ended(self.size, &self.pen, offset);
-        self.hints.row_ends.end(offset, row);
+        let below = (self.pen.cursor.row + 1).min(self.size.lines());
+        self.hints.row_ends.end(offset, below, row);
     }
 
     /// Something is printed in a row.
@@ -171,14 +172,16 @@ impl Walk {
         ensures within { CountsRows self.new.hints.row_ends (offset + 1) }
         ensures hints { self.new ≡ record self.old {
           hints = record self.old.hints {
-            row_ends = with_glyph self.old.hints.row_ends offset
+            row_ends = with_glyph self.old.hints.row_ends self.old.pen.cursor.row offset
                 (glyph_wraps self.old.size self.old.pen) (is_stuck self.old.row.seam);
           };
         } }
     {
         let wraps = self.pen.glyph_wraps(self.size);
         let is_over = self.row.is_stuck();
-        self.hints.row_ends.glyph(offset, wraps, is_over);
+        self.hints
+            .row_ends
+            .glyph(self.pen.cursor.row, offset, wraps, is_over);
     }
 
     /// A glyph of its row; most are inside it.
@@ -189,7 +192,7 @@ impl Walk {
         ensures within { CountsRows self.new.hints.row_ends (offset + 1) }
         ensures hints { self.new ≡ record self.old {
           hints = record self.old.hints {
-            row_ends = with_glyph self.old.hints.row_ends offset
+            row_ends = with_glyph self.old.hints.row_ends self.old.pen.cursor.row offset
                 (glyph_wraps self.old.size self.old.pen) (is_stuck self.old.row.seam);
           };
         } }
@@ -197,7 +200,7 @@ impl Walk {
         if self.is_at_edge() {
             self.glyph_at_edge(offset);
         } else {
-            self.hints.row_ends.print();
+            self.hints.row_ends.print_in(self.pen.cursor.row);
         }
     }
 
@@ -237,7 +240,7 @@ impl Walk {
         count_times(&mut self.hints.blinking_glyphs, blinks, count, offset);
         count_seen(&mut self.hints.seen_glyphs, run, offset);
         count_dark(&mut self.hints.dark_glyphs, self.pen.attribute, run, offset);
-        self.hints.row_ends.print();
+        self.hints.row_ends.print_in(self.pen.cursor.row);
         self.print_in(self.pen.cursor.row);
     }
 
@@ -256,7 +259,7 @@ impl Walk {
             Kind::LineFeed => self.line_feed(offset, behind),
             Kind::CarriageReturn => self.hints.row_ends.returns = true,
             Kind::Tab => {
-                self.hints.row_ends.print();
+                self.hints.row_ends.print_in(self.pen.cursor.row);
                 let pen = self.pen;
                 self.print_in(pen.row_of_tab(self.size));
             }

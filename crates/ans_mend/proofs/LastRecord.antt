@@ -1,10 +1,8 @@
--- Where the last record stands.
-use Rattle.std.proofs.Common.{◌≡◌, inl, inr, ℕ, ◌+◌, List, Some, None, arith, refl, false, drop}
-use Rattle.std.proofs.Common.{true≢false, sym, ◌∙◌}
-use Rattle.std.specs.List.{list_all}
+-- Where the last record is, and its tail.
+use Rattle.std.proofs.Common.{◌≡◌, inl, inr, ℕ, List, Some, None, arith, false, drop, sym, ◌∙◌, true≢false}
 use Rattle.std.proofs.lemmas.Bool.{cases_lt}
 use Rattle.ans_sauce.specs.Found.{IsLastRecord}
-use Rattle.ans_mend.specs.Tail.{HasTail, IsTailCut, is_tail_byte}
+use Rattle.ans_mend.specs.Tail.{HasTail, ends_in_tail}
 
 -- there is only one last place
 one_place : (file : List ℕ) (p q : ℕ) → IsLastRecord file (Some p) → IsLastRecord file (Some q) → p ≡ q
@@ -16,19 +14,13 @@ one_place file p q hp hq = elim (cases_lt p q) [
   ]
 ]
 
--- where another byte stands behind the last record, nothing is cut
-pub not_cut : (file : List ℕ) (place : ℕ) → IsLastRecord file (Some place)
-    → list_all is_tail_byte (drop (place + 128) file) ≡ false → IsTailCut file file
-not_cut file place last other = inr (none, refl)
-  where
-    none : (p : ℕ) → ¬ HasTail file p
-    none p tail =
-        let same : p ≡ place = one_place file p place tail.last last in
-        true≢false (sym (rw same at tail.tail) ∙ other)
+-- a file that does not end in a tail from its last record on has none
+pub no_tail : (file : List ℕ) (place : ℕ) → IsLastRecord file (Some place) → ends_in_tail (drop place file) ≡ false
+    → (p : ℕ) → ¬ HasTail file p
+no_tail file place last other p tail =
+    let same : p ≡ place = one_place file p place tail.last last in
+    true≢false (sym (rw same at tail.tail) ∙ other)
 
--- where there is no record, nothing is cut
-pub none_cut : (file : List ℕ) → IsLastRecord file None → IsTailCut file file
-none_cut file no_record = inr (none, refl)
-  where
-    none : (p : ℕ) → ¬ HasTail file p
-    none p tail = no_record p (omega arith) tail.last.0.high tail.last.1
+-- nor has a file without a record
+pub nothing_last : (file : List ℕ) → IsLastRecord file None → (p : ℕ) → ¬ HasTail file p
+nothing_last file no_record p tail = no_record p (omega arith) tail.last.0.high tail.last.1

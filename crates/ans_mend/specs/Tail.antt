@@ -1,8 +1,10 @@
 -- What follows a record and is none of the drawing.
-use Rattle.std.specs.Prelude.{◌≡◌, ◌⊎◌, ℕ, ◌+◌, IsTrue, Bool, false, ◌&&◌, ◌||◌, ◌==◌, List, take, drop, Some}
+use Rattle.std.specs.Prelude.{◌≡◌, ◌⊎◌, ℕ, ◌+◌, IsTrue, Bool, false, ◌&&◌, ◌||◌, ◌==◌, nat_lt, List, [], ◌∷◌, length}
+use Rattle.std.specs.Prelude.{take, drop, not, Some, slice_index, if◌then◌else◌}
 use Rattle.std.specs.List.{list_all}
+use Rattle.ans_model.specs.Bytes.{most_columns, most_lines}
 use Rattle.ans_model.specs.File.Layout.{is_end_mark}
-use Rattle.ans_model.specs.File.Record.{data_type, file_type}
+use Rattle.ans_model.specs.File.Record.{data_type, file_type, tinfo}
 use Rattle.ans_model.specs.File.Refusals.{has_record}
 use Rattle.ans_sauce.specs.Found.{IsLastRecord, record_in}
 
@@ -14,13 +16,32 @@ is_tail_byte b = b == 0x00 || b == 0x0A || b == 0x0D || is_end_mark b
 abbrev pub ends_in_ansi : List ℕ → Bool
 ends_in_ansi file = has_record file && (data_type (record_in file) == 1 && file_type (record_in file) == 1)
 
--- The file ends in no such record, and only such bytes follow the last record of version 00 that counts, which is here.
+-- how many line feeds of the bytes follow a return
+abbrev pub pairs : List ℕ → ℕ
+pairs [] = 0
+pairs (b ∷ bytes) = (if b == 0x0D && slice_index bytes 0 == 0x0A then 1 else 0) + pairs bytes
+
+-- A transfer as text puts a return before each line feed of a record, which is then longer by its pairs.
+abbrev pub is_grown_record : List ℕ → Bool
+is_grown_record bytes = nat_lt 0 (pairs bytes) && length bytes == 128 + pairs bytes
+
+-- a record states more columns or lines than the profile allows
+abbrev pub is_beyond_limits : List ℕ → Bool
+is_beyond_limits record_bytes = nat_lt most_columns (tinfo 1 record_bytes) || nat_lt most_lines (tinfo 2 record_bytes)
+
+-- The bytes are a record and a tail: only such bytes follow the first 128, which are a record within the limits, and
+-- all together are no grown record.
+abbrev pub ends_in_tail : List ℕ → Bool
+ends_in_tail bytes =
+    list_all is_tail_byte (drop 128 bytes) && not (is_grown_record bytes) && not (is_beyond_limits (take 128 bytes))
+
+-- The file ends in no such record, and from the last record of version 00 that counts, which is here, it ends in a tail.
 pub record HasTail (file : List ℕ) (place : ℕ) : Type 0 where
   pub other_end : ends_in_ansi file ≡ false
   pub last : IsLastRecord file (Some place)
-  pub tail : IsTrue (list_all is_tail_byte (drop (place + 128) file))
+  pub tail : IsTrue (ends_in_tail (drop place file))
 
--- They are cut if only such bytes are there; and else nothing is.
+-- The tail is cut; and if there is none, nothing is.
 abbrev pub IsTailCut : List ℕ → List ℕ → Type 0
 IsTailCut file cut =
     ((place : ℕ) × HasTail file place × (cut ≡ take (place + 128) file))

@@ -1,5 +1,5 @@
 -- Laws of full rows: by which tokens a line end comes after one, and up to which token they are counted.
-use Rattle.std.specs.Prelude.{◌≡◌, ◌⊎◌, ◌↔◌, ℕ, List, ◌∷◌, ◌++◌, length, take, IsTrue}
+use Rattle.std.specs.Prelude.{◌≡◌, ◌⊎◌, ◌↔◌, ℕ, List, ◌∷◌, ◌++◌, length, take, nat_le, if◌then◌else◌, IsTrue}
 use Rattle.std.specs.List.{AllByRecursion}
 use Rattle.ans_model.specs.Sequence.TokenKind.{TokenKind, Glyph, Bell, CarriageReturn, Tab, EraseLine, Save}
 use Rattle.ans_model.specs.Sequence.TokenKind.{Colours, Wrap}
@@ -7,7 +7,6 @@ use Rattle.ans_model.specs.Screen.State.{Size, State}
 use Rattle.ans_model.specs.Screen.Step.{final}
 use Rattle.ans_model.specs.Screen.StartClass.{cleared}
 use Rattle.ans_hints.specs.declared.row_ends.RowEnds.{RowEnds}
-use Rattle.ans_pens.specs.Counted.{count_of}
 use Rattle.ans_hints.specs.RowEnds.{ended_by_line_feed, wraps, written_by}
 
 -- the tokens that may come before a line end and inside it
@@ -58,13 +57,15 @@ pub record PrintsLast (tokens front : List TokenKind) : Type 0 where
   pub prints : Prints token
   pub none_later : AllByRecursion (λ t. ¬ Prints t) later
 
--- what is counted as before something printed is all that had been counted by then
-pub record CountsBefore (ends before : RowEnds) : Type 0 where
+-- What is counted as before something printed in this row is all that had been counted by then, without the last line end
+-- if that leads below the row.
+pub record CountsBefore (ends before : RowEnds) (row : ℕ) : Type 0 where
   pub full : ends.full_before ≡ before.full
-  pub ended : ends.ended_before ≡ count_of before.ended
+  pub ended : ends.ended_before ≡ (if nat_le before.led_to row then before.ended else before.ended_before)
 
--- It is what had been counted before the last token that prints.
+-- It is what had been counted before the last token that prints, in the row of that.
 abbrev pub CountsBeforeLastPrint : Type 0
 CountsBeforeLastPrint = (z : Size) (tokens front : List TokenKind) (texts : List (List ℕ))
     → length texts ≡ length tokens → PrintsLast tokens front
     → CountsBefore (written_by z tokens texts).ends (written_by z front (take (length front) texts)).ends
+    (final z (cleared z) front).cursor.row

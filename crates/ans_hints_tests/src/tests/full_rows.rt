@@ -20,7 +20,7 @@ macro_rules! rows {
     };
 }
 
-static ROWS: [Rows; 21] = rows! {
+static ROWS: [Rows; 28] = rows! {
     b"" => false, [];
     b"a\r\nb\r\nc\r\nx" => false, [];
     b"abcdef" => false, [];
@@ -42,6 +42,13 @@ static ROWS: [Rows; 21] = rows! {
     b"\x1b[?7lab\r\ncd\r\nx" => false, [];
     b"\x1b[?7lab\r\ncd\r\n\x1b[?7hef\ngh\r\nx" => true, [(None, 20), (Some(23), 24)];
     b"ab\ncd\nx\x1b[" => false, [(None, 2), (None, 5)];
+    b"ab\r\n\x1b[Acd\r\n\x1b[Aef" => false, [(Some(2), 3), (Some(9), 10)];
+    b"ab\x1b[s\r\n\x1b[ucd\x1b[s\r\n\x1b[ux" => false, [(Some(5), 6), (Some(15), 16)];
+    b"ab\ncd\n\x1b[3;1Hx" => false, [(None, 2), (None, 5)];
+    b"ab\ncd\n\x1b[A\t" => false, [(None, 2), (None, 5)];
+    b"ab\ncd\n\x1b[A\x1b[Bx" => true, [(None, 2), (None, 5)];
+    b"ab\ncd\nx\x1b[H\x1b[Ay" => true, [(None, 2), (None, 5)];
+    b"ab\ncd\nef\ngh\nij\nx" => true, [(None, 2), (None, 5), (None, 8), (None, 11), (None, 14)];
 };
 
 /// The next line end after a full row of a content.
