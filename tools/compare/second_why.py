@@ -125,6 +125,7 @@ BOARD_FILES = {
 # Tokens that may stand between a glyph and its line end, and tokens that move within a row.
 SILENT = {"bell", "save", "colours", "wrap", "erase"}
 IN_A_ROW = {"backspace", "tab", "C", "D"}
+PRINTING, SETS_COLUMN = {"glyph", "tab"}, {"return", "place", "restore"}
 RECORD_FAULTS = {
     1: "no SAUCE record", 2: "SAUCE version is not 00", 3: "not Character/ANSi", 4: "comment block missing",
     5: "number of lines not stated", 6: "width above 1024", 7: "lines above 8192", 8: "bytes after the end mark",
@@ -393,6 +394,16 @@ def hints_of_token(token, machine, content, offset, end):
     return {what: place for what, (is_there, place) in found.items() if is_there}
 
 
+def columns_set(tokens):
+    """For each token, whether a return, a place or a saved place comes after it before anything is printed."""
+    answers, is_set = [], False
+    for _, token in reversed(tokens):
+        answers.append(is_set)
+        if token[0] in PRINTING | SETS_COLUMN:
+            is_set = token[0] in SETS_COLUMN
+    return reversed(answers)
+
+
 def rows_printed(token, machine):
     """Plays the token, and answers in which rows it prints."""
     if token[0] not in ("glyph", "tab"):
@@ -413,9 +424,10 @@ class Hints:
         self.offsets = collections.defaultdict(list)
         tokens = read(content[:last])[0]
         ends = [offset for offset, _ in tokens[1:]] + [last]
-        for (offset, token), end in zip(tokens, ends):
+        for (offset, token), end, is_set in zip(tokens, ends, columns_set(tokens)):
             for what, place in hints_of_token(token, machine, content, offset, end).items():
-                self.offsets[what].append(place)
+                if what != "loose line feed" or not is_set:
+                    self.offsets[what].append(place)
             rows.meet(offset, token, machine)
             printed.update(rows_printed(token, machine))
             rows.leave(token, machine)

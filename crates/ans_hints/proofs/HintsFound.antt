@@ -16,27 +16,21 @@ use Rattle.ans_model.specs.declared.fault.Fault.{Fault}
 use Rattle.ans_pens.specs.Pens.{pen_of}
 use Rattle.ans_tokens.specs.Walk.{Front, front_with, WalksTo}
 use Rattle.ans_tokens.proofs.Walked.{walked_whole}
-use Rattle.ans_hints.specs.Places.{Condition, offset_if, places, times_of}
-use Rattle.ans_hints.specs.Conditions.{loose_line_feed, wide_character, two_byte_letter, latin_letter, board_code}
-use Rattle.ans_hints.specs.Conditions.{later_colours, blinking_glyph, dark_glyph, seen_glyph}
+use Rattle.ans_hints.specs.Places.{Condition, offset_if, places, places_before, times_of}
+use Rattle.ans_hints.specs.Conditions.{keeps_column, loose_line_feed, wide_character, two_byte_letter, latin_letter}
+use Rattle.ans_hints.specs.Conditions.{board_code, later_colours, blinking_glyph, dark_glyph, seen_glyph, prints}
+use Rattle.ans_hints.specs.Conditions.{sets_column}
 use Rattle.ans_hints.specs.RowEnds.{Written, nothing_written, row_ends_with, row_with, written_after, written_with}
 use Rattle.ans_hints.specs.declared.row.Row.{Row}
 use Rattle.ans_pens.specs.Counted.{counted}
 use Rattle.ans_hints.specs.Hints.{AreHints}
 use Rattle.ans_hints.specs.Rows.{empty_with, empty_after}
-use Rattle.ans_hints.specs.Walks.{GoesOver, HasWalked, IsAt, hints_with}
+use Rattle.ans_hints.specs.Walks.{GoesOver, HasWalked, IsAt, hints_with, is_settled, loose_before_with}
 use Rattle.ans_hints.specs.declared.row_ends.RowEnds.{RowEnds}
 use Rattle.ans_pens.specs.declared.times.Times.{Times}
 use Rattle.ans_hints.specs.declared.walk.Walk.{Walk}
-
--- an offset more, or none
-times_more : (offsets : List ℕ) (test : Bool) (offset : ℕ)
-    → times_of (offsets ++ offset_if test offset) ≡ counted (times_of offsets) test offset
-times_more [] true offset = refl
-times_more [] false offset = refl
-times_more (first ∷ later) true offset =
-    ap (λ (n : ℕ). Some (record { count = n; first = first })) (length-append (first ∷ later) (offset ∷ []))
-times_more (first ∷ later) false offset = ap times_of (append-nil (first ∷ later))
+use Rattle.ans_hints.proofs.LooseFound.{loose_more, settled_so}
+use Rattle.ans_hints.proofs.TimesFound.{times_more}
 
 -- the places in tokens with one more behind them
 places_more : (holds : Condition) (z : Size) (s : State) (offset : ℕ) (tokens : List TokenKind) (t : TokenKind)
@@ -126,10 +120,37 @@ module _ (first old : Walk) (front : Front) (t : TokenKind) (text behind : List 
       ∙ ap (λ (n : ℕ). written_with z here n
       (written_after z (cleared z) 0 (nothing_written z) front.tokens front.texts) t) same
 
+  -- the loose line feeds that were found by a test, before the token
+  loose_at : (test : List TokenKind → Bool) (times : Option Times)
+      → times ≡ times_of (places_before test loose_line_feed z (cleared z) 0 front.tokens front.texts front.behind)
+      → times ≡ times_of (places_before test loose_line_feed z (cleared z) 0 front.tokens front.texts (text ++ behind))
+  loose_at test times e = e ∙ ap (λ (b : List ℕ).
+      times_of (places_before test loose_line_feed z (cleared z) 0 front.tokens front.texts b)) whole
+
+  loose : (if sets_column t then old.loose_before
+      else counted old.hints.loose_line_feeds (loose_line_feed z here t behind) offset)
+      ≡ times_of (places_before keeps_column loose_line_feed z (cleared z) 0 (front.tokens ++ t ∷ [])
+      (front.texts ++ text ∷ []) behind)
+  loose =
+      ap₂ (λ (settled all : Option Times).
+      if sets_column t then settled else counted all (loose_line_feed z here t behind) offset)
+      (loose_at is_settled old.loose_before h.loose_before)
+      (loose_at keeps_column old.hints.loose_line_feeds h.hints.loose_line_feeds)
+      ∙ loose_more z (cleared z) front.tokens t front.texts text behind h.texts offset (omega arith)
+
+  settled : loose_before_with old t
+      ≡ times_of (places_before is_settled loose_line_feed z (cleared z) 0 (front.tokens ++ t ∷ [])
+      (front.texts ++ text ∷ []) behind)
+  settled =
+      ap₂ (λ (all before : Option Times). if prints t then all else before)
+      (loose_at keeps_column old.hints.loose_line_feeds h.hints.loose_line_feeds)
+      (loose_at is_settled old.loose_before h.loose_before)
+      ∙ settled_so z (cleared z) front.tokens t front.texts text behind h.texts
+
   hints_more : AreHints z first.non_blink (front.tokens ++ t ∷ []) (front.texts ++ text ∷ []) behind
       (hints_with (record old { size = z; non_blink = first.non_blink }) here offset t behind)
   hints_more = record {
-    loose_line_feeds = found loose_line_feed 0 offset _ (omega arith) h.hints.loose_line_feeds;
+    loose_line_feeds = loose;
     row_ends =
         ap₂ (λ (row : Row) (ends : RowEnds). row_ends_with z here offset row ends t) h.row h.hints.row_ends
         ∙ sym (ap (λ (w : Written). w.ends) written);
@@ -165,6 +186,7 @@ module _ (first old : Walk) (front : Front) (t : TokenKind) (text behind : List 
             ∙ ap (λ (row : Row). row_with z here offset row t) h.row ∙ sym (ap (λ (w : Written). w.row) written);
         pen = subst (λ (y : Size). new.pen ≡ pen_of (step y here t)) h.size (over.pen here h.pen)
             ∙ ap pen_of (sym (fold-append (step z) (cleared z) front.tokens (t ∷ [])));
+        loose_before = over.loose_before ∙ settled;
         hints = subst (AreHints z first.non_blink (front.tokens ++ t ∷ []) (front.texts ++ text ∷ []) behind)
             (sym is) hints_more;
       }
@@ -195,6 +217,7 @@ is_at_later walk n m h later =
         seen_glyphs = omega (arith, w.seen_glyphs, later);
         dark_glyphs = omega (arith, w.dark_glyphs, later);
       };
+      loose_before = omega (arith, h.loose_before, later);
       wraps = omega (arith, h.wraps, later);
     }
 

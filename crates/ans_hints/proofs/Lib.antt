@@ -1,4 +1,6 @@
 pub mod TextTests
+mod TimesFound
+mod LooseFound
 pub mod HintsFound
 mod PlainConditions
 pub mod RunHints

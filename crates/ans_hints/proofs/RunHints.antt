@@ -101,8 +101,14 @@ module _ (first old : Walk) (front : Front) (run behind : List ℕ) (offset : �
     empty_rows = empty_at k;
   }
 
+  -- the loose line feeds that something was printed after
+  abbrev loose_at : ℕ → Option Times
+  loose_at zero = old.loose_before
+  loose_at (suc k) = old.hints.loose_line_feeds
+
   abbrev walk_at : ℕ → Walk
-  walk_at k = record old { pen = further old.pen k; row = row_at k; hints = hints_at k }
+  walk_at k =
+      record old { pen = further old.pen k; row = row_at k; loose_before = loose_at k; hints = hints_at k }
 
   -- ---- one byte
   module _ (k byte : ℕ) (so_far : Front) (rest : List ℕ) (n : IsByteNext run behind so_far offset k byte rest)
@@ -173,6 +179,7 @@ module _ (first old : Walk) (front : Front) (run behind : List ℕ) (offset : �
         non_blink = refl;
         pen = λ s e. byte_further old.size old.pen k byte (omega (arith, n.within, stays.stays)) s e;
         row = λ s e. row_is k byte front rest n s e;
+        loose_before = refl;
         hints = λ s e. hints_is k byte front rest n s e;
       })
 
@@ -184,9 +191,10 @@ module _ (first old : Walk) (front : Front) (run behind : List ℕ) (offset : �
 
   -- after the whole run, which has a byte
   is_past : (k : ℕ) → length run ≡ suc k → walk_at (length run) ≡ walk_past old run offset
-  is_past k long = ap₂ (λ (row : Row) (m : RowEnds × ℕ). record old {
+  is_past k long = ap₂ (λ (row : Row) (m : RowEnds × ℕ × Option Times). record old {
     pen = further old.pen (length run);
     row = row;
+    loose_before = m.2;
     hints = record old.hints {
       row_ends = m.0;
       blinking_glyphs = counted_times old.hints.blinking_glyphs blinks (length run) offset;
@@ -194,7 +202,7 @@ module _ (first old : Walk) (front : Front) (run behind : List ℕ) (offset : �
       dark_glyphs = counted_along old.hints.dark_glyphs (dark_at run old.pen.attribute) offset (length run);
       empty_rows = m.1;
     };
-  }) (ap row_at long) (ap (λ (n : ℕ). (ends_at n, empty_at n)) long)
+  }) (ap row_at long) (ap (λ (n : ℕ). (ends_at n, empty_at n, loose_at n)) long)
 
   one_before : (n : ℕ) → 0 < n → (k : ℕ) × (n ≡ suc k)
   one_before zero some = absurd (omega (arith, some))

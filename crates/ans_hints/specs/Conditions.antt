@@ -1,17 +1,36 @@
 -- What the hints of tokens are about. Each condition is asked of a token, of the state before it, and of the bytes
 -- after it.
-use Rattle.std.specs.Prelude.{ℕ, Bool, false, not, ◌||◌, ◌&&◌, ◌==◌, nat_eq, nat_le, List, [], ◌∷◌, take}
+use Rattle.std.specs.Prelude.{ℕ, Bool, true, false, not, ◌||◌, ◌&&◌, ◌==◌, nat_eq, nat_le, List, [], ◌∷◌, take}
 use Rattle.std.specs.Prelude.{nat_lt, slice_index, if◌then◌else◌}
 use Rattle.std.specs.Int.{is_in_range}
 use Rattle.std.specs.List.{list_any, starts_with}
 use Rattle.std.specs.Str.{is_utf8}
-use Rattle.ans_model.specs.Sequence.TokenKind.{Glyph, LineFeed, Colours}
+use Rattle.ans_model.specs.Sequence.TokenKind.{TokenKind, Glyph, LineFeed, CarriageReturn, Tab, Place, Restore}
+use Rattle.ans_model.specs.Sequence.TokenKind.{Colours}
 use Rattle.ans_hints.specs.Places.{Condition}
 
 -- a line feed comes with the cursor not in the first column, and no return follows
 abbrev pub loose_line_feed : Condition
 loose_line_feed z s LineFeed rest = not (s.cursor.column == 0) && not (starts_with nat_eq rest (0x0D ∷ []))
 loose_line_feed z s _ rest = false
+
+-- the tokens that print
+abbrev pub prints : TokenKind → Bool
+prints (Glyph byte) = true
+prints Tab = true
+prints _ = false
+
+-- the tokens that set the column, wherever the cursor was: a return, a saved place restored, a place
+abbrev pub sets_column : TokenKind → Bool
+sets_column CarriageReturn = true
+sets_column Restore = true
+sets_column (Place row column) = true
+sets_column _ = false
+
+-- None of these comes before the next token that prints: a line feed before these tokens may be loose.
+abbrev pub keeps_column : List TokenKind → Bool
+keeps_column [] = true
+keeps_column (t ∷ tokens) = prints t || (not (sets_column t) && keeps_column tokens)
 
 -- how many bytes a character takes in UTF-8 (RFC 3629) if they are three or four: its first byte says it
 abbrev pub wide_size : ℕ → ℕ

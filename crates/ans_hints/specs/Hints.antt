@@ -3,9 +3,9 @@ use Rattle.std.specs.Prelude.{◌≡◌, ℕ, ◌*◌, Bool, not, ◌&&◌, ◌|
 use Rattle.ans_model.specs.Sequence.TokenKind.{TokenKind}
 use Rattle.ans_model.specs.Screen.State.{Size}
 use Rattle.ans_model.specs.Screen.StartClass.{cleared}
-use Rattle.ans_hints.specs.Places.{places, times_of}
-use Rattle.ans_hints.specs.Conditions.{loose_line_feed, wide_character, two_byte_letter, latin_letter, board_code}
-use Rattle.ans_hints.specs.Conditions.{later_colours, blinking_glyph, dark_glyph, seen_glyph}
+use Rattle.ans_hints.specs.Places.{places, places_before, times_of}
+use Rattle.ans_hints.specs.Conditions.{keeps_column, loose_line_feed, wide_character, two_byte_letter, latin_letter}
+use Rattle.ans_hints.specs.Conditions.{board_code, later_colours, blinking_glyph, dark_glyph, seen_glyph}
 use Rattle.ans_pens.specs.Counted.{count_of}
 use Rattle.ans_hints.specs.RowEnds.{are_all_ended, nothing_written, wider_rows, written_after}
 use Rattle.ans_hints.specs.Rows.{empty_rows}
@@ -17,7 +17,8 @@ use Rattle.ans_pens.specs.declared.times.Times.{Times}
 -- has its own offset, one byte after the letter before it.
 pub record AreHints (z : Size) (non_blink : Bool) (tokens : List TokenKind) (texts : List (List ℕ)) (behind : List ℕ)
     (hints : Hints) : Type 0 where
-  pub loose_line_feeds : hints.loose_line_feeds ≡ times_of (places loose_line_feed z (cleared z) 0 tokens texts behind)
+  pub loose_line_feeds : hints.loose_line_feeds
+      ≡ times_of (places_before keeps_column loose_line_feed z (cleared z) 0 tokens texts behind)
   pub row_ends : hints.row_ends ≡ (written_after z (cleared z) 0 (nothing_written z) tokens texts).ends
   pub wide_characters : hints.wide_characters ≡ times_of (places wide_character z (cleared z) 0 tokens texts behind)
   pub two_byte_letters : hints.two_byte_letters ≡ times_of (places two_byte_letter z (cleared z) 1 tokens texts behind)

@@ -1,5 +1,5 @@
 -- Where a condition holds in a play, and how often.
-use Rattle.std.specs.Prelude.{ℕ, ◌+◌, Bool, List, [], ◌∷◌, ◌++◌, length, Option, None, Some, if◌then◌else◌}
+use Rattle.std.specs.Prelude.{ℕ, ◌+◌, Bool, ◌&&◌, List, [], ◌∷◌, ◌++◌, length, Option, None, Some, if◌then◌else◌}
 use Rattle.std.specs.List.{concat}
 use Rattle.ans_model.specs.Sequence.TokenKind.{TokenKind}
 use Rattle.ans_model.specs.Screen.State.{Size, State}
@@ -23,6 +23,15 @@ places holds z s offset (t ∷ tokens) [] behind = []
 places holds z s offset (t ∷ tokens) (text ∷ texts) behind =
     offset_if (holds z s t (concat texts ++ behind)) offset
     ++ places holds z (step z s t) (offset + length text) tokens texts behind
+
+-- the same, but only of tokens for which a test holds of the tokens after them
+abbrev pub places_before : (List TokenKind → Bool) → Condition → Size → State → ℕ → List TokenKind → List (List ℕ)
+    → List ℕ → List ℕ
+places_before test holds z s offset [] texts behind = []
+places_before test holds z s offset (t ∷ tokens) [] behind = []
+places_before test holds z s offset (t ∷ tokens) (text ∷ texts) behind =
+    offset_if (test tokens && holds z s t (concat texts ++ behind)) offset
+    ++ places_before test holds z (step z s t) (offset + length text) tokens texts behind
 
 -- how many offsets there are, and the first of them
 abbrev pub times_of : List ℕ → Option Times

@@ -1,6 +1,6 @@
 -- The hints of a front of a content, token by token.
-use Rattle.std.specs.Prelude.{◌≡◌, ℕ, ◌+◌, ◌-◌, ◌<◌, ◌≤◌, Bool, false, not, ◌&&◌, ◌==◌, nat_le, min, get_or, List}
-use Rattle.std.specs.Prelude.{length, IsTrue}
+use Rattle.std.specs.Prelude.{◌≡◌, ℕ, ◌+◌, ◌-◌, ◌<◌, ◌≤◌, Bool, false, not, ◌&&◌, ◌||◌, ◌==◌, nat_le, min, get_or}
+use Rattle.std.specs.Prelude.{List, [], ◌∷◌, length, Option, IsTrue, if◌then◌else◌}
 use Rattle.ans_model.specs.Sequence.TokenKind.{TokenKind}
 use Rattle.ans_model.specs.Screen.State.{State}
 use Rattle.ans_model.specs.Screen.Step.{final, step}
@@ -8,7 +8,10 @@ use Rattle.ans_model.specs.Screen.StartClass.{cleared}
 use Rattle.ans_pens.specs.Pens.{further, pen_of, StandsOn}
 use Rattle.ans_tokens.specs.Walk.{Front}
 use Rattle.ans_hints.specs.Conditions.{loose_line_feed, wide_character, two_byte_letter, latin_letter, board_code}
-use Rattle.ans_hints.specs.Conditions.{later_colours, blinking_glyph, dark_glyph, is_seen, seen_glyph}
+use Rattle.ans_hints.specs.Conditions.{later_colours, blinking_glyph, dark_glyph, is_seen, seen_glyph, prints}
+use Rattle.ans_hints.specs.Conditions.{sets_column}
+use Rattle.ans_hints.specs.Places.{places_before, times_of}
+use Rattle.ans_pens.specs.declared.times.Times.{Times}
 use Rattle.ans_hints.specs.RowEnds.{CountsRows, is_stuck, nothing_written, printed_in, row_ends_with, row_with}
 use Rattle.ans_hints.specs.RowEnds.{written_after}
 use Rattle.ans_pens.specs.Counted.{count_of, counted, counted_along, counted_times}
@@ -18,10 +21,25 @@ use Rattle.ans_hints.specs.declared.hints.Hints.{Hints}
 use Rattle.ans_hints.specs.declared.row.Seam.TheVariants.{Other}
 use Rattle.ans_hints.specs.declared.walk.Walk.{Walk}
 
+-- something is printed before the column is set: a line feed before these tokens is loose, whatever follows them
+abbrev pub is_settled : List TokenKind → Bool
+is_settled [] = false
+is_settled (t ∷ tokens) = prints t || (not (sets_column t) && is_settled tokens)
+
+-- the loose line feeds with one token more: where that sets the column, only those that something was printed after
+abbrev pub loose_with : Walk → State → ℕ → TokenKind → List ℕ → Option Times
+loose_with walk s offset t rest =
+    if sets_column t then walk.loose_before
+    else counted walk.hints.loose_line_feeds (loose_line_feed walk.size s t rest) offset
+
+-- and those of them that something was printed after
+abbrev pub loose_before_with : Walk → TokenKind → Option Times
+loose_before_with walk t = if prints t then walk.hints.loose_line_feeds else walk.loose_before
+
 -- the hints with one token more, which is at this offset in this state, before these bytes
 abbrev pub hints_with : Walk → State → ℕ → TokenKind → List ℕ → Hints
 hints_with walk s offset t rest = record {
-  loose_line_feeds = counted walk.hints.loose_line_feeds (loose_line_feed walk.size s t rest) offset;
+  loose_line_feeds = loose_with walk s offset t rest;
   row_ends = row_ends_with walk.size s offset walk.row walk.hints.row_ends t;
   wide_characters = counted walk.hints.wide_characters (wide_character walk.size s t rest) offset;
   two_byte_letters = counted walk.hints.two_byte_letters (two_byte_letter walk.size s t rest) (offset + 1);
@@ -58,6 +76,7 @@ abbrev pub walk_past : Walk → List ℕ → ℕ → Walk
 walk_past walk run offset = record walk {
   pen = further walk.pen (length run);
   row = record walk.row { seam = Other };
+  loose_before = walk.hints.loose_line_feeds;
   hints = hints_past walk run offset;
 }
 
@@ -83,6 +102,7 @@ pub record CountsWithin (hints : Hints) (offset : ℕ) : Type 0 where
 pub record IsAt (walk : Walk) (offset : ℕ) : Type 0 where
   pub stands : StandsOn walk.size walk.pen
   pub within : CountsWithin walk.hints offset
+  pub loose_before : count_of walk.loose_before ≤ offset
   pub wraps : walk.row.wraps ≤ offset
 
 -- The first walk has gone over one token more, which is at this offset before these bytes, and has become the other.
@@ -91,6 +111,7 @@ pub record GoesOver (old new : Walk) (offset : ℕ) (t : TokenKind) (rest : List
   pub non_blink : new.non_blink ≡ old.non_blink
   pub pen : (s : State) → old.pen ≡ pen_of s → new.pen ≡ pen_of (step old.size s t)
   pub row : (s : State) → old.pen ≡ pen_of s → new.row ≡ row_with old.size s offset old.row t
+  pub loose_before : new.loose_before ≡ loose_before_with old t
   pub hints : (s : State) → old.pen ≡ pen_of s → new.hints ≡ hints_with old s offset t rest
 
 -- Over the front the first walk has become the other, which goes on: it is the play of the front's tokens, and has
@@ -103,4 +124,6 @@ pub record HasWalked (first : Walk) (front : Front) (goes_on : Bool) (now : Walk
   pub row : now.row ≡ (written_after first.size (cleared first.size) 0 (nothing_written first.size) front.tokens
       front.texts).row
   pub pen : now.pen ≡ pen_of (final first.size (cleared first.size) front.tokens)
+  pub loose_before : now.loose_before ≡ times_of (places_before is_settled loose_line_feed first.size
+      (cleared first.size) 0 front.tokens front.texts front.behind)
   pub hints : AreHints first.size first.non_blink front.tokens front.texts front.behind now.hints

@@ -16,7 +16,8 @@ use ans_pens::times::{Times, count_of};
 /// What is worth a hint, in the play from the cleared start. None, or 0 rows, is no hint.
 #[derive(Debug, Clone, Copy, PartialEq, Eq)]
 pub struct Hints {
-    /// Line feeds that come with the cursor not in the first column, and that no return follows.
+    /// Line feeds that come with the cursor not in the first column, and that no return follows. They do not
+    /// count if a return, a restored place or a place comes before the next byte that is printed.
     pub loose_line_feeds: Option<Times>,
     /// What the ends of the rows tell.
     pub row_ends: RowEnds,

@@ -9,11 +9,11 @@ ghost use Rattle.ans_model.specs.Screen.State.{State};
 ghost use Rattle.ans_model.specs.Inside.ShownKind.{shown_kind};
 ghost use Rattle.ans_hints.specs.Conditions.{begins_with_pipe_number, begins_with_two_byte_letter, is_latin_letter};
 ghost use Rattle.ans_hints.specs.Conditions.{begins_with_x_number, is_letter, is_small_letter};
-ghost use Rattle.ans_pens.specs.Counted.{counted};
+ghost use Rattle.ans_pens.specs.Counted.{count_of, counted};
 ghost use Rattle.ans_pens.specs.Pens.{glyph_wraps, pen_of};
 ghost use Rattle.ans_hints.specs.RowEnds.{is_stuck, with_glyph, CountsRows};
 ghost use Rattle.ans_hints.specs.Walks.{CountsWithin, GoesOver, HasWalked, IsAt, StaysInRow, hints_past, hints_with};
-ghost use Rattle.ans_hints.specs.Walks.{walk_past};
+ghost use Rattle.ans_hints.specs.Walks.{loose_before_with, walk_past};
 ghost use Rattle.ans_tokens.specs.Walk.{no_front};
 
 use crate::conditions::{
@@ -29,7 +29,7 @@ use ans_model::attribute::attribute_after_all;
 use ans_model::kind::Kind;
 use ans_model::size::Size;
 use ans_pens::pen::Pen;
-use ans_pens::times::{count, count_times};
+use ans_pens::times::{Times, count, count_times};
 use ans_tokens::{ColourSequence, Token, Walker};
 
 /// A play from the cleared start without its screen, and the hints of its tokens so far.
@@ -39,6 +39,8 @@ pub(crate) struct Walk {
     pub(crate) non_blink: bool,
     pub(crate) pen: Pen,
     pub(crate) row: Row,
+    /// Those of the loose line feeds that something was printed after.
+    pub(crate) loose_before: Option<Times>,
     pub(crate) hints: Hints,
 }
 
@@ -55,6 +57,7 @@ impl Walk {
             non_blink,
             pen: Pen::cleared(),
             row: Row::FIRST,
+            loose_before: None,
             hints: Hints {
                 loose_line_feeds: None,
                 row_ends: RowEnds::none(size.width()),
@@ -250,15 +253,27 @@ impl Walk {
         requires room { offset < longest_file }
         requires at { IsAt self.old offset }
         ensures within { CountsWithin self.new.hints (offset + 1) }
-        ensures kept { self.new ≡ record self.old { hints = self.new.hints } }
+        ensures few { count_of self.new.loose_before ≤ offset + 1 }
+        ensures kept { self.new ≡ record self.old {
+          loose_before = loose_before_with self.old (shown_kind kind.now);
+          hints = self.new.hints;
+        } }
         ensures hints { (s : State) → self.old.pen ≡ pen_of s
             → self.new.hints ≡ hints_with self.old s offset (shown_kind kind.now) behind.now }
     {
         match kind {
-            Kind::Glyph(byte) => self.glyph(offset, *byte, behind),
+            Kind::Glyph(byte) => {
+                self.loose_before = self.hints.loose_line_feeds;
+                self.glyph(offset, *byte, behind);
+            }
             Kind::LineFeed => self.line_feed(offset, behind),
-            Kind::CarriageReturn => self.hints.row_ends.returns = true,
+            Kind::CarriageReturn => {
+                self.hints.loose_line_feeds = self.loose_before;
+                self.hints.row_ends.returns = true;
+            }
+            Kind::Place(_, _) | Kind::Restore => self.hints.loose_line_feeds = self.loose_before,
             Kind::Tab => {
+                self.loose_before = self.hints.loose_line_feeds;
                 self.hints.row_ends.print_in(self.pen.cursor.row);
                 let pen = self.pen;
                 self.print_in(pen.row_of_tab(self.size));
@@ -312,6 +327,7 @@ impl Walk {
         ensures at { IsAt self.new (offset + length run.now) }
         ensures past { self.new ≡ walk_past self.old run.now offset }
     {
+        self.loose_before = self.hints.loose_line_feeds;
         self.look_at_run(run, offset);
         self.row.go_on();
         self.pen.go_on(self.size, run.len());

@@ -18,6 +18,7 @@ pub returns-clause-at : goal.returns-clause-at
 returns-clause-at c = record {
   stands = c.step.ensures.stands;
   within = c.look.ensures.within;
+  loose_before = c.look.ensures.few;
   wraps = omega (
     arith,
     c.step-2.ensures.few,
@@ -39,5 +40,6 @@ returns-clause-over c =
           subst₂ (λ (z : Size) (r : Row). c.step-2.new.self ≡ row_with z s c.args.offset r (shown_kind c.args.kind.now))
           (ap (λ (w : Walk). w.size) kept) (ap (λ (w : Walk). w.row) kept)
           (c.step-2.ensures.row s pen (ap (λ (p : Pen). p.cursor.column) (c.step.ensures.pen s pen)));
+      loose_before = ap (λ (w : Walk). w.loose_before) kept;
       hints = c.look.ensures.hints;
     }

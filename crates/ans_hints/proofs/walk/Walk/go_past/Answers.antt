@@ -18,5 +18,6 @@ returns-clause-past c =
     ∙ ap (λ (hints : Hints). record old {
       pen = further old.pen n;
       row = record old.row { seam = Other };
+      loose_before = old.hints.loose_line_feeds;
       hints = hints;
     }) c.look_at_run.ensures.hints
