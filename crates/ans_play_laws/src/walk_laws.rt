@@ -48,7 +48,8 @@ pub fn full_rows_end_in_a_line_end()
 {}
 
 /// Whether all full rows are ended is asked of the rows before the last glyph or tab: the full rows and the line ends
-/// after them that are compared are those counted up to there.
+/// after them that are compared are those counted up to there. A line end that leads below the row in which that is
+/// printed is not among them.
 pub fn rows_are_counted_up_to_the_last_print()
     ensures { CountsBeforeLastPrint }
 {}
