@@ -1,7 +1,7 @@
 -- The hints of a front with one token more.
 use Rattle.std.proofs.Common.{◌≡◌, ℕ, ◌+◌, ◌≤◌, Bool, true, false, not, List, [], ◌∷◌, ◌++◌, length, take, drop}
 use Rattle.std.proofs.Common.{refl, sym, ap}
-use Rattle.std.proofs.Common.{ap₂, arith, ◌∙◌, subst, append_assoc, append-nil, length-append, Option, None, Some}
+use Rattle.std.proofs.Common.{ap₂, arith, ◌∙◌, subst, append_assoc, append-nil, length-append, Option, None}
 use Rattle.std.specs.Prelude.{◌&&◌, if◌then◌else◌, Result}
 use Rattle.std.specs.List.{concat}
 use Rattle.std.proofs.lemmas.Bool.{false≢true}

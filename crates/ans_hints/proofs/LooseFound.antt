@@ -1,6 +1,6 @@
 -- Loose line feeds with one token more.
 use Rattle.std.proofs.Common.{◌≡◌, ℕ, ◌+◌, Bool, true, false, not, List, [], ◌∷◌, ◌++◌, length, refl, sym, ap}
-use Rattle.std.proofs.Common.{ap₂, arith, ◌∙◌, append_assoc, append-nil, length-append, Option}
+use Rattle.std.proofs.Common.{ap₂, arith, ◌∙◌, append_assoc, append-nil, length-append}
 use Rattle.std.specs.Prelude.{◌&&◌, ◌||◌, if◌then◌else◌}
 use Rattle.std.specs.List.{concat}
 use Rattle.std.proofs.lemmas.Bool.{false≢true}
@@ -12,7 +12,6 @@ use Rattle.ans_hints.specs.Places.{Condition, offset_if, places_before, times_of
 use Rattle.ans_hints.specs.Conditions.{keeps_column, loose_line_feed, prints, sets_column}
 use Rattle.ans_hints.specs.Walks.{is_settled}
 use Rattle.ans_pens.specs.Counted.{counted}
-use Rattle.ans_pens.specs.declared.times.Times.{Times}
 use Rattle.ans_hints.proofs.TimesFound.{times_more}
 
 -- the places in tokens with one more after them

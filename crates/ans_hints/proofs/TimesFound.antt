@@ -1,5 +1,5 @@
 -- How often, with an offset more.
-use Rattle.std.proofs.Common.{◌≡◌, ℕ, Bool, true, false, List, [], ◌∷◌, ◌++◌, length, refl, ap, append-nil}
+use Rattle.std.proofs.Common.{◌≡◌, ℕ, Bool, true, false, List, [], ◌∷◌, ◌++◌, refl, ap, append-nil}
 use Rattle.std.proofs.Common.{length-append, Some}
 use Rattle.ans_hints.specs.Places.{offset_if, times_of}
 use Rattle.ans_pens.specs.Counted.{counted}

@@ -85,7 +85,8 @@ impl Walk {
         let comes = self.pen.cursor.column != 0 && !behind.starts_with(b"\r");
         count(&mut self.hints.loose_line_feeds, comes, offset);
         let row = self.row.ended(self.size, &self.pen, offset);
-        let below = (self.pen.cursor.row + 1).min(self.size.lines());
+        let lines = self.size.lines();
+        let below = (self.pen.cursor.row + 1).min(lines);
         self.hints.row_ends.end(offset, below, row);
     }
 
