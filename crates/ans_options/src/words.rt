@@ -344,7 +344,12 @@ is: what the bytes are known as at which the drawing is refused
   comments that the record does not count  set their number, byte 104 of the
                                            record, or delete them
   an older record                          delete it
+  another drawing                          split the file after the first record
   an arrow in the drawing                  use another character, such as '>'
+  a sequence of modern terminals           write what the line says
+  a ZIP archive                            unzip -p FILE > drawing.ans
+  another kind of file, or the colour      save it as ANSI in a program that
+  codes of a board                         knows it
 
 'anscheck help take-out' says what is removed, and what is not. The font's name
 belongs in the record, and bright backgrounds in its non-blink flag.
