@@ -344,7 +344,7 @@ is: what the bytes are known as at which the drawing is refused
   comments that the record does not count  set their number, byte 104 of the
                                            record, or delete them
   an older record                          delete it
-  another drawing                          split the file after the first record
+  another drawing                          split it after the first record
   an arrow in the drawing                  use another character, such as '>'
   a sequence of modern terminals           write what the line says
   a ZIP archive                            unzip -p FILE > drawing.ans
