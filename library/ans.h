@@ -365,7 +365,16 @@ enum {
     ANS_KNOWN_REASSIGNED_KEY = 7,
     ANS_KNOWN_UNCOUNTED_COMMENTS = 8,
     ANS_KNOWN_OLDER_RECORD = 9,
-    ANS_KNOWN_ARROW = 10
+    ANS_KNOWN_ARROW = 10,
+    ANS_KNOWN_TERMINAL = 11,
+    ANS_KNOWN_ANOTHER_DRAWING = 12,
+    ANS_KNOWN_X_BIN = 13,
+    ANS_KNOWN_ZIP = 14,
+    ANS_KNOWN_AVATAR = 15,
+    ANS_KNOWN_BINARY_TEXT = 16,
+    ANS_KNOWN_PC_BOARD = 17,
+    ANS_KNOWN_PIPE = 18,
+    ANS_KNOWN_WILDCAT = 19
 };
 
 /* The text of the fault Fn, such as "F21 scrolls". NULL: there is none. */
@@ -428,7 +437,16 @@ static inline const char *ans_known_text(uint32_t number) {
         "a reassigned key",
         "comments that the record does not count",
         "an older record",
-        "an arrow in the drawing"
+        "an arrow in the drawing",
+        "a sequence of modern terminals",
+        "another drawing",
+        "an XBin file",
+        "a ZIP archive",
+        "a drawing in AVATAR codes",
+        "BinaryText, pairs of a character and a colour",
+        "text with PCBoard colour codes (@X1F)",
+        "text with Renegade or Telegard colour codes (|07)",
+        "text with Wildcat colour codes (@1F@)"
     };
     return number < sizeof texts / sizeof *texts ? texts[number] : NULL;
 }

@@ -72,11 +72,11 @@ def notes():
 
 
 def known():
-    """What bytes are recognised as, by name, in the order of the type."""
-    text = source("ans_why/src/known_bytes.rt")
-    names = re.findall(r"^    (\w+),$", body(text, "pub enum Known"), re.MULTILINE)
-    texts = by_variant(text, "Known", "pub fn text")
-    return {name: texts[name] for name in names}
+    """What bytes are recognised as, by name, in the order of their numbers. One number is for all of Terminal."""
+    texts = by_variant(source("ans_why/src/known_bytes.rt"), "Known", "pub fn text")
+    texts["Terminal"] = "a sequence of modern terminals"
+    arms = re.findall(r"Known::(\w+)(?:\(_\))?\) => (\d+),", source("ans_c/src/row_numbers.rt"))
+    return {name: texts[name] for name, _ in sorted(arms, key=lambda arm: int(arm[1]))}
 
 
 def kinds():

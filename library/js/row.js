@@ -10,7 +10,10 @@ const KINDS = ["wrap-at-once", "line-ends", "home-on-clear", "clear-in-colour", 
 /** What bytes are recognised as, by number. */
 const KNOWN = [null, "ANSI music", "a font selection", "a 24-bit colour", "the switch for bright backgrounds",
   "the switch that hides or shows the cursor", "a screen mode of DOS", "a reassigned key",
-  "comments that the record does not count", "an older record", "an arrow in the drawing"];
+  "comments that the record does not count", "an older record", "an arrow in the drawing",
+  "a sequence of modern terminals", "another drawing", "an XBin file", "a ZIP archive", "a drawing in AVATAR codes",
+  "BinaryText, pairs of a character and a colour", "text with PCBoard colour codes (@X1F)",
+  "text with Renegade or Telegard colour codes (|07)", "text with Wildcat colour codes (@1F@)"];
 
 const ASPECTS = [null, "stretch", "square"];
 const NOTES = [1, 2, 3, 4, 5, 6];

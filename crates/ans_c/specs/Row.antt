@@ -23,6 +23,7 @@ use Rattle.ans_kinds.specs.declared.kinds.KindsUsed.{KindsUsed}
 use Rattle.ans_kinds.specs.declared.players.Players.{Players}
 use Rattle.ans_kinds.specs.declared.players.Players.TheVariants.{Any, InNamedColours, Agreeing}
 use Rattle.ans_why.specs.Explained.{IsTrueOf, Why}
+use Rattle.std.specs.Option.{option_or}
 use Rattle.ans_why.specs.WhyText.{known_found}
 use Rattle.ans_why.specs.declared.known_bytes.Known.{Known}
 use Rattle.ans_why.specs.declared.known_bytes.Known.TheVariants as known
@@ -78,6 +79,15 @@ known_number (Some known.ReassignedKey) = 7
 known_number (Some known.UncountedComments) = 8
 known_number (Some known.OlderRecord) = 9
 known_number (Some known.Arrow) = 10
+known_number (Some (known.Terminal what)) = 11
+known_number (Some known.AnotherDrawing) = 12
+known_number (Some known.XBin) = 13
+known_number (Some known.Zip) = 14
+known_number (Some known.Avatar) = 15
+known_number (Some known.BinaryText) = 16
+known_number (Some known.PcBoard) = 17
+known_number (Some known.Pipe) = 18
+known_number (Some known.Wildcat) = 19
 
 -- the ways in which players differ, and no parts of the start; or none but own colours, and the parts that have to be
 -- known for the content to look the same on all players
@@ -165,7 +175,7 @@ pub record IsRecordBlame (said : RecordRefusal) (told : Blame) : Type 0 where
   pub bytes : told.bytes ≡ no_piece
   pub low : told.low ≡ no_place
   pub high : told.high ≡ no_place
-  pub known : told.known ≡ known_number (known_found said.found)
+  pub known : told.known ≡ known_number (option_or said.other (known_found said.found))
   pub lines : told.lines ≡ enough_or_0 said.enough
   pub mends : told.mends ≡ 0
 

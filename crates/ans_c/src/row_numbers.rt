@@ -62,7 +62,9 @@ pub struct Blame {
     /// What the bytes are recognised as: 1 ANSI music, 2 a font selection, 3 a 24-bit colour, 4 the switch for
     /// bright backgrounds, 5 the switch that hides or shows the cursor, 6 a screen mode of DOS, 7 a
     /// reassigned key; and those after the end mark: 8 comments that the record does not count, 9 an older
-    /// record, 10 an arrow in the drawing. 0 for nothing.
+    /// record, 10 an arrow in the drawing, 12 another drawing; 11 a sequence of modern terminals; or the file as 13
+    /// XBin, 14 a ZIP archive, 15 AVATAR, 16 BinaryText, or a text with the colour codes of 17 PCBoard, 18 Renegade
+    /// or Telegard, 19 Wildcat. 0 for nothing.
     pub known: u32,
     /// For F5 and F19 to F21 the smallest number of lines with which the file passes from the cleared start, if
     /// there is one; else 0.
@@ -155,6 +157,15 @@ fn known_number(known: Option<Known>) -> u32
         Some(Known::UncountedComments) => 8,
         Some(Known::OlderRecord) => 9,
         Some(Known::Arrow) => 10,
+        Some(Known::Terminal(_)) => 11,
+        Some(Known::AnotherDrawing) => 12,
+        Some(Known::XBin) => 13,
+        Some(Known::Zip) => 14,
+        Some(Known::Avatar) => 15,
+        Some(Known::BinaryText) => 16,
+        Some(Known::PcBoard) => 17,
+        Some(Known::Pipe) => 18,
+        Some(Known::Wildcat) => 19,
     }
 }
 
@@ -225,7 +236,7 @@ fn blame_of_record(said: &RecordRefusal<'_>) -> Blame
 {
     Blame {
         fault: told(&said.fault),
-        known: known_number(known_found(&said.found)),
+        known: known_number(said.other.or(known_found(&said.found))),
         lines: enough_or_0(&said.enough),
         ..Blame::default()
     }

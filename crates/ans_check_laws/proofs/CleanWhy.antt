@@ -39,6 +39,9 @@ use Rattle.ans_why.specs.WhyText.{after_end_mark_text, blamed_line, blamed_text,
 use Rattle.ans_why.specs.WhyText.{enough_lines, known_line, found_line, lines_line, taller_line, torn_text, why_text}
 use Rattle.ans_why.specs.declared.known_bytes.Known.{Known}
 use Rattle.ans_why.specs.declared.known_bytes.Known.TheVariants.{Music}
+use Rattle.ans_why.specs.declared.known_bytes.Known.TheVariants as known
+use Rattle.ans_why.specs.declared.terminal_letters.Terminal.{Terminal}
+use Rattle.ans_why.specs.declared.terminal_letters.Terminal.TheVariants.{Repeats}
 use Rattle.ans_why.specs.declared.why.Enough.{Enough}
 use Rattle.ans_why.specs.declared.why.Reliance.{Reliance}
 use Rattle.ans_why.specs.declared.why.Shown.{Shown}
@@ -209,10 +212,15 @@ lines_clean : (lines : Option ℕ) (torn : Bool) → IsCleanText (lines_line lin
 lines_clean None torn = clean_nil
 lines_clean (Some n) torn = search (clean_bool torn_text, clean_lines) depth 20
 
+terminal_clean : (what : Terminal) → IsCleanText (known_line (Some (known.Terminal what)))
+terminal_clean Repeats = plain_text (known_line (Some (known.Terminal Repeats))) refl
+terminal_clean what = plain_text (known_line (Some (known.Terminal what))) refl
+
 known_clean : (known : Option Known) → IsCleanText (known_line known)
 known_clean None = clean_nil
 known_clean (Some Music) = plain_text (known_line (Some Music)) refl
-known_clean (Some known) = plain_text (known_line (Some known)) refl
+known_clean (Some (known.Terminal what)) = terminal_clean what
+known_clean (Some is) = plain_text (known_line (Some is)) refl
 
 ruleset clean_answers = (hints_clean, known_clean, lines_clean, players_clean, clean_lines)
 
