@@ -1,8 +1,8 @@
 -- A file that is mended passes from every start.
 use Rattle.std.proofs.Common.{◌≡◌, inl, inr, ℕ, ◌+◌, ◌-◌, ◌≤◌, ◌==◌, Bool, true, false, List, ◌++◌}
-use Rattle.std.proofs.Common.{length, take, refl, sym, ap, ap₂, ◌∙◌, arith, subst, subst₂}
-use Rattle.std.proofs.Common.{append_assoc, true≢false, Result, Err}
-use Rattle.std.specs.Prelude.{if◌then◌else◌, ◌&&◌, ◌||◌, IfErr, nat_le, bytes_eq, codes, Option, None, Some}
+use Rattle.std.proofs.Common.{length, refl, sym, ap, ap₂, ◌∙◌, arith, subst, subst₂}
+use Rattle.std.proofs.Common.{append_assoc, Result, Err}
+use Rattle.std.specs.Prelude.{if◌then◌else◌, ◌&&◌, ◌||◌, IfErr, Option, None, Some}
 use Rattle.std.specs.Prelude.{is_some, option_and_then}
 use Rattle.std.specs.List.{list_any}
 use Rattle.std.proofs.lemmas.Bool.{and_parts, eqb-true}

@@ -1,6 +1,5 @@
-use Rattle.std.proofs.Common.{List, ℕ, sym, ap, ◌∙◌, Some, None}
+use Rattle.std.proofs.Common.{List, ℕ, sym, ap, ◌∙◌}
 use Rattle.std.proofs.lemmas.List.{take_rest}
-use Rattle.ans_sauce.specs.Found.{IsLastRecord}
 use Rattle.ans_mend.specs.Tail.{ends_in_tail}
 use Rattle.ans_mend.proofs.LastRecord.{no_tail, nothing_last}
 use Rattle.ans_mend.proofs.tail.tail_start.Goals as goal
