@@ -11,7 +11,7 @@ use Rattle.ans_model.specs.declared.mends.Mends.{Mends}
 use Rattle.ans_options.specs.declared.command_line.WordsError.{WordsError}
 use Rattle.ans_options.specs.declared.command_line.WordsError.TheVariants as words_error
 use Rattle.ans_table.specs.Counting.{counts_status}
-use Rattle.ans_check.specs.Naming.{plain_text}
+use Rattle.ans_table.specs.Unopened.{plain_text}
 use Rattle.ans_check.specs.declared.check_file.Checked.{Checked}
 use Rattle.ans_check.specs.declared.check_file.Checked.TheVariants as checked
 use Rattle.ans_check.specs.declared.errors.RunError.{RunError}

@@ -1,6 +1,6 @@
 -- What standard error calls the input, and what is said of an input that cannot be opened.
 use Rattle.std.specs.Prelude.{◌≡◌, ℕ, Bool, true, false, not, ◌&&◌, ◌||◌, ◌==◌, List, [], ◌∷◌, ◌++◌, Option, Some, None}
-use Rattle.std.specs.Prelude.{IfOk, IfSome, MatchResult, Ok, codes, if◌then◌else◌, is_some, map, option_map}
+use Rattle.std.specs.Prelude.{Err, IfOk, IfSome, Ok, Result, codes, if◌then◌else◌, is_some, map, option_map}
 use Rattle.std.specs.Prelude.{string_bytes, unwrap_or}
 use Rattle.std.specs.List.{list_any}
 use Rattle.std.specs.Option.{option_map_or}
@@ -113,11 +113,15 @@ meant_text name (meant.Command command) = codes "; did you mean " ++ (command_na
 meant_text name meant.Topic =
     codes "; did you mean anscheck help " ++ (name_text (unwrap_or name []) ++ codes "?")
 
--- a word that is neither a file nor a command; if there was no memory to find what was meant, nothing is said of that
+-- the same, or nothing if there was no memory to find what was meant
+abbrev pub meant_told : {E : Type 0} → Option Text → Result Meant E → List ℕ
+meant_told name (Ok meant) = meant_text name meant
+meant_told name (Err e) = []
+
+-- a word that is neither a file nor a command
 abbrev pub missing_text : Naming → List ℕ
 missing_text n =
-    codes "no such file, and no such command"
-    ++ MatchResult n.meant (λ meant. meant_text (option_map (λ name. name.now) n.name) meant) (λ _. [])
+    codes "no such file, and no such command" ++ meant_told (option_map (λ name. name.now) n.name) n.meant
 
 -- why an input of this name was not opened
 abbrev pub reason_told : Naming → Unopened → List ℕ

@@ -21,6 +21,6 @@ abbrev pub AnswersOnSystem : {W E : Type 0} → (W → Option (List ℕ)) → (E
     → Tried W → Tried W → Tried E → Tried E → ℕ → Type 0
 AnswersOnSystem contents told words output output_after errors errors_after status = (ending : Ending)
     × (EndsSo {R = Input} (λ _. None) contents told (λ _ input. is_named input ≡ true)
-    (λ input. is_named input ≡ false) (λ _. ⊤) words output output_after errors errors_after ending
+    (λ input. is_named input ≡ false) (λ _ _. ⊤) words output output_after errors errors_after ending
     ⊎ ((ending ≡ UnreadableWords) × (output_after ≡ output) × Says told errors errors_after unnamed ending))
     × (status ≡ ending_status ending)

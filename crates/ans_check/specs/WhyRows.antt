@@ -1,6 +1,7 @@
 -- What is wrong with each of many files.
 use Rattle.std.specs.Prelude.{◌≡◌, ◌⊎◌, ◌==◌, ℕ, List, [], ◌++◌, Option, Some, None, Result, Ok, Err, codes, decimal}
 use Rattle.std.specs.Prelude.{if◌then◌else◌}
+use Rattle.std.specs.declared.io.ErrorKind.{ErrorKind}
 use Rattle.clap.specs.Words.{Text}
 use Rattle.ans_model.specs.Text.RecordText.{named_line}
 use Rattle.ans_table.specs.declared.counts.Counts.{Counts}

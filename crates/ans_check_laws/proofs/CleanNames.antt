@@ -1,7 +1,7 @@
 -- A file's name is shown clean, and so is what is said with it.
 use Rattle.std.proofs.Common.{◌≡◌, ◌∙◌, ap₂, inl, inr, ℕ, ◌<◌, Bool, true, refl, subst, arith, append-nil, lit<, All}
 use Rattle.std.proofs.Common.{List, [], ◌∷◌, ◌++◌, Option, Some, None, codes, sym}
-use Rattle.std.specs.Prelude.{◌&&◌, nat_lt, nat_le, IfSome, Err, Ok, Result, MatchResult, encode_utf8, is_some, option_map}
+use Rattle.std.specs.Prelude.{◌&&◌, nat_lt, nat_le, IfSome, Err, Ok, Result, encode_utf8, is_some, option_map}
 use Rattle.std.specs.Prelude.{unwrap_or}
 use Rattle.std.specs.Borrow.{Bor}
 use Rattle.std.specs.Char.{IsScalar}
@@ -25,7 +25,8 @@ use Rattle.ans_table.specs.declared.unopened.Unopened.TheVariants.{Missing, Deni
 use Rattle.ans_table.proofs.NameLemmas.{shown_of}
 use Rattle.ans_check.specs.Answer.{message_of, named_message}
 use Rattle.ans_check.specs.Ending.{ending_message}
-use Rattle.ans_check.specs.Naming.{front_text, meant_text, missing_text, reason_told, unopened_text}
+use Rattle.ans_check.specs.Naming.{front_text, meant_text, meant_told, missing_text, reason_told}
+use Rattle.ans_check.specs.Naming.{unopened_text}
 use Rattle.ans_check.specs.declared.errors.RunError.TheVariants as error
 use Rattle.ans_check.specs.declared.exit_status.Ending.{Ending}
 use Rattle.ans_check.specs.declared.exit_status.Ending.TheVariants.{Run, UnopenedFile}
@@ -141,15 +142,16 @@ meant_clean name h meant.Topic =
     (clean_append (name_text (unwrap_or name [])) (codes "?") (named_clean name h)
     (pieces.plain_text (codes "?") refl))
 
+told_clean : {E : Type 0} (name : Option (List ℕ)) → IfSome name (All IsByte) → (m : Result Meant E)
+    → IsCleanText (meant_told name m)
+told_clean name h (Ok m) = meant_clean name h m
+told_clean name h (Err e) = clean_nil
+
 missing_clean : (n : Naming) → IsNameOfBytes n → IsCleanText (missing_text n)
 missing_clean n h =
-    clean_append (codes "no such file, and no such command") _
-    (pieces.plain_text (codes "no such file, and no such command") refl) (go n.meant)
-  where
-    go : {E : Type 0} (m : Result Meant E)
-        → IsCleanText (MatchResult m (λ meant. meant_text (option_map (λ name. name.now) n.name) meant) (λ _. []))
-    go (Ok m) = meant_clean (option_map (λ name. name.now) n.name) h m
-    go (Err e) = clean_nil
+    let name = option_map (λ name. name.now) n.name in
+    clean_append (codes "no such file, and no such command") (meant_told name n.meant)
+    (pieces.plain_text (codes "no such file, and no such command") refl) (told_clean name h n.meant)
 
 reason_clean : (reason : Unopened) → IsCleanText (reason_text reason)
 reason_clean Missing = pieces.plain_text (reason_text Missing) refl

@@ -1,8 +1,7 @@
 use Rattle.std.proofs.Common.{sym}
-use Rattle.ans_write.proofs.PutsLemmas.{Puts-then}
 use Rattle.ans_check.proofs.answering.put_reason.Goals as goal
 
 pub returns-then-is_missing : goal.returns-then-is_missing
 returns-then-is_missing g c =
     rw (c.if-naming.true, sym c.is_missing.ensures, c.if-is_missing.true)
-    (Puts-then c.put.ensures c.put_meant.ensures)
+    c.put_missing.ensures
