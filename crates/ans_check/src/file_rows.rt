@@ -87,7 +87,14 @@ fn tell_named<T: FileRows, I: Inputs, W: Write>(
         Ok(input) => input,
         Err(error) => {
             let reason = Unopened::of(&error);
-            return tell_given(alloc, rows, screens, out, name, Err(Unread::Unopened(reason)));
+            return tell_given(
+                alloc,
+                rows,
+                screens,
+                out,
+                name,
+                Err(Unread::Unopened(reason)),
+            );
         }
     };
     let mut reader = Tried::new(input);
