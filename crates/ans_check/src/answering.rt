@@ -10,7 +10,7 @@ ghost use Rattle.ans_write.specs.Puts.{Puts};
 ghost use Rattle.ans_write.specs.Tried.{has_failed};
 ghost use Rattle.ans_check.specs.Answer.{EndsAfter, EndsAsTold, EndsBy, EndsNamed, EndsServed, EndsSo, EndsWritten};
 ghost use Rattle.ans_check.specs.Answer.{IsNamed, PrintsHelp, Says, Tells, said_text};
-ghost use Rattle.ans_check.specs.Answer.{EndsExplained, EndsOne, EndsUnopened, EndsWhy, TellsFailure, is_check};
+ghost use Rattle.ans_check.specs.Answer.{EndsExplained, EndsOne, EndsWhy, TellsFailure, is_check};
 ghost use Rattle.ans_check.specs.Answer.{ending_of_table, ending_of_whys, meaning_text, message_of, named_message};
 ghost use Rattle.ans_check.specs.Ending.{ending_of_words};
 ghost use Rattle.ans_check.specs.Listing.{was_read_whole, names_in, listed_bytes};

@@ -1,6 +1,6 @@
 -- A file's name is shown clean, and so is what is said with it.
-use Rattle.std.proofs.Common.{◌≡◌, ◌∙◌, ap₂, inl, inr, ℕ, ◌<◌, Bool, true, refl, subst, arith, append-nil, lit<, All}
-use Rattle.std.proofs.Common.{List, [], ◌∷◌, ◌++◌, Option, Some, None, codes, sym}
+use Rattle.std.proofs.Common.{◌≡◌, ◌∙◌, ap₂, ℕ, ◌<◌, Bool, true, refl, subst, arith, append-nil, All, List, [], ◌∷◌}
+use Rattle.std.proofs.Common.{◌++◌, Option, Some, None, codes}
 use Rattle.std.specs.Prelude.{◌&&◌, nat_lt, nat_le, IfSome, Err, Ok, Result, encode_utf8, is_some, option_map}
 use Rattle.std.specs.Prelude.{unwrap_or}
 use Rattle.std.specs.Borrow.{Bor}

@@ -1,4 +1,4 @@
-use Rattle.std.proofs.Common.{Err, Ok, subst, sym}
+use Rattle.std.proofs.Common.{Err, Ok, sym}
 use Rattle.ans_table.specs.declared.finding.Unread.TheVariants as why
 use Rattle.ans_check.proofs.RowsLemmas.{not_read, row_of_named, was_read}
 use Rattle.ans_check.proofs.file_rows.tell_named.Goals as goal
