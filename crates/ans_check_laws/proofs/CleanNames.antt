@@ -96,8 +96,10 @@ all_escapes_printed = refl
 pub name_has_no_controls : (name : List ℕ) → All IsByte name → HasNoControls (name_text name)
 name_has_no_controls =
     shown_of HasNoControls no_controls_nil no_controls_append
-    (λ b lt. printed_text (ascii_shown b) (below_at (λ n. list_all is_printed (ascii_shown n)) 128 b all_ascii_printed lt))
-    (λ b lt. printed_text (byte_escape b) (below_at (λ n. list_all is_printed (byte_escape n)) 256 b all_escapes_printed lt))
+    (λ b lt. printed_text (ascii_shown b)
+    (below_at (λ n. list_all is_printed (ascii_shown n)) 128 b all_ascii_printed lt))
+    (λ b lt. printed_text (byte_escape b)
+    (below_at (λ n. list_all is_printed (byte_escape n)) 256 b all_escapes_printed lt))
     (λ c is shown. one_character c is (shown_no_control c shown))
 
 name_clean : (name : List ℕ) → All IsByte name → IsCleanText (name_text name)
