@@ -283,8 +283,8 @@ pub record SaysOf {E : Type 0} (contents : E → Option (List ℕ)) (errors erro
 -- The words ask for something, and the program ends with it. Words that clap reads, with their command, have no fault.
 pub record EndsAsAsked {R W E : Type 0} (remaining : R → Option (List ℕ)) (contents : W → Option (List ℕ))
     (told : E → Option (List ℕ)) (is_file : Text → R → Type 0) (is_standard : R → Type 0)
-    (fails : Text → ErrorKind → Type 0) (words : List Text) (output output_after : Tried W) (errors errors_after : Tried E) (ending : Ending)
-    : Type 0 where
+    (fails : Text → ErrorKind → Type 0) (words : List Text) (output output_after : Tried W)
+    (errors errors_after : Tried E) (ending : Ending) : Type 0 where
   pub asked : Asked
   pub asked_by : IsAskedBy words asked
   pub faultless : topic_of words ≡ None → faults_of (words_asked words) ≡ []

@@ -77,8 +77,8 @@ meant_by word =
     option_map_or meant.Command (near_command word)
     (if is_some (topic_named word) then meant.Topic else meant.Nothing)
 
--- Whether the first of these names may have been meant as a command: the words have none, and it has neither a dot nor a
--- slash.
+-- Whether the first of these names may have been meant as a command: the words have none, and it has neither a dot nor
+-- a slash.
 abbrev pub is_guessed : List Text → Option Text → Bool
 is_guessed words name = is_left_out words && is_word name
 

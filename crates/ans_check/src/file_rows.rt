@@ -39,8 +39,8 @@ pub(crate) trait FileRows {
         given: Result<&[u8], Unread>,
     ) -> Result<Outcome, AllocError>
         requires { IfOk (bytes_given given) (λ file. length file ≤ longest_file) }
-        ensures { PutsRow W.contents (may_lack self.now) (tells self.now name.now (bytes_given given.entry)) out.old out.new
-            result };
+        ensures { PutsRow W.contents (may_lack self.now) (tells self.now name.now (bytes_given given.entry))
+            out.old out.new result };
 }
 
 /// Puts the text of one file, and has it written and handed on.
@@ -54,8 +54,8 @@ fn tell_given<T: FileRows, W: Write>(
 ) -> Result<Outcome, RunError>
     requires ready { IsReady out.old }
     requires length { IfOk (bytes_given given) (λ file. length file ≤ longest_file) }
-    ensures { WritesRow W.contents (MayEndRows (T.may_lack rows.now)) (T.tells rows.now name.now (bytes_given given.entry))
-        out.old out.new result }
+    ensures { WritesRow W.contents (MayEndRows (T.may_lack rows.now))
+        (T.tells rows.now name.now (bytes_given given.entry)) out.old out.new result }
 {
     let Ok(outcome) = rows.put(alloc, screens, out, name, given) else {
         return Err(RunError::Memory);

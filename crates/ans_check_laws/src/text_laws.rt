@@ -51,8 +51,8 @@ pub fn texts_are_clean()
         → ending_message ending ≡ Some text → IsCleanText (message_line text) }
 {}
 
-/// A file's name is shown without control characters, whatever bytes it has. So the line on standard error that says why
-/// there is no answer is clean with the name of the input too, and with what may have been meant by it.
+/// A file's name is shown without control characters, whatever bytes it has. So the line on standard error that says
+/// why there is no answer is clean with the name of the input too, and with what may have been meant by it.
 pub fn names_are_shown_clean()
     ensures names { (name : List ℕ) → All IsByte name → HasNoControls (name_text name) }
     ensures messages { (naming : Naming) (ending : Ending) (text : List ℕ)

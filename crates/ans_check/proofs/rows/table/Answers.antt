@@ -30,8 +30,8 @@ returns-clause-table g c =
     let table =
     rows_behind g.W.Write.contents
     (TellsNamed g.I.Reader.Read.remaining (g.I.Inputs.is_file c.args.inputs) (g.I.Inputs.fails c.args.inputs)
-    (TellsFinding c.args.form)) (header c.args.form) (texts_of c.args.names.now) c.args.output.now (device_of c.tell_header.new.out)
-    (device_of c.tell_rows.new.out) c.tell_rows.result
+    (TellsFinding c.args.form)) (header c.args.form) (texts_of c.args.names.now) c.args.output.now
+    (device_of c.tell_header.new.out) (device_of c.tell_rows.new.out) c.tell_rows.result
     (rw c.new-out.ensures.unchanged at c.in_ok-tell_header.ensures.written) c.tell_rows.ensures.rows in
     search (rules, table)
 
