@@ -578,9 +578,9 @@ fn answer_refused<W: Write, E: Write>(
 /// each answer comes after a line with the file's name. For a table it reads all files that they name, or those whose
 /// names are on standard input, each ended by 00h. On `errors` it says why there is no answer: `anscheck: ` and the
 /// ending's message, with the file's name and the system's reason except for `check`, `sauce` and `tokens`; or
-/// `clap`'s text if the words are rejected. After a check that refuses the file for a fault of what is unknown of the start, F22
-/// to F25, it says there that `why` knows more. If help is asked for, its text goes to `output`. Which text `clap` gives
-/// is promised nowhere and only tested; so is it that `output` is flushed after its text. If the words ask
+/// `clap`'s text if the words are rejected. After a check that refuses the file for a fault of what is unknown of the
+/// start, F22 to F25, it says there that `why` knows more. If help is asked for, its text goes to `output`. Which text
+/// `clap` gives is promised nowhere and only tested; so is it that `output` is flushed after its text. If the words ask
 /// what a fault, a note or a word means, as `help F20`, its text goes there by itself: that takes no memory and
 /// reads no input.
 ///
