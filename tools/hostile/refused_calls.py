@@ -218,12 +218,18 @@ def is_said_of_files(kind, whole, ran):
             and ran.err == b"anscheck: %d of %d files not read\n" % (unread, len(answers)))
 
 
+def shown(word):
+    """A word as messages show a name: a backslash and control bytes are escaped."""
+    named = {"\\": "\\\\", "\t": "\\t", "\n": "\\n"}
+    return "".join(named.get(c, f"\\x{ord(c):02x}" if c < " " or c == "\x7f" else c) for c in word).encode()
+
+
 def is_said_of_a_file(kind, words, ran):
     """Whether standard error says that the file was not opened or not read: after its name, except of standard input
     and of `check`, `sauce` and `tokens`."""
     reason = IN_ROWS[kind].encode()
     fronts = [b""] if words[0] in ("check", "sauce", "tokens") else [
-        b"", *(word.encode() + b": " for word in words if word != "-")]
+        b"", *(shown(word) + b": " for word in words if word != "-")]
     return ran.err in [b"anscheck: " + front + reason + b"\n" for front in fronts]
 
 
@@ -233,9 +239,9 @@ def comes_as_it_must(kind, words, whole, ran):
     silent = ran.status == 2 and ran.out == b""
     if kind in IN_ROWS and answers_of(whole.out) and is_said_of_files(kind, whole, ran):
         return True
-    if kind in ("alloc", "alloc-from") and b"; did you mean " in whole.err:
-        return silent and (ran.err in MEMORY or ran.err == whole.err.partition(b"; did you mean ")[0] + b"\n"
-                           or ran.err == whole.err)
+    if kind in ("alloc", "alloc-from") and b"no such command" in whole.err:
+        message = whole.err.partition(b"; did you mean ")[0].rstrip(b"\n") + b"\n"
+        return silent and ran.err in (*MEMORY, message, whole.err)
     if kind in ("alloc", "alloc-from"):
         is_rejected = whole.err.startswith(REJECTED) and ran[:3] == whole[:3]
         return is_rejected or silent and ran.err in MEMORY or is_table and is_table_as_it_must(kind, whole, ran)
