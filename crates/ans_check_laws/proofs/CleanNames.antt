@@ -22,7 +22,7 @@ use Rattle.ans_table.specs.NameText.{ascii_shown, byte_escape, is_shown, name_te
 use Rattle.ans_table.specs.Unopened.{is_missing, plain_text, reason_text}
 use Rattle.ans_table.specs.declared.unopened.Unopened.{Unopened}
 use Rattle.ans_table.specs.declared.unopened.Unopened.TheVariants.{Missing, Denied, Folder, Other}
-use Rattle.ans_table.proofs.NameLemmas.{shown_of}
+use Rattle.ans_check_laws.proofs.ShownNames.{shown_of}
 use Rattle.ans_check.specs.Answer.{message_of, named_message}
 use Rattle.ans_check.specs.Ending.{ending_message}
 use Rattle.ans_check.specs.Naming.{front_text, meant_text, meant_told, missing_text, reason_told}

@@ -26,7 +26,7 @@ use Rattle.ans_check_laws.specs.CleanTexts.{IsControl, IsCleanCharacter, IsClean
 pub both_true : (a b : Bool) → a ≡ true → b ≡ true → (a && b) ≡ true
 both_true a b p q = rw (p, q) refl
 
-scalars_append : (xs ys : List ℕ) → all_scalars xs ≡ true → all_scalars ys ≡ true → all_scalars (xs ++ ys) ≡ true
+pub scalars_append : (xs ys : List ℕ) → all_scalars xs ≡ true → all_scalars ys ≡ true → all_scalars (xs ++ ys) ≡ true
 scalars_append [] ys h g = g
 scalars_append (x ∷ xs) ys h g =
     let parts = and_parts (scalar x) (all_scalars xs) h in

@@ -7,6 +7,7 @@ pub mod CleanLines
 pub mod CleanPlayers
 pub mod CleanWhy
 pub mod CleanReports
+mod ShownNames
 pub mod CleanNames
 pub mod CleanBytes
 pub mod ReturnsPut
