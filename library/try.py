@@ -130,6 +130,12 @@ def fault_and_bytes(lines):
     return f"{place_of_it}: {fault}", bytes_quoted
 
 
+def known_of(lines):
+    """The number of what why recognises. A file that passes blames nothing, and sequences of terminals have one."""
+    said = lines.get("is", "") if lines["verdict"] == "refused" else ""
+    return KNOWN.get(said.split(": ")[0], 0)
+
+
 def blame_lines(data, row, why, told_length):
     """What the row blames, by the lines of why, with which the row of the table has to agree."""
     lines = dict(line.split(": ", 1) for line in why.splitlines() if ": " in line)
@@ -142,7 +148,7 @@ def blame_lines(data, row, why, told_length):
                            or place(low) != f"{row.get('row', 0)} {row.get('column', 0)}"):
         return f"why and the table differ: {fault}, {low}, {row}\n"
     return (f"fault {fault_of(fault)}\n{blamed(data, at, bytes_quoted, told_length)}low {place(low)}\n"
-            f"high {place(high)}\nknown {KNOWN.get(lines.get('is'), 0)}\nlines {least}\nmends {int('fix' in lines)}\n")
+            f"high {place(high)}\nknown {known_of(lines)}\nlines {least}\nmends {int('fix' in lines)}\n")
 
 
 def parts_lines(data, row):

@@ -56,11 +56,13 @@ function whyLines(row) {
 const NAMES = "verdict|needs|players|needs on all players|taller screens|fault|because|is|fix|lines";
 const KEPT = new RegExp(`^(?:${NAMES}): |^(?:cursor|from the (?:top left|bottom right)): row `);
 
-/** A line without the bytes of a fault, and without what comes after a number of lines. */
+/** A line without the bytes of a fault, without what comes after a number of lines, and without what a sequence does. */
 const withoutMore = (line) => line.replace(/^(lines: \d+), but the rows look broken$/, "$1")
-  .replace(/^((?:fault|because): at \d+, F[^:]*): .*$/, "$1");
+  .replace(/^((?:fault|because): at \d+, F[^:]*): .*$/, "$1")
+  .replace(/^(is: a sequence of modern terminals): .*$/, "$1");
 
-/** Those lines of a text of `why`. */
-const toldLines = (text) => text.split("\n").filter((line) => KEPT.test(line)).map(withoutMore);
+/** Those lines of a text of `why`. A row says what is recognised only of a file that is refused. */
+const toldLines = (text) => text.split("\n").filter((line) => KEPT.test(line)).map(withoutMore)
+  .filter((line) => !line.startsWith("is: ") || text.includes("verdict: refused\n"));
 
 export { jsonRow, toldLines, whyLines };
