@@ -9,17 +9,28 @@ pub struct Mends {
     /// The width of the record that is added to a file without one, in columns: 1 to 1024. Its lines are
     /// those of `lines`, or without that number the least with which the drawing passes.
     pub add_record: Option<u16>,
+    /// The width that the record is to state, in columns: 1 to 1024.
+    pub columns: Option<u16>,
     /// Whether a return is added before each line feed of a drawing that has no return.
     pub crlf: bool,
-    /// Whether sequences that are refused are removed, and as few line ends at the very end as must go.
+    /// Whether sequences that are refused are removed, and as little at the very end as must go: line ends,
+    /// bytes 00h, and places and modes after which nothing is printed.
     /// The sequences are screen modes, font selections, music, 24-bit colours, reports that are asked for,
     /// reassigned keys, and an unfinished one at the end.
     pub take_out: bool,
     /// Whether the line ends after full rows are removed, if each full row has one.
     pub join_rows: bool,
+    /// Whether `crlf` and `join_rows` also change a drawing in which only some line feeds have no return, or
+    /// only some full rows have a line end: those that need it.
+    pub mixed: bool,
     /// Whether colour sequences with a 0 or an omitted number name the foreground and the background after
     /// it, 37 and 40, if something is printed or cleared in a player's own colours.
     pub name_colours: bool,
+    /// Whether the record's flag for bright backgrounds is set.
+    pub ice: bool,
+    /// Whether an older record after which nothing of a drawing follows is removed, and the number of comments
+    /// that the record counts is set to those that are there, if only one reading is possible.
+    pub repair_record: bool,
     /// Whether the least number of lines with which the drawing passes is stated, if those that the
     /// record states are too few, or none are. A number in `lines` is stated instead.
     pub least_lines: bool,
@@ -32,10 +43,14 @@ impl Mends {
     /// Nothing but what is mended by itself.
     pub const NONE: Mends = Mends {
         add_record: None,
+        columns: None,
         crlf: false,
         take_out: false,
         join_rows: false,
+        mixed: false,
         name_colours: false,
+        ice: false,
+        repair_record: false,
         least_lines: false,
         lines: None,
     };
@@ -57,8 +72,20 @@ impl Mends {
                 join_rows: asked,
                 ..self
             },
+            MendStep::Mixed => Mends {
+                mixed: asked,
+                ..self
+            },
             MendStep::NameColours => Mends {
                 name_colours: asked,
+                ..self
+            },
+            MendStep::Ice => Mends {
+                ice: asked,
+                ..self
+            },
+            MendStep::RepairRecord => Mends {
+                repair_record: asked,
                 ..self
             },
             MendStep::LeastLines => Mends {
@@ -75,7 +102,10 @@ pub enum MendStep {
     TakeOut,
     Crlf,
     JoinRows,
+    Mixed,
     NameColours,
+    Ice,
+    RepairRecord,
     LeastLines,
 }
 
@@ -91,7 +121,7 @@ pub struct MendFlag {
     pub help: &'static str,
 }
 
-const MEND_FLAGS: [MendFlag; 5] = [
+const MEND_FLAGS: [MendFlag; 8] = [
     MendFlag {
         step: MendStep::TakeOut,
         name: "take-out",
@@ -111,10 +141,28 @@ const MEND_FLAGS: [MendFlag; 5] = [
         help: "Remove line ends after full rows, if each has one",
     },
     MendFlag {
+        step: MendStep::Mixed,
+        name: "mixed",
+        bit: 32,
+        help: "With --crlf or --join-rows: if only some need it",
+    },
+    MendFlag {
         step: MendStep::NameColours,
         name: "name-colours",
         bit: 16,
         help: "Add 37 and 40 after a 0 that something is printed in",
+    },
+    MendFlag {
+        step: MendStep::Ice,
+        name: "ice",
+        bit: 64,
+        help: "Set the flag for bright backgrounds",
+    },
+    MendFlag {
+        step: MendStep::RepairRecord,
+        name: "record",
+        bit: 128,
+        help: "Remove an older record, and set the comment count",
     },
     MendFlag {
         step: MendStep::LeastLines,
