@@ -74,11 +74,14 @@ enum {
 
 /* What ans_mend may change besides what it changes without being asked, added up: the flags of `anscheck mend`. */
 enum {
-    ANS_TAKE_OUT = 1,    /* remove refused sequences, such as screen modes, and line ends at the end that scroll */
-    ANS_CRLF = 2,        /* turn line feeds into CR LF, if the drawing has no CR */
-    ANS_JOIN_ROWS = 4,   /* remove the line ends after full rows, if each full row has one */
-    ANS_LEAST_LINES = 8, /* set the smallest number of lines that works, if the record has too few, or none */
-    ANS_NAME_COLOURS = 16 /* add 37 and 40 after a 0 that something is printed in */
+    ANS_TAKE_OUT = 1,      /* remove refused sequences, such as screen modes, and what scrolls at the very end */
+    ANS_CRLF = 2,          /* turn line feeds into CR LF, if the drawing has no CR */
+    ANS_JOIN_ROWS = 4,     /* remove the line ends after full rows, if each full row has one */
+    ANS_LEAST_LINES = 8,   /* set the smallest number of lines that works, if the record has too few, or none */
+    ANS_NAME_COLOURS = 16, /* add 37 and 40 after a 0 that something is printed in */
+    ANS_MIXED = 32,        /* with ANS_CRLF or ANS_JOIN_ROWS: if only some need it */
+    ANS_ICE = 64,          /* set the flag for bright backgrounds */
+    ANS_RECORD = 128       /* remove an older record, and set the comment count */
 };
 
 /* Why a file is refused: n for the fault Fn, and its offset. For F25 the row and the column of the cell, counted
@@ -197,8 +200,8 @@ enum ans_answer ans_row_on(const uint8_t *file, size_t file_len, struct ans_scre
                            uint8_t *bytes, size_t bytes_len, struct ans_row *row);
 enum ans_answer ans_why_on(const uint8_t *file, size_t file_len, struct ans_screen_row *rows, size_t rows_len,
                            uint8_t *bytes, size_t bytes_len, char *text, size_t text_len, size_t *length);
-enum ans_answer ans_mend_on(const uint8_t *file, size_t file_len, uint32_t classes, uint32_t add_record, uint32_t lines,
-                            struct ans_screen_row *rows, size_t rows_len, uint8_t *bytes, size_t bytes_len,
+enum ans_answer ans_mend_on(const uint8_t *file, size_t file_len, uint32_t classes, uint32_t add_record,
+                            uint32_t columns, uint32_t lines, struct ans_screen_row *rows, size_t rows_len, uint8_t *bytes, size_t bytes_len,
                             uint8_t *draft, size_t draft_len, uint8_t *mended, size_t mended_len, size_t *size,
                             char *text, size_t text_len, size_t *length);
 enum ans_answer ans_redraw_on(const uint8_t *file, size_t file_len, struct ans_screen_row *rows, size_t rows_len,
@@ -289,30 +292,31 @@ static inline enum ans_answer ans_why(const uint8_t *file, size_t file_len, void
 
 /* Fixes a file as `anscheck mend` does, so that it passes from every start, and gives the text of that.
  * `classes` is a sum of ANS_TAKE_OUT and those below it; other bits are ignored. `add_record` is the columns of the
- * record that is added to a file without one, 1 to 1024, or 0 for no record; `lines` the number of lines that is set
- * if the record has too few or none, 1 to 8192, or 0 for none. `draft` and `mended` need file_len + ANS_MENDING_ROOM
+ * record that is added to a file without one, 1 to 1024, or 0 for no record; `columns` those that the record is to
+ * state, 1 to 1024, or 0 for no others; `lines` the number of lines that is set if the record has too few or none, 1 to
+ * 8192, or 0 for none. `draft` and `mended` need file_len + ANS_MENDING_ROOM
  * bytes, with ANS_CRLF one more for each line feed of the file; and with ANS_NAME_COLOURS 9 * file_len + 8 instead of
  * file_len, or ANS_LONGEST_FILE if that is less.
  * `scratch` is for the screen of the fixed file, which may have another number of lines. ANS_MOST_SCRATCH is always
- * enough. If ans_size answers ANS_PASS for the file, 8193 * (24 + 4 * columns) is enough; and without `lines` and
- * ANS_LEAST_LINES what it says. For any other file 4120 bytes for each line of the fixed one, and for one line more,
+ * enough. If `columns` is 0 and ans_size answers ANS_PASS for the file, 8193 * (24 + 4 * its columns) is enough; and
+ * without `lines` and ANS_LEAST_LINES what it says. For any other file 4120 bytes for each line of the fixed one, and for one line more,
  * are enough.
  * ANS_PASS: `mended` begins with the fixed file, `size` says how many bytes it has, and the text says what was changed,
  * a line for each kind of change. If nothing had to be changed, the fixed file is the file, and the text is empty.
  * ANS_REFUSED: the file cannot be fixed this way, `size` is 0, and the text says why. After both `text` begins with
  * the text, and `length` says how many bytes it has. ANS_TOO_LONG. ANS_WRONG_NUMBER: the file is not too long, and
- * `add_record` or `lines` is above its largest. ANS_NO_ROOM: `text` has fewer bytes than `length` then says, and
+ * `add_record`, `columns` or `lines` is above its largest. ANS_NO_ROOM: `text` has fewer bytes than `length` then says, and
  * `mended` and `size` are as after ANS_PASS or ANS_REFUSED; or `length` is 0, and another array is too small. If there
  * is neither a fixed file nor a text, `size` and `length` are 0. */
 static inline enum ans_answer ans_mend(const uint8_t *file, size_t file_len, uint32_t classes, uint32_t add_record,
-                                       uint32_t lines, void *scratch, size_t scratch_len, uint8_t *draft,
-                                       size_t draft_len, uint8_t *mended, size_t mended_len, size_t *size, char *text,
-                                       size_t text_len, size_t *length) {
+                                       uint32_t columns, uint32_t lines, void *scratch, size_t scratch_len,
+                                       uint8_t *draft, size_t draft_len, uint8_t *mended, size_t mended_len,
+                                       size_t *size, char *text, size_t text_len, size_t *length) {
     struct ans_size stated;
     struct ans_fault fault;
-    size_t columns = ans_size(file, file_len, &stated, &fault) == ANS_PASS ? stated.columns : 1024;
-    struct ans_split split = ans_split_scratch(scratch, scratch_len, columns, ANS_MOST_ROWS);
-    return ans_mend_on(file, file_len, classes, add_record, lines, split.rows, split.rows_len, split.bytes,
+    int is_known = columns == 0 && ans_size(file, file_len, &stated, &fault) == ANS_PASS;
+    struct ans_split split = ans_split_scratch(scratch, scratch_len, is_known ? stated.columns : 1024, ANS_MOST_ROWS);
+    return ans_mend_on(file, file_len, classes, add_record, columns, lines, split.rows, split.rows_len, split.bytes,
                        split.bytes_len, draft, draft_len, mended, mended_len, size, text, text_len, length);
 }
 

@@ -118,8 +118,8 @@ static inline enum ans_answer ans_record_easily(const uint8_t *file, size_t file
 
 /* Fixes a file as ans_mend does. ANS_PASS: `mended` has `size` bytes, and is freed by free. Otherwise it is NULL. */
 static inline enum ans_answer ans_mend_easily(const uint8_t *file, size_t file_len, uint32_t classes,
-                                              uint32_t add_record, uint32_t lines, uint8_t **mended, size_t *size,
-                                              char **text) {
+                                              uint32_t add_record, uint32_t columns, uint32_t lines,
+                                              uint8_t **mended, size_t *size, char **text) {
     size_t room = file_len + ANS_MENDING_ROOM, length = 0;
     enum ans_answer answer = ANS_NO_MEMORY;
     *mended = NULL;
@@ -135,8 +135,8 @@ static inline enum ans_answer ans_mend_easily(const uint8_t *file, size_t file_l
     *mended = (uint8_t *)malloc(room);
     *text = (char *)malloc(ANS_LONGEST_TEXT + 1);
     if (scratch && draft && *mended && *text)
-        answer = ans_mend(file, file_len, classes, add_record, lines, scratch, ANS_MOST_SCRATCH, draft, room, *mended,
-                          room, size, *text, ANS_LONGEST_TEXT, &length);
+        answer = ans_mend(file, file_len, classes, add_record, columns, lines, scratch, ANS_MOST_SCRATCH, draft, room,
+                          *mended, room, size, *text, ANS_LONGEST_TEXT, &length);
     free(scratch);
     free(draft);
     if (answer != ANS_PASS) {

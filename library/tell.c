@@ -97,7 +97,7 @@ static void tell_mend(size_t file_len, uint32_t classes, uint32_t add_record) {
     uint8_t *mended;
     size_t size = 0;
     char *text;
-    enum ans_answer answer = ans_mend_easily(file, file_len, classes, add_record, 0, &mended, &size, &text);
+    enum ans_answer answer = ans_mend_easily(file, file_len, classes, add_record, 0, 0, &mended, &size, &text);
     printf("mend %u %u", classes, add_record);
     tell_file(answer, mended, size);
     tell_text("mended", answer, text);
@@ -144,7 +144,9 @@ int main(int argc, char **argv) {
     tell_row(file_len);
     tell_texts(file_len);
     tell_mend(file_len, 0, 0);
-    tell_mend(file_len, ANS_TAKE_OUT | ANS_CRLF | ANS_JOIN_ROWS | ANS_LEAST_LINES | ANS_NAME_COLOURS, 80);
+    tell_mend(file_len,
+              ANS_TAKE_OUT | ANS_CRLF | ANS_JOIN_ROWS | ANS_LEAST_LINES | ANS_NAME_COLOURS | ANS_MIXED | ANS_ICE | ANS_RECORD,
+              80);
     tell_redraw(file_len);
     return 0;
 }

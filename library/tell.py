@@ -130,7 +130,7 @@ class Checker:
         screen = ((ScreenRow * MOST_ROWS)(), MOST_ROWS, *room(MOST_BYTES))
         mended, size = room(count), c_size_t()
         answer, text, length = text_of(
-            self.library.ans_mend_on, *self.file, classes, add_record, 0, *screen, *room(count), *mended, byref(size))
+            self.library.ans_mend_on, *self.file, classes, add_record, 0, 0, *screen, *room(count), *mended, byref(size))
         return answer, bytes(mended[0][: size.value]) if answer == PASS else b"", text, length
 
     def redraw_in(self, count):
@@ -208,7 +208,7 @@ def tell(checker):
     yield from row_lines(checker.file[0], *checker.row())
     yield from text_lines("why", *text_of(checker.library.ans_why_on, *checker.file, *checker.screen))
     yield from text_lines("record", *text_of(checker.library.ans_record, *checker.file))
-    for classes, add_record in ((0, 0), (31, 80)):
+    for classes, add_record in ((0, 0), (255, 80)):
         yield from file_lines(f"mend {classes} {add_record}", "mended", *checker.mend(classes, add_record))
     yield from file_lines("redraw", "redrawn", *checker.redraw())
 

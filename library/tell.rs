@@ -128,8 +128,8 @@ unsafe extern "C" {
         text: *mut u8, text_len: usize, length: &mut usize,
     ) -> u32;
     fn ans_mend_on(
-        file: *const u8, file_len: usize, classes: u32, add_record: u32, lines: u32, rows: *mut ScreenRow,
-        rows_len: usize, bytes: *mut u8, bytes_len: usize, draft: *mut u8, draft_len: usize, mended: *mut u8,
+        file: *const u8, file_len: usize, classes: u32, add_record: u32, columns: u32, lines: u32,
+        rows: *mut ScreenRow, rows_len: usize, bytes: *mut u8, bytes_len: usize, draft: *mut u8, draft_len: usize, mended: *mut u8,
         mended_len: usize, size: &mut usize, text: *mut u8, text_len: usize, length: &mut usize,
     ) -> u32;
     fn ans_redraw_on(
@@ -211,7 +211,7 @@ impl Checker {
         let (mut draft, mut mended, mut size) = (vec![0u8; room], vec![0u8; room], 0);
         let answer = unsafe {
             ans_mend_on(
-                self.file.as_ptr(), self.file.len(), classes, add_record, 0, rows.as_mut_ptr(), rows.len(),
+                self.file.as_ptr(), self.file.len(), classes, add_record, 0, 0, rows.as_mut_ptr(), rows.len(),
                 bytes.as_mut_ptr(), bytes.len(), draft.as_mut_ptr(), draft.len(), mended.as_mut_ptr(), mended.len(),
                 &mut size, text.as_mut_ptr(), text.len(), length,
             )

@@ -33,8 +33,9 @@ PLAYERS = {word: 1 << i for i, word in enumerate(tables.kinds().values())}
 KNOWN = {text: i + 1 for i, text in enumerate(tables.known().values())}
 ASPECTS = {"stretch": 1, "square": 2}
 CLASSES = {0: [], 3: ["--known-screen", "--known-cursor"], 31: ["--cleared"]}
-ALL_CHANGES = ["--take-out", "--crlf", "--join-rows", "--least-lines", "--name-colours", "--add-record", "80"]
-CHANGES = {(0, 0): [], (31, 80): ALL_CHANGES}
+ALL_CHANGES = ["--take-out", "--crlf", "--join-rows", "--least-lines", "--name-colours", "--mixed", "--ice",
+               "--record", "--add-record", "80"]
+CHANGES = {(0, 0): [], (255, 80): ALL_CHANGES}
 # Where a record has its texts (docs/PROFILE.md), from the file's end, and how long these are.
 PLACES = {"font": (22, 22), "date": (46, 8), "title": (121, 35), "author": (86, 20), "group": (66, 20)}
 FLAGS = 23

@@ -24,9 +24,10 @@ const CLASSES = [[0, []], [3, ["--known-screen", "--known-cursor"]], [31, ["--cl
 
 /** What may be changed, by the sums and numbers of the module and by the flags of the program. */
 const MENDS = [
-  [[0, 0, 0], []],
-  [[31, 80, 0], ["--take-out", "--crlf", "--join-rows", "--least-lines", "--name-colours", "--add-record", "80"]],
-  [[3, 0, 30], ["--take-out", "--crlf", "--lines", "30"]],
+  [[0, 0, 0, 0], []],
+  [[255, 80, 0, 0], ["--take-out", "--crlf", "--join-rows", "--least-lines", "--name-colours", "--mixed", "--ice",
+    "--record", "--add-record", "80"]],
+  [[3, 0, 40, 30], ["--take-out", "--crlf", "--columns", "40", "--lines", "30"]],
 ];
 
 /** The module that is packed in the page. */

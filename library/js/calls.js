@@ -93,9 +93,9 @@ class Checker {
 
   /**
    * The fixed file, and what was changed; or why there is none. What may be changed besides what is changed without
-   * being asked is a sum of CLASSES, the columns of a record to add, and a number of lines, each 0 for none.
+   * being asked is a sum of CLASSES, the columns of a record to add, the columns and the lines to state, each 0 for none.
    */
-  mend(classes, addRecord, lines) {
+  mend(classes, addRecord, columns, lines) {
     return this.borrowing(() => {
       const room = this.mendingRoom(classes);
       const screen = this.screenOf(MOST_ROWS, MOST_BYTES);
@@ -104,7 +104,7 @@ class Checker {
       const text = this.array(FIRST_TEXT_ROOM);
       const size = this.take(LENGTH_BYTES);
       const answer = ANSWERS[this.exports.ans_mend_on(
-        ...this.file, classes, addRecord, lines, ...screen, ...draft, ...mended, size, ...text, this.length)];
+        ...this.file, classes, addRecord, columns, lines, ...screen, ...draft, ...mended, size, ...text, this.length)];
       if (answer === "no room") throw new Error("ans_mend_on has too little room");
       const changes = new TextDecoder().decode(this.bytesOf(text).subarray(0, this.numberAt(this.length)));
       const bytes = answer === "pass" ? this.bytesOf(mended).slice(0, this.numberAt(size)) : null;

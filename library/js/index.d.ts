@@ -156,18 +156,26 @@ export interface NotMade {
 
 /** What may be changed to fix a file besides what is changed without being asked: the flags of `anscheck mend`. */
 export interface MendOptions {
-  /** Remove refused sequences, such as screen modes, and as few line ends at the very end as must go. */
+  /** Remove refused sequences, such as screen modes, and as little that draws nothing at the very end as must go. */
   takeOut?: boolean;
   /** Turn line feeds into CR LF, if the drawing has no CR. */
   crlf?: boolean;
   /** Remove the line ends after full rows, if each full row has one. */
   joinRows?: boolean;
+  /** With `crlf` or `joinRows`: if only some need it. */
+  mixed?: boolean;
   /** Set the smallest number of lines that works, if the record has too few or none. */
   leastLines?: boolean;
   /** Add 37 and 40 after a 0 that something is printed in. */
   nameColours?: boolean;
+  /** Set the flag for bright backgrounds. */
+  ice?: boolean;
+  /** Remove an older record, and set the comment count. */
+  record?: boolean;
   /** Add a record for that many columns, if there is none: 1 to 1024. */
   addRecord?: number;
+  /** Set the record's width, in columns: 1 to 1024. */
+  columns?: number;
   /** Set that many lines, if the record has too few or none: 1 to 8192. */
   lines?: number;
 }

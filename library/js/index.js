@@ -7,7 +7,7 @@ import { partsIn } from "./row.js";
 const MODULE = new URL("anscheck.wasm", import.meta.url);
 const MOST_COLUMNS = 1024;
 const MOST_LINES = 8192;
-const OPTIONS = [...Object.keys(CLASSES), "addRecord", "lines"];
+const OPTIONS = [...Object.keys(CLASSES), "addRecord", "columns", "lines"];
 const TOO_LONG = "too long";
 
 /**
@@ -117,9 +117,10 @@ class Checker {
    *
    * @param {Uint8Array | ArrayBuffer} file
    * @param {object} [options] what may be changed besides what is changed without being asked, as the flags of
-   *   `anscheck mend`: `takeOut`, `crlf`, `joinRows`, `leastLines` and `nameColours` are true or false; `addRecord` is
-   *   the columns of the record that is added to a file without one, 1 to 1024; `lines` the number of lines that is set
-   *   if the record has too few or none, 1 to 8192.
+   *   `anscheck mend`: `takeOut`, `crlf`, `joinRows`, `mixed`, `nameColours`, `ice`, `record` and `leastLines` are true
+   *   or false; `addRecord` is the columns of the record that is added to a file without one, 1 to 1024; `columns` those
+   *   that the record is to state, 1 to 1024; `lines` the number of lines that is set if the record has too few or none,
+   *   1 to 8192.
    * @returns {object} `{ verdict: "pass", file, text }`: the fixed file as a `Uint8Array`, and what was changed, a line
    *   for each kind of change, or an empty text. Or `{ verdict: "refused", text }`: why the file cannot be fixed this
    *   way. Or `{ verdict: "too long" }`.
@@ -127,8 +128,8 @@ class Checker {
    * @throws {RangeError} if the columns or the lines are out of bounds.
    */
   mend(file, options = {}) {
-    const { classes, addRecord, lines } = changesAsked(options);
-    return this.#answer(file, (calls) => withFile(calls.mend(classes, addRecord, lines)));
+    const { classes, addRecord, columns, lines } = changesAsked(options);
+    return this.#answer(file, (calls) => withFile(calls.mend(classes, addRecord, columns, lines)));
   }
 
   /**
@@ -218,7 +219,8 @@ function changesAsked(options) {
   if (unknown !== undefined) throw new TypeError(`${unknown} is none of the options ${OPTIONS.join(", ")}`);
   const classes = Object.keys(CLASSES).reduce((sum, name) => sum + (isAsked(options, name) ? CLASSES[name] : 0), 0);
   const addRecord = numberAsked(options, "addRecord", MOST_COLUMNS);
-  return { classes, addRecord, lines: numberAsked(options, "lines", MOST_LINES) };
+  const columns = numberAsked(options, "columns", MOST_COLUMNS);
+  return { classes, addRecord, columns, lines: numberAsked(options, "lines", MOST_LINES) };
 }
 
 function isAsked(options, name) {

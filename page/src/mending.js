@@ -54,6 +54,7 @@ class Mending {
     return {
       classes: boxes.reduce((sum, box) => sum + Number(box.value), 0),
       addRecord: numberIn("add-record"),
+      columns: numberIn("columns"),
       lines: numberIn("lines"),
     };
   }

@@ -51,7 +51,7 @@ function takenOut(changes) {
 /** The picture of a copy that is fixed this way, with what it is without; or nothing. */
 function pictureMended(file, classes) {
   checker.open(file);
-  const { answer, changes, bytes } = checker.mend(classes, 0, 0);
+  const { answer, changes, bytes } = checker.mend(classes, 0, 0, 0);
   const without = answer === "pass" ? takenOut(changes) : { count: 0 };
   if (without.count === 0) return null;
   checker.open(bytes);
@@ -110,9 +110,9 @@ const shownFrom = (picture, record) => ({
 });
 
 /** The fixed file, what was changed, and what is said of it with its picture; or why there is none. */
-function mend(file, { classes, addRecord, lines }) {
+function mend(file, { classes, addRecord, columns, lines }) {
   checker.open(file);
-  const { answer, changes, bytes } = checker.mend(classes, addRecord, lines);
+  const { answer, changes, bytes } = checker.mend(classes, addRecord, columns, lines);
   if (answer !== "pass") return { answer, changes, bytes: null, row: null, picture: null };
   checker.open(bytes);
   const { row } = checker.row();

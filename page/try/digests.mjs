@@ -4,7 +4,10 @@
 //
 // Node prints a line for each .ans file of FOLDER, in the order of their names: its digest, a blank and its name.
 
-const ALL_CHANGES = { takeOut: true, crlf: true, joinRows: true, leastLines: true, nameColours: true, addRecord: 80 };
+const ALL_CHANGES = {
+  takeOut: true, crlf: true, joinRows: true, leastLines: true, nameColours: true, mixed: true, ice: true, record: true,
+  addRecord: 80,
+};
 const CHANGES = [{}, ALL_CHANGES, { lines: 30 }];
 const STARTS = ["any", "cleared", ["screen", "cursor"]];
 

@@ -56,10 +56,13 @@ abbrev pub number_or_none : ℕ → Option ℕ
 number_or_none number = if number == 0 then None else Some number
 
 -- what bits and numbers ask for in a file that is fixed
-abbrev pub mends_of : ℕ → ℕ → ℕ → Mends
-mends_of classes add_record lines =
-    with_given (λ f. has_bit classes f.bit)
-    (record no_mends.NONE { add_record = number_or_none add_record; lines = number_or_none lines }) mend_flags
+abbrev pub mends_of : ℕ → ℕ → ℕ → ℕ → Mends
+mends_of classes add_record columns lines =
+    with_given (λ f. has_bit classes f.bit) (record no_mends.NONE {
+      add_record = number_or_none add_record;
+      columns = number_or_none columns;
+      lines = number_or_none lines;
+    }) mend_flags
 
 -- the size, and what is to be lent for a play of it and for its picture
 pub record IsSizeOf (z : Size) (told : PictureSize) : Type 0 where

@@ -97,9 +97,10 @@ fn put_answer<W: Write>(out: &mut Outbox<'_, W>, asked: &Mends, answer: &Result<
 
 /// Fixes a file as `anscheck mend` does, and hands over the text of that. `classes` names what may be changed
 /// besides what is changed without being asked, by the flags of `anscheck mend`, added up: 1 `--take-out`,
-/// 2 `--crlf`, 4 `--join-rows`, 8 `--least-lines`, 16 `--name-colours`. `add_record` is the columns of the
-/// record that is added to a file without one, at most 1024, and `lines` the number of lines that is set if
-/// the record has too few or none, at most 8192; 0 asks for neither.
+/// 2 `--crlf`, 4 `--join-rows`, 8 `--least-lines`, 16 `--name-colours`, 32 `--mixed`, 64 `--ice`,
+/// 128 `--record`. `add_record` is the columns of the record that is added to a file without one, and
+/// `columns` those that the record is to state, each at most 1024; `lines` is the number of lines that is set
+/// if the record has too few or none, at most 8192. 0 asks for none of these.
 ///
 /// `draft` and `mended` need as many bytes as the file has and 155 more, with `--crlf` one more for each line
 /// feed, and with `--name-colours` 16,777,216 instead of the file's own; `rows` and `bytes` as many as a check
@@ -108,7 +109,7 @@ fn put_answer<W: Write>(out: &mut Outbox<'_, W>, asked: &Mends, answer: &Result<
 /// `PASS`: `mended` begins with the fixed file, `size` is how many bytes it has, and the text says what was
 /// changed. It passes from every start. `REFUSED`: the file cannot be fixed this way, `size` is 0, and the
 /// text says why. `text` begins with the text, and `told` is how many bytes it has. `TOO_LONG`: the file is
-/// too long. `WRONG_NUMBER`: it is not, but `add_record` or `lines` is above its largest. `NO_ROOM`: an array
+/// too long. `WRONG_NUMBER`: it is not, but `add_record`, `columns` or `lines` is above its largest. `NO_ROOM`: an array
 /// is too small. If only `text` is, `told` is how many bytes the text has, and all but the text is as it is
 /// after `PASS` or `REFUSED`. In any other case `size` and `told` are 0.
 #[unsafe(no_mangle)]
@@ -116,6 +117,7 @@ pub extern "C" fn ans_mend_on(
     file: &[u8],
     classes: u32,
     add_record: u32,
+    columns: u32,
     lines: u32,
     rows: &mut [LentRow],
     bytes: &mut [u8],
@@ -126,14 +128,15 @@ pub extern "C" fn ans_mend_on(
     told: &mut usize,
 ) -> u32
     ensures handed { result ≢ TOO_LONG → result ≢ WRONG_NUMBER
-        → (HandsReport (ReportsMending (mends_of classes add_record lines) file.now (take size.new mended.new))
+        → (HandsReport (ReportsMending (mends_of classes add_record columns lines) file.now (take size.new mended.new))
         (length text.old) result told.new text.new
         ⊎ ((result ≡ NO_ROOM) × (told.new ≡ 0) × (size.new ≡ 0)
-        × LacksMendingRoom (mends_of classes add_record lines) file.now (length rows.old) (length bytes.old)
+        × LacksMendingRoom (mends_of classes add_record columns lines) file.now (length rows.old) (length bytes.old)
         (length draft.old) (length mended.old))) }
     ensures too_long { (result ≡ TOO_LONG) ↔ (longest_file < length file.now) }
     ensures wrong_number { (result ≡ WRONG_NUMBER)
-        ↔ ((length file.now ≤ longest_file) × ((most_columns < add_record) ⊎ (most_lines < lines))) }
+        ↔ ((length file.now ≤ longest_file) × ((most_columns < add_record)
+        ⊎ (most_columns < columns) ⊎ (most_lines < lines))) }
     ensures silent { (result ≡ TOO_LONG) ⊎ (result ≡ WRONG_NUMBER) → (told.new ≡ 0) × (size.new ≡ 0) }
     ensures codes { (result ≤ WRONG_NUMBER) × (result ≢ 2) }
 {
@@ -142,10 +145,11 @@ pub extern "C" fn ans_mend_on(
     if file.len() > MAX_FILE {
         return TOO_LONG;
     }
-    if add_record as usize > MAX_WIDTH || lines as usize > MAX_LINES {
+    let widest = add_record.max(columns) as usize;
+    if widest > MAX_WIDTH || lines as usize > MAX_LINES {
         return WRONG_NUMBER;
     }
-    let mends = mends_of(classes, add_record, lines);
+    let mends = mends_of(classes, add_record, columns, lines);
     let mut screens = LentScreens::new(rows, bytes);
     let Some((answer, count)) = mend_in(file, &mends, &mut screens, draft, mended) else {
         return NO_ROOM;

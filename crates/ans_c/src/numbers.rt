@@ -112,14 +112,16 @@ fn with_bits(mends: Mends, bits: u32, flags: &[MendFlag]) -> Mends
 }
 
 /// What these bits and numbers ask for in a file that is fixed: the bits of the flags ([`mend_flags`]), the columns of
-/// a record to add, and a number of lines, if they are not 0. Other bits are ignored.
-pub(crate) fn mends_of(classes: u32, add_record: u32, lines: u32) -> Mends
+/// a record to add, the columns and the lines to state, if they are not 0. Other bits are ignored.
+pub(crate) fn mends_of(classes: u32, add_record: u32, columns: u32, lines: u32) -> Mends
     requires add_record { add_record ≤ most_columns }
+    requires columns { columns ≤ most_columns }
     requires lines { lines ≤ most_lines }
-    ensures { result ≡ mends_of classes add_record lines }
+    ensures { result ≡ mends_of classes add_record columns lines }
 {
     let numbers = Mends {
         add_record: number_or_none(add_record as u16),
+        columns: number_or_none(columns as u16),
         lines: number_or_none(lines as u16),
         ..Mends::NONE
     };

@@ -351,11 +351,13 @@ impl LentForMending {
     }
 
     /// What `ans_mend_on` answers about a file.
-    fn mend(&mut self, file: &[u8], classes: u32, add_record: u32, lines: u32) -> u32 {
+    fn mend(&mut self, file: &[u8], classes: u32, numbers: (u32, u32, u32)) -> u32 {
+        let (add_record, columns, lines) = numbers;
         ans_mend_on(
             file,
             classes,
             add_record,
+            columns,
             lines,
             &mut self.rows,
             &mut self.bytes,
@@ -371,23 +373,24 @@ impl LentForMending {
 #[test]
 fn files_are_mended(rt: HostRuntime) {
     let mut lent = LentForMending::new();
-    let answer = lent.mend(&drawing(), 0, 0, 0);
+    let answer = lent.mend(&drawing(), 0, (0, 0, 0));
     let mended = lent.mended.get(..lent.size);
     expect(&rt, answer, mended, (PASS, &mended_drawing()));
     let told = b"added the safe beginning, 25 bytes\nfile size 27, was 2\n";
     expect(&rt, answer, lent.text.get(..lent.told), (PASS, told));
-    let answer = lent.mend(b"Hi", 0, 2, 1);
+    let answer = lent.mend(b"Hi", 0, (2, 0, 1));
     let told = b"added an end mark and a record for 2 columns, at 2\nlines 1, was 0\n\
         added the safe beginning, 25 bytes\nfile size 27, was 0\n";
     expect(&rt, answer, lent.text.get(..lent.told), (PASS, told));
-    let answer = lent.mend(b"Hi", 15, 0, 0);
+    let answer = lent.mend(b"Hi", 15, (0, 0, 0));
     let told = b"at 2: F1 no SAUCE record\n\
         try: --add-record N, which adds a record for N columns\n";
     expect(&rt, answer, lent.text.get(..lent.told), (REFUSED, told));
     assert_eq!(rt; lent.size, 0);
-    let wide = (lent.mend(&drawing(), 0, 1025, 0), lent.size, lent.told);
-    let long = (lent.mend(&drawing(), 0, 0, 8193), lent.size, lent.told);
-    assert_eq!(rt; (wide, long), ((WRONG_NUMBER, 0, 0), (WRONG_NUMBER, 0, 0)));
+    for numbers in [(1025, 0, 0), (0, 1025, 0), (0, 0, 8193)] {
+        let answer = lent.mend(&drawing(), 0, numbers);
+        assert_eq!(rt; (answer, lent.size, lent.told), (WRONG_NUMBER, 0, 0));
+    }
 }
 
 /// How much is lent to have the drawing fixed.
@@ -399,6 +402,7 @@ fn mended_within(room: Room) -> (u32, usize, usize) {
     let (rows, bytes, draft, mended, text) = room;
     let answer = ans_mend_on(
         &drawing(),
+        0,
         0,
         0,
         0,

@@ -236,8 +236,12 @@ const PROGRAM = process.env.ANSCHECK;
 const without = { skip: PROGRAM ? false : "ANSCHECK names no program" };
 
 test("texts and files are the program's, to the byte", without, () => {
-  const mends = { takeOut: true, crlf: true, joinRows: true, leastLines: true, nameColours: true, addRecord: 80 };
-  const flags = ["--take-out", "--crlf", "--join-rows", "--least-lines", "--name-colours", "--add-record", "80"];
+  const mends = {
+    takeOut: true, crlf: true, joinRows: true, leastLines: true, nameColours: true, mixed: true, ice: true, record: true,
+    addRecord: 80,
+  };
+  const flags = ["--take-out", "--crlf", "--join-rows", "--least-lines", "--name-colours", "--mixed", "--ice",
+    "--record", "--add-record", "80"];
   const said = ({ verdict, text }) => [verdict === "pass" ? 0 : 1, text];
   const made = ({ verdict, text, file }) => [verdict === "pass" ? 0 : 1, text, Buffer.from(file ?? "").toString("hex")];
   for (const { name } of drawings()) {

@@ -8,7 +8,7 @@ pub returns-clause-handed : goal.returns-clause-handed
 returns-clause-handed c = λ _ _.
     inl (record {
       passed = c.is_ok.result;
-      text = mending_text (mends_of c.args.classes c.args.add_record c.args.lines) c.in-Some.answer;
+      text = mending_text (mends_of c.args.classes c.args.add_record c.args.columns c.args.lines) c.in-Some.answer;
       reported = record {
         answer = c.in-Some.answer;
         tells = rw c.mends_of-mends.ensures at c.in-Some.ensures.tells;
