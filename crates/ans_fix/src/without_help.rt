@@ -1,0 +1,91 @@
+//! Which flags of mending would not help a file.
+
+ghost use Rattle.std.specs.Prelude.{◌≡◌, ◌≤◌, IfOk, length};
+ghost use Rattle.ans_model.specs.Bytes.{longest_file};
+ghost use Rattle.ans_fix.specs.Trials.{IsHelpKnown, IsUnhelped};
+
+use crate::trials::tried;
+use ans_mend::Unmended;
+use ans_model::mends::{MendStep, Mends};
+use std::alloc::{AllocError, Global};
+
+/// Why a file is not mended, and which flags would not help it.
+#[derive(Debug, Clone, Copy, PartialEq, Eq)]
+pub struct Unhelped {
+    pub reason: Unmended,
+    /// What was asked for, and of the steps `crlf`, `join_rows`, `take_out` and `least_lines` those with which it
+    /// would not be mended for the same reason.
+    pub without_help: Mends,
+}
+
+/// Whether a step was asked for already, or the file is not mended for the same reason with it.
+fn is_without_help(
+    alloc: Global,
+    file: &[u8],
+    asked: &Mends,
+    step: MendStep,
+    is_asked: bool,
+    reason: &Unmended,
+) -> Result<bool, AllocError>
+    requires { length file.now ≤ longest_file }
+    ensures { IfOk result (IsHelpKnown asked.now file.now reason.now step is_asked) }
+{
+    if is_asked {
+        return Ok(true);
+    }
+    match tried(alloc, file, &asked.with(step, true))? {
+        Ok(_) => Ok(false),
+        Err(again) => Ok(again == *reason),
+    }
+}
+
+impl Unhelped {
+    /// Of a file that is not mended for this reason, by what was asked for. Each step that was not asked for is tried
+    /// on a copy.
+    pub fn of(
+        alloc: Global,
+        file: &[u8],
+        asked: &Mends,
+        reason: Unmended,
+    ) -> Result<Unhelped, AllocError>
+        requires { length file.now ≤ longest_file }
+        ensures unhelped { IfOk result (IsUnhelped asked.now file.now) }
+        ensures reason { IfOk result (λ unhelped. unhelped.reason ≡ reason) }
+    {
+        let crlf = is_without_help(alloc, file, asked, MendStep::Crlf, asked.crlf, &reason)?;
+        let join_rows = is_without_help(
+            alloc,
+            file,
+            asked,
+            MendStep::JoinRows,
+            asked.join_rows,
+            &reason,
+        )?;
+        let take_out = is_without_help(
+            alloc,
+            file,
+            asked,
+            MendStep::TakeOut,
+            asked.take_out,
+            &reason,
+        )?;
+        let least_lines = is_without_help(
+            alloc,
+            file,
+            asked,
+            MendStep::LeastLines,
+            asked.least_lines,
+            &reason,
+        )?;
+        Ok(Unhelped {
+            reason,
+            without_help: Mends {
+                crlf,
+                join_rows,
+                take_out,
+                least_lines,
+                ..*asked
+            },
+        })
+    }
+}
