@@ -205,7 +205,6 @@ is_at_later walk n m h later =
           ended = omega (arith, w.row_ends.ended, later);
           ended_before = omega (arith, w.row_ends.ended_before, later);
           over = omega (arith, w.row_ends.over, later);
-          as_wide = omega (arith, w.row_ends.as_wide, later);
           overprints = omega (arith, w.row_ends.overprints, later);
         };
         wide_characters = omega (arith, w.wide_characters, later);

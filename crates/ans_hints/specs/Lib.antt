@@ -7,3 +7,4 @@ pub mod Walks
 pub mod FullRowEnds
 pub mod FullRowSearch
 pub mod Surveyed
+pub mod OtherWidths

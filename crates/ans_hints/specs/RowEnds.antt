@@ -95,25 +95,16 @@ no_row_ends width = record {
   ended_before = None;
   led_to = 0;
   line_ends = 0;
-  over = record { times = None; widest = 0; as_wide = 0 };
+  over = record { times = None; widest = 0 };
   overprints = None;
   returns = false;
 }
-
--- how many are as wide as the widest, with one row more, which has this many columns
-abbrev pub as_wide_with : RowsOver → ℕ → ℕ
-as_wide_with over columns =
-    if nat_lt over.widest columns then 1 else if columns == over.widest then over.as_wide + 1 else over.as_wide
 
 -- the rows that take more columns than the screen has, with one more that has ended
 abbrev pub over_with : ℕ → RowsOver → EndedRow → RowsOver
 over_with width over row =
     if nat_le row.columns width then over
-    else record {
-      times = counted over.times true row.offset;
-      widest = max over.widest row.columns;
-      as_wide = as_wide_with over row.columns;
-    }
+    else record { times = counted over.times true row.offset; widest = max over.widest row.columns }
 
 -- Something is printed in this row. A full row and its line end count only if it is in the row to which the line end
 -- led, or below.
@@ -178,12 +169,11 @@ nothing_written z = record { row = first_row; ends = no_row_ends z.width }
 abbrev pub are_all_ended : RowEnds → Bool
 are_all_ended ends = nat_le 2 (count_of ends.ended_before) && count_of ends.ended_before == ends.full_before
 
--- Three rows run over the edge and then end, none of them twice; they are at least half of all that end, and at least
--- half of them are as wide as the widest.
+-- Four rows run over the edge and then end, none of them twice over it, and they are more than half of all that end. How
+-- wide each is does not matter: the blanks at the end of a row may be trimmed.
 abbrev pub are_wider : RowEnds → ℕ → Bool
 are_wider ends count =
-    nat_le 3 count && nat_le (ends.over.widest - ends.width) ends.width
-    && nat_le (ends.line_ends - count) count && nat_le (count - ends.over.as_wide) ends.over.as_wide
+    nat_le 4 count && nat_le ends.over.widest (2 * ends.width) && nat_lt ends.line_ends (2 * count)
 
 -- the rows of a drawing that was made for more columns
 abbrev pub wider_of : RowEnds → Option Times → Option WiderRows
@@ -201,7 +191,6 @@ pub record CountsRows (ends : RowEnds) (offset : ℕ) : Type 0 where
   pub ended : count_of ends.ended ≤ offset
   pub ended_before : count_of ends.ended_before ≤ offset
   pub over : count_of ends.over.times ≤ offset
-  pub as_wide : ends.over.as_wide ≤ offset
   pub overprints : count_of ends.overprints ≤ offset
 
 -- what is written by these tokens with these texts, in the play from the cleared start

@@ -16,8 +16,6 @@ pub struct RowsOver {
     pub times: Option<Times>,
     /// How many columns the widest takes, or 0.
     pub widest: usize,
-    /// How many are as wide as the widest.
-    pub as_wide: usize,
 }
 
 /// Rows of a drawing that was made for more columns: how many run over the edge and then end, the offset
@@ -58,22 +56,15 @@ pub struct RowEnds {
 impl RowsOver {
     /// One row more has ended, on a screen with this many columns.
     fn end(&mut self, width: usize, row: EndedRow)
-        requires rows { self.old.as_wide ≤ longest_file }
         requires times { count_of self.old.times ≤ longest_file }
         ensures over { self.new ≡ over_with width self.old row }
-        ensures rows { self.new.as_wide ≤ self.old.as_wide + 1 }
         ensures times { count_of self.new.times ≤ count_of self.old.times + 1 }
     {
         if row.columns <= width {
             return;
         }
         count(&mut self.times, true, row.offset);
-        if row.columns > self.widest {
-            self.widest = row.columns;
-            self.as_wide = 1;
-        } else if row.columns == self.widest {
-            self.as_wide += 1;
-        }
+        self.widest = self.widest.max(row.columns);
     }
 }
 
@@ -93,7 +84,6 @@ impl RowEnds {
             over: RowsOver {
                 times: None,
                 widest: 0,
-                as_wide: 0,
             },
             overprints: None,
             returns: false,
@@ -150,17 +140,16 @@ impl RowEnds {
         count_of(self.ended_before) >= 2 && count_of(self.ended_before) == self.full_before
     }
 
-    /// The rows of a drawing that was made for more columns: three rows run over the edge and then end,
-    /// none of them twice, they are at least half of all that end, and at least half of them are as wide
-    /// as the widest. None where it is not so.
+    /// The rows of a drawing that was made for more columns: four rows run over the edge and then end, none
+    /// of them twice over it, and they are more than half of all that end. None if it is not so. A row that
+    /// fills the screen's last column and ends there does not run over the edge.
     pub fn wider_rows(&self) -> Option<WiderRows>
         ensures { result ≡ wider_rows self.now }
     {
         let times = self.over.times?;
-        let is_regular = times.count.saturating_sub(self.over.as_wide) <= self.over.as_wide;
         let is_once_over = self.over.widest.saturating_sub(self.width) <= self.width;
-        let are_most = self.line_ends.saturating_sub(times.count) <= times.count;
-        if times.count >= 3 && is_once_over && are_most && is_regular {
+        let are_most = self.line_ends.saturating_sub(times.count) < times.count;
+        if times.count >= 4 && is_once_over && are_most {
             Some(WiderRows {
                 times,
                 columns: self.over.widest,

@@ -10,6 +10,7 @@ mod full_rows;
 mod kinds;
 mod lines;
 mod taller;
+mod widths;
 
 use ans_model::cell::{Cell, Position};
 use ans_model::fault::{Cause, Fault};
