@@ -2,7 +2,7 @@
 -- its range.
 use Rattle.std.proofs.Common.{◌≡◌, ℕ, zero, suc, Bool, true, false, true≢false, List, [], ◌∷◌, ◌++◌, Option, Some, None}
 use Rattle.std.proofs.lemmas.Bool.{or_parts}
-use Rattle.std.proofs.Common.{◌∙◌, ◌+◌, ◌&&◌, ◌==◌, not, cond, length, drop, min, is_some, ap, refl, sym, subst}
+use Rattle.std.proofs.Common.{◌∙◌, ◌+◌, ◌&&◌, ◌==◌, not, cond, length, drop, take, min, is_some, ap, refl, sym, subst}
 use Rattle.std.proofs.Common.{arith, codes}
 use Rattle.std.specs.Prelude.{IfSome, find, fold, if◌then◌else◌, slice_get, encode_utf8, option_map, pos, ⊤}
 use Rattle.std.specs.Prelude.{IsSome, IsSomeAnd, Ok, Err, Result, get_or, ◌<◌, ◌^◌, unwrap_or, option_and_then}
@@ -500,10 +500,6 @@ others id p (a ∷ rest) none =
     let parts = or_parts (bytes_eq a.id id) (list_any (λ r. bytes_eq r.id id) rest) none in
     ((λ e. absurd (true≢false (sym e ∙ parts.0))), others id p rest parts.1)
 
--- what is false is not true
-other : {X : Type 0} → false ≡ true → X
-other e = absurd (true≢false (sym e))
-
 -- what is built of a command, by its place in the help
 abbrev built_command : ℕ → Shape
 built_command i = get_or (built anscheck).subs i (built anscheck).top
@@ -525,15 +521,40 @@ mend_parsed : (id : Text) (p : ValueParser) → list_any (λ a. bytes_eq a.id id
 mend_parsed id p before here behind =
     (others id p (built_command 0).rules before, (here, others_of id p (drop 2 (built anscheck).subs) behind))
 
+-- rules of other ids, and after them rules that are known
+after_others : (id : Text) (p : ValueParser) (n : ℕ) (rules : List Rule)
+    → list_any (λ a. bytes_eq a.id id) (take n rules) ≡ false → AreParsedBy id p (drop n rules)
+    → AreParsedBy id p rules
+after_others id p zero rules none rest = rest
+after_others id p (suc n) [] none rest = tt
+after_others id p (suc n) (a ∷ rules) none rest =
+    let parts = or_parts (bytes_eq a.id id) (list_any (λ r. bytes_eq r.id id) (take n rules)) none in
+    ((λ e. absurd (true≢false (sym e ∙ parts.0))), after_others id p n rules parts.1 rest)
+
+-- the rules of `mend` from the one at this place on
+abbrev mend_rules : ℕ → List Rule
+mend_rules n = drop n (built_command 1).rules
+
 widths_parsed : AllParsedBy (codes "add-record") (numbers_up_to 1024) (built anscheck).subs
 widths_parsed =
     mend_parsed (codes "add-record") (numbers_up_to 1024) refl
-    (other, (other, (other, (other, (other, (other, (other, ((λ e. (refl, refl, refl, refl)), (other, tt))))))))) refl
+    (after_others (codes "add-record") (numbers_up_to 1024) 11 (mend_rules 0) refl
+    ((λ e. (refl, refl, refl, refl)), others (codes "add-record") (numbers_up_to 1024) (mend_rules 12) refl))
+    refl
+
+columns_parsed : AllParsedBy (codes "columns") (numbers_up_to 1024) (built anscheck).subs
+columns_parsed =
+    mend_parsed (codes "columns") (numbers_up_to 1024) refl
+    (after_others (codes "columns") (numbers_up_to 1024) 10 (mend_rules 0) refl
+    ((λ e. (refl, refl, refl, refl)), others (codes "columns") (numbers_up_to 1024) (mend_rules 11) refl))
+    refl
 
 lines_parsed : AllParsedBy (codes "lines") (numbers_up_to 8192) (built anscheck).subs
 lines_parsed =
     mend_parsed (codes "lines") (numbers_up_to 8192) refl
-    (other, (other, (other, (other, (other, (other, ((λ e. (refl, refl, refl, refl)), (other, (other, tt))))))))) refl
+    (after_others (codes "lines") (numbers_up_to 8192) 9 (mend_rules 0) refl
+    ((λ e. (refl, refl, refl, refl)), others (codes "lines") (numbers_up_to 8192) (mend_rules 10) refl))
+    refl
 
 -- ---- numbers
 
@@ -600,6 +621,8 @@ numbers_found : (words : List Text) (met : Text × List Row) → fault_of ansche
 numbers_found words met none e = (
   number_passed 1024 (codes "add-record") met.1
       (program-passed (codes "add-record") (numbers_up_to 1024) words met widths_parsed none e),
+  number_passed 1024 (codes "columns") met.1
+      (program-passed (codes "columns") (numbers_up_to 1024) words met columns_parsed none e),
   number_passed 8192 (codes "lines") met.1
       (program-passed (codes "lines") (numbers_up_to 8192) words met lines_parsed none e),
 )

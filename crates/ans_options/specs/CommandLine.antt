@@ -96,8 +96,10 @@ command_app (Table form) =
     with_flags (files_app (command_name (Table form))) (codes "json" ∷ codes "no-header" ∷ [])
 command_app (Mend mends) =
     with_rule
+    (with_rule
     (with_rule (with_flags (file_app (command_name (Mend mends))) (map (λ f. f.name) mend_flags))
     (number_rule (codes "lines") (numbers_up_to 8192)))
+    (number_rule (codes "columns") (numbers_up_to 1024)))
     (number_rule (codes "add-record") (numbers_up_to 1024))
 command_app command = file_app (command_name command)
 
@@ -237,21 +239,30 @@ number_asked id rows = option_map number_written (first_of id rows)
 abbrev pub HasNumberUpTo : ℕ → Text → List Row → Type 0
 HasNumberUpTo most id rows = (one_of id rows ≡ first_of id rows) × IfSome (first_of id rows) (IsNumberUpTo most)
 
--- the numbers of `--add-record` and `--lines`, where they are given, are those that clap lets through
+-- the numbers of `--add-record`, `--columns` and `--lines`, if they are given, are those that clap lets through
 abbrev pub HasNumbersOfMend : List Row → Type 0
-HasNumbersOfMend rows = HasNumberUpTo 1024 (codes "add-record") rows × HasNumberUpTo 8192 (codes "lines") rows
+HasNumbersOfMend rows =
+    HasNumberUpTo 1024 (codes "add-record") rows
+    × HasNumberUpTo 1024 (codes "columns") rows
+    × HasNumberUpTo 8192 (codes "lines") rows
 
 -- what may be changed of a file that is mended: what the flags name, and the numbers that the options are given
 abbrev pub mends_asked : List Row → Mends
 mends_asked rows =
     with_given (λ f. holds_flag f.name rows)
-    (record no_mends.NONE { add_record = number_asked (codes "add-record") rows; lines = number_asked (codes "lines") rows })
+    (record no_mends.NONE {
+      add_record = number_asked (codes "add-record") rows;
+      columns = number_asked (codes "columns") rows;
+      lines = number_asked (codes "lines") rows;
+    })
     mend_flags
 
 -- a width is 1 to 1024 columns, and a number of lines 1 to 8192
 abbrev pub AreInRange : Mends → Type 0
 AreInRange mends =
-    IfSome mends.add_record (λ n. (1 ≤ n) × (n ≤ 1024)) × IfSome mends.lines (λ n. (1 ≤ n) × (n ≤ 8192))
+    IfSome mends.add_record (λ n. (1 ≤ n) × (n ≤ 1024))
+    × IfSome mends.columns (λ n. (1 ≤ n) × (n ≤ 1024))
+    × IfSome mends.lines (λ n. (1 ≤ n) × (n ≤ 8192))
 
 -- where the command shows a picture, writes a table or mends, it does so as the flags and the numbers ask
 abbrev pub IsInFormAsked : Command → List Row → Type 0

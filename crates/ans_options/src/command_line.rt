@@ -216,6 +216,9 @@ const COMMANDS: [Command; 9] = [
 /// What `--lines` of `mend` does.
 const LINES: &str = "Set N lines if too few or none are stated (1 to 8192)";
 
+/// What `--columns` of `mend` does.
+const COLUMNS: &str = "Set the record's width to N columns (1 to 1024)";
+
 /// What `--add-record` of `mend` does.
 const ADD_RECORD: &str = "Add a record for N columns if there is none (1 to 1024)";
 
@@ -377,9 +380,19 @@ fn mend_command<'a>(alloc: Global) -> Result<clap::Command<'a>, AllocError>
     let command = file_command(alloc, "mend", MEND, MEND_END)?;
     let command = with_mend_flags(alloc, command, mend_flags())?;
     let lines = number(alloc, "lines", value_parser!(u16).range(1..=8192), LINES);
-    let columns = value_parser!(u16).range(1..=1024);
-    let add_record = number(alloc, "add-record", columns, ADD_RECORD);
-    command.arg(lines)?.arg(add_record)
+    let columns = number(
+        alloc,
+        "columns",
+        value_parser!(u16).range(1..=1024),
+        COLUMNS,
+    );
+    let add_record = number(
+        alloc,
+        "add-record",
+        value_parser!(u16).range(1..=1024),
+        ADD_RECORD,
+    );
+    command.arg(lines)?.arg(columns)?.arg(add_record)
 }
 
 /// The help of the files of `why`.
@@ -516,6 +529,7 @@ fn mends_asked(matches: &ArgMatches<'_>) -> Mends
 {
     let numbers = Mends {
         add_record: number_asked(matches, "add-record"),
+        columns: number_asked(matches, "columns"),
         lines: number_asked(matches, "lines"),
         ..Mends::NONE
     };
@@ -776,8 +790,8 @@ pub fn near_command(alloc: Global, word: &str) -> Result<Option<Command>, AllocE
 /// changes nothing. Cells are asked for if `--cells` is given. A picture comes as a page if `--html`
 /// is, else in a VGA's colours if `--vga` is. A table's rows are JSON if `--json` is given, and else
 /// have a line of names above them unless `--no-header` is. With the other commands nothing is known. What
-/// may be changed to mend is what the flags of `mend` name; `--add-record` has a number from 1 to 1024, and
-/// `--lines` one from 1 to 8192, if they are given.
+/// may be changed to mend is what the flags of `mend` name; `--add-record` and `--columns` have a number from 1 to
+/// 1024, and `--lines` one from 1 to 8192, if they are given.
 ///
 /// `help` with the name of a fault, a note or a word only, as `anscheck help F20`, asks for its meaning. These
 /// words are found before `clap` reads any, need no memory, and never fail. Other words `clap` reads.

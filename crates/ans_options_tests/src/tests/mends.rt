@@ -19,16 +19,20 @@ macro_rules! mends {
 /// All that may be changed.
 const EVERYTHING: Mends = Mends {
     add_record: Some(80),
+    columns: Some(132),
     crlf: true,
     take_out: true,
     join_rows: true,
+    mixed: true,
     name_colours: true,
+    ice: true,
+    repair_record: true,
     least_lines: true,
     lines: Some(25),
 };
 
 /// Words that ask for a file mended, what may be changed, and the file.
-static MENDED: [(&[&str], Mends, Option<&str>); 27] = words! {
+static MENDED: [(&[&str], Mends, Option<&str>); 38] = words! {
     "mend" => mends!(), None;
     "mend" "f" => mends!(), Some("f");
     "mend" "-" => mends!(), Some("-");
@@ -36,13 +40,22 @@ static MENDED: [(&[&str], Mends, Option<&str>); 27] = words! {
     "mend" "--take-out" => mends!(take_out: true), None;
     "mend" "--crlf" => mends!(crlf: true), None;
     "mend" "--join-rows" => mends!(join_rows: true), None;
+    "mend" "--mixed" => mends!(mixed: true), None;
     "mend" "--name-colours" => mends!(name_colours: true), None;
+    "mend" "--ice" => mends!(ice: true), None;
+    "mend" "--record" => mends!(repair_record: true), None;
     "mend" "--least-lines" => mends!(least_lines: true), None;
     "mend" "--lines" "1" => mends!(lines: Some(1)), None;
     "mend" "--lines" "8192" => mends!(lines: Some(8192)), None;
     "mend" "--lines=25" "f" => mends!(lines: Some(25)), Some("f");
     "mend" "--lines" "0025" "f" => mends!(lines: Some(25)), Some("f");
     "mend" "--lines" "1025" => mends!(lines: Some(1025)), None;
+    "mend" "--columns" "1" => mends!(columns: Some(1)), None;
+    "mend" "--columns" "1024" => mends!(columns: Some(1024)), None;
+    "mend" "f" "--columns=132" => mends!(columns: Some(132)), Some("f");
+    "mend" "--columns" "0132" "f" => mends!(columns: Some(132)), Some("f");
+    "mend" "--columns" "132" "--lines" "50" => mends!(columns: Some(132), lines: Some(50)), None;
+    "mend" "--columns" "132" "--add-record" "80" => mends!(columns: Some(132), add_record: Some(80)), None;
     "mend" "--add-record" "1" => mends!(add_record: Some(1)), None;
     "mend" "--add-record" "1024" => mends!(add_record: Some(1024)), None;
     "mend" "f" "--add-record=80" => mends!(add_record: Some(80)), Some("f");
@@ -51,17 +64,19 @@ static MENDED: [(&[&str], Mends, Option<&str>); 27] = words! {
     "mend" "--lines" "50" "f" "--add-record" "132" => mends!(add_record: Some(132), lines: Some(50)), Some("f");
     "mend" "--take-out" "f" "--join-rows" => mends!(take_out: true, join_rows: true), Some("f");
     "mend" "--crlf" "--least-lines" => mends!(crlf: true, least_lines: true), None;
-    "mend" "--take-out" "--crlf" "--join-rows" "--name-colours" "--least-lines" "--lines" "25" "--add-record" "80" "f"
-        => EVERYTHING, Some("f");
-    "mend" "f" "--add-record" "80" "--lines" "25" "--least-lines" "--name-colours" "--join-rows" "--crlf" "--take-out"
-        => EVERYTHING, Some("f");
+    "mend" "--crlf" "--mixed" "--ice" => mends!(crlf: true, mixed: true, ice: true), None;
+    "mend" "--take-out" "--crlf" "--join-rows" "--mixed" "--name-colours" "--ice" "--record" "--least-lines"
+        "--lines" "25" "--columns" "132" "--add-record" "80" "f" => EVERYTHING, Some("f");
+    "mend" "f" "--add-record" "80" "--columns" "132" "--lines" "25" "--least-lines" "--record" "--ice"
+        "--name-colours" "--mixed" "--join-rows" "--crlf" "--take-out" => EVERYTHING, Some("f");
     "mend" "--" "--take-out" => mends!(), Some("--take-out");
     "mend" "--" "--lines" => mends!(), Some("--lines");
+    "mend" "--" "--columns" => mends!(), Some("--columns");
     "mend" "--add-record" "80" "--" "25" => mends!(add_record: Some(80)), Some("25");
 };
 
 /// Words that are wrong, and the kind of the mistake.
-static FAULTS: [Row; 37] = words! {
+static FAULTS: [Row; 49] = words! {
     "mend" "--lines" "0" => ValueValidation;
     "mend" "--lines" "8193" => ValueValidation;
     "mend" "--lines" "65537" => ValueValidation;
@@ -75,6 +90,15 @@ static FAULTS: [Row; 37] = words! {
     "mend" "f" "--lines" => InvalidValue;
     "mend" "--lines" "--take-out" => InvalidValue;
     "mend" "--lines" "--" "25" => InvalidValue;
+    "mend" "--columns" "0" => ValueValidation;
+    "mend" "--columns" "1025" => ValueValidation;
+    "mend" "--columns" "65616" => ValueValidation;
+    "mend" "--columns=-1" => ValueValidation;
+    "mend" "--columns" "x" => ValueValidation;
+    "mend" "--columns" => InvalidValue;
+    "mend" "--columns" "80" "--columns" "80" => ArgumentConflict;
+    "mend" "--ice" "--ice" => ArgumentConflict;
+    "mend" "--record=80" => TooManyValues;
     "mend" "--add-record" "0" => ValueValidation;
     "mend" "--add-record" "1025" => ValueValidation;
     "mend" "--add-record" "8192" => ValueValidation;
@@ -96,7 +120,10 @@ static FAULTS: [Row; 37] = words! {
     "mend" "--known-wrap" => UnknownArgument;
     "why" "--take-out" => UnknownArgument;
     "redraw" "--add-record" "80" => UnknownArgument;
+    "redraw" "--columns" "80" => UnknownArgument;
+    "why" "--ice" => UnknownArgument;
     "check" "--add-record" "80" => UnknownArgument;
+    "check" "--record" => UnknownArgument;
     "show" "--lines=25" => UnknownArgument;
     "table" "--least-lines" => UnknownArgument;
 };

@@ -1,4 +1,3 @@
-use Rattle.std.proofs.Common.{sym}
 use Rattle.ans_options.proofs.MeaningLemmas.{command_has, command_lacks}
 use Rattle.ans_options.specs.CommandLine.{commands}
 use Rattle.ans_options.proofs.command_line.command_named.Goals as goal
