@@ -1,9 +1,11 @@
 -- What mending comes to, and which steps of it would not help a file.
-use Rattle.std.specs.Prelude.{◌≡◌, ◌≢◌, ℕ, Bool, true, false, MatchBool, List, Result, Err}
+use Rattle.std.specs.Prelude.{◌≡◌, ℕ, Bool, true, false, ◌&&◌, ◌==◌, MatchBool, List, Result, Ok, Err}
 use Rattle.ans_mend.specs.Mending.{TellsMended}
 use Rattle.ans_mend.specs.declared.outcome.Mended.{Mended}
 use Rattle.ans_mend.specs.declared.outcome.Unmended.{Unmended}
+use Rattle.ans_mend.specs.declared.outcome.Unmended.TheVariants.{Refused, TakesNoRecord, Torn, NoLines, TooLong}
 use Rattle.ans_model.specs.MendFlags.{with_step}
+use Rattle.ans_model.specs.Text.FaultText.{cause_number}
 use Rattle.ans_model.specs.declared.mends.MendStep.{MendStep}
 use Rattle.ans_model.specs.declared.mends.MendStep.TheVariants.{TakeOut, Crlf, JoinRows, LeastLines}
 use Rattle.ans_model.specs.declared.mends.Mends.{Mends}
@@ -13,19 +15,26 @@ use Rattle.ans_fix.specs.declared.without_help.Unhelped.{Unhelped}
 abbrev pub ComesTo : Mends → List ℕ → Result Mended Unmended → Type 0
 ComesTo mends file answer = (text : List ℕ) × TellsMended mends file answer text
 
--- With the step too the file is not mended, for the same reason.
-abbrev pub IsNoHelp : Mends → List ℕ → Unmended → MendStep → Type 0
-IsNoHelp asked file reason step = ComesTo (with_step step true asked) file (Err reason)
+-- the same fault at the same place, or the same other reason
+abbrev pub same_reason : Unmended → Unmended → Bool
+same_reason (Refused one) (Refused other) =
+    one.offset == other.offset && cause_number one.cause == cause_number other.cause
+same_reason (TakesNoRecord one) (TakesNoRecord other) = true
+same_reason Torn Torn = true
+same_reason NoLines NoLines = true
+same_reason TooLong TooLong = true
+same_reason _ _ = false
 
--- With the step too it is mended, or not mended for another reason.
-abbrev pub IsHelp : Mends → List ℕ → Unmended → MendStep → Type 0
-IsHelp asked file reason step = (answer : Result Mended Unmended) × (answer ≢ Err reason)
-    × ComesTo (with_step step true asked) file answer
+-- nothing is mended, for the same reason
+abbrev pub comes_to_same : Unmended → Result Mended Unmended → Bool
+comes_to_same reason (Ok mended) = false
+comes_to_same reason (Err again) = same_reason again reason
 
--- whether the step is no help, where it was not asked for; and where it was, that is known
+-- whether the file is not mended for the same reason with the step too, if that was not asked for
 abbrev pub IsHelpKnown : Mends → List ℕ → Unmended → MendStep → Bool → Bool → Type 0
 IsHelpKnown asked file reason step is_asked is_known = MatchBool is_asked (is_known ≡ true)
-    (MatchBool is_known (IsNoHelp asked file reason step) (IsHelp asked file reason step))
+    ((answer : Result Mended Unmended) × ComesTo (with_step step true asked) file answer
+    × (is_known ≡ comes_to_same reason answer))
 
 -- what was asked for of a file that is not mended for this reason, and with it the steps that are no help
 pub record IsUnhelped (asked : Mends) (file : List ℕ) (unhelped : Unhelped) : Type 0 where

@@ -2,7 +2,7 @@
 
 ghost use Rattle.std.specs.Prelude.{◌≡◌, ◌≤◌, IfOk, length};
 ghost use Rattle.ans_model.specs.Bytes.{longest_file};
-ghost use Rattle.ans_fix.specs.Trials.{IsHelpKnown, IsUnhelped};
+ghost use Rattle.ans_fix.specs.Trials.{IsHelpKnown, IsUnhelped, same_reason};
 
 use crate::trials::tried;
 use ans_mend::Unmended;
@@ -16,6 +16,22 @@ pub struct Unhelped {
     /// What was asked for, and of the steps `crlf`, `join_rows`, `take_out` and `least_lines` those with which it
     /// would not be mended for the same reason.
     pub without_help: Mends,
+}
+
+/// Whether both are the same fault at the same place, or the same other reason.
+fn is_same_reason(one: &Unmended, other: &Unmended) -> bool
+    ensures { result ≡ same_reason one.now other.now }
+{
+    match (one, other) {
+        (Unmended::Refused(one), Unmended::Refused(other)) => {
+            one.offset == other.offset && one.cause.number() == other.cause.number()
+        }
+        (Unmended::TakesNoRecord(_), Unmended::TakesNoRecord(_)) => true,
+        (Unmended::Torn, Unmended::Torn) => true,
+        (Unmended::NoLines, Unmended::NoLines) => true,
+        (Unmended::TooLong, Unmended::TooLong) => true,
+        _ => false,
+    }
 }
 
 /// Whether a step was asked for already, or the file is not mended for the same reason with it.
@@ -35,7 +51,7 @@ fn is_without_help(
     }
     match tried(alloc, file, &asked.with(step, true))? {
         Ok(_) => Ok(false),
-        Err(again) => Ok(again == *reason),
+        Err(again) => Ok(is_same_reason(&again, reason)),
     }
 }
 
