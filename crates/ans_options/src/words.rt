@@ -161,7 +161,7 @@ It looks the same whatever was on the screen before. See 'anscheck help start'.
 ];
 
 /// The lines of `why`.
-pub(crate) static LINES: [WordRow; 18] = [
+pub(crate) static LINES: [WordRow; 19] = [
     (
         "size",
         "\
@@ -269,6 +269,18 @@ is the one on a cleared screen. A drawing that is refused may need flags of
 ",
     ),
     (
+        "everywhere",
+        "\
+everywhere: the command after which all players show the picture
+
+A line of 'why', if players differ and the drawing passes on a cleared screen:
+  anscheck mend --name-colours FILE > FIXED
+if they differ only in own-colours, and else
+  anscheck redraw FILE > REDRAWN
+which writes the picture again from scratch; an animation becomes still.
+",
+    ),
+    (
         "faults",
         "\
 faults: why a file is refused; 'anscheck help F20' explains one of these
@@ -341,15 +353,14 @@ is: what the bytes are known as at which the drawing is refused
   mode of DOS, the switch for bright backgrounds,
   the switch that hides or shows the cursor:
     anscheck mend --take-out FILE > FIXED
-  comments that the record does not count  set their number, byte 104 of the
-                                           record, or delete them
-  an older record                          delete it
-  another drawing                          split it after the first record
-  an arrow in the drawing                  use another character, such as '>'
-  a sequence of modern terminals           write what the line says
-  a ZIP archive                            unzip -p FILE > drawing.ans
-  another kind of file, or the colour      save it as ANSI in a program that
-  codes of a board                         knows it
+  an older record, or comments that the record does not count:
+    anscheck mend --record FILE > FIXED
+  another drawing                      split it after the first record
+  an arrow in the drawing              use another character, such as '>'
+  a sequence of modern terminals       write what the line says
+  a ZIP archive                        unzip -p FILE > drawing.ans
+  another kind of file, or the colour  save it as ANSI in a program that knows
+  codes of a board                     it
 
 'anscheck help take-out' says what is removed, and what is not. The font's name
 belongs in the record, and bright backgrounds in its non-blink flag.
@@ -362,19 +373,23 @@ hints: what is worth a look; no hint changes the verdict
 
   bare line feeds            anscheck mend --crlf FILE > FIXED
   a line end after full rows anscheck mend --join-rows FILE > FIXED
-  rows wider than the screen set the width it was made for, bytes 96 and 97 of
-                             the record; with no record, mend --add-record N
+                             (each with --mixed if only some need it)
+  rows wider than the screen,
+  another width              anscheck mend --columns N FILE > FIXED; with no
+                             record, --add-record N
+  columns and lines          anscheck mend --columns N --lines N FILE > FIXED
+  exchanged
   wrap is off                write ESC[?7h, or shorten the row
   UTF-8, Latin-1             convert the text to code page 437
   bulletin-board codes       save it with colour sequences, such as ESC[0;36m
   modern colours             use the 16 of DOS: 30 to 37, 40 to 47, 1 and 5
-  characters blink           leave it, or set bit 0 of byte 105 of the record
+  characters blink           leave it, or anscheck mend --ice FILE > FIXED
   dark grey on black         leave it, or use a lighter colour
   the font                   leave it, or use characters that all fonts share
   the last lines are empty   leave it, or state fewer lines
 
-The first three, and UTF-8, can mean that the rows are broken: see to these
-before you set more lines.
+Those before 'wrap is off', and UTF-8, can mean that the rows are broken: see
+to these before you set more lines.
 ",
     ),
     (
@@ -403,7 +418,7 @@ too few or none. In 'table': the number that the record states, 0 for none.
 ];
 
 /// What `mend` does, its flags, and what they are about.
-pub(crate) static FIXES: [WordRow; 11] = [
+pub(crate) static FIXES: [WordRow; 12] = [
     (
         "least-lines",
         "\
@@ -421,7 +436,7 @@ broken: rows that are not those that the drawing was made with
 
   a staircase     line feeds without carriage returns: mend --crlf
   double-spaced   a line end after every full row: mend --join-rows
-  wrapped         rows for more columns than the record states
+  wrapped         rows for other columns than the record states: mend --columns
   shifted         UTF-8, in which a box or a shade takes three bytes
 
 With enough lines such a drawing may pass, with a picture that nobody meant. So
@@ -445,6 +460,11 @@ record: the SAUCE record, the last 128 bytes of the file
 It begins with SAUCE00 and states the columns and the lines, the font, and the
 title, author, group and date. Offsets in it count from 0: byte 96 is the first
 of the width. 'anscheck sauce FILE' prints it.
+
+This removes an older record if nothing of a drawing follows it, and sets the
+number of comments to those that there are. It does so only if one reading is
+possible:
+  anscheck mend --record FILE > FIXED
 ",
     ),
     (
@@ -485,7 +505,8 @@ take-out: remove sequences for which the drawing is refused
   ESC[5n ESC[6n ESC[c   questions to the terminal
   a reassigned key      with all between its quotes
   the last sequence     if it is unfinished and there is no quote in it
-  the last line ends    as few as must go
+  at the very end       line ends, bytes 00h, places and modes after which
+                        nothing is printed, as few as must go
 
 All other sequences stay, and the drawing stays refused for them:
   anscheck mend --take-out FILE > FIXED
@@ -498,8 +519,9 @@ crlf: add a carriage return before each line feed, if the drawing has none
 
 For a drawing with Unix line ends, whose rows make a staircase:
   anscheck mend --crlf FILE > FIXED
-If it has a carriage return anywhere, nothing is added. Together with
---take-out use it only once: it may add more if the last return was removed.
+If it has a carriage return anywhere, nothing is added, unless --mixed is given
+too. Together with --take-out use it only once: it may add more if the last
+return was removed.
 ",
     ),
     (
@@ -511,8 +533,20 @@ For a drawing whose full rows leave a blank row each, since they wrap and then
 have a line end:
   anscheck mend --join-rows FILE > FIXED
 It works if every full row that something is printed after has a line end, and
-there are two such rows. Use it only once: a second time it may remove a blank
-row that was meant.
+there are two such rows; with --mixed one such row is enough. Use it only once:
+a second time it may remove a blank row that was meant.
+",
+    ),
+    (
+        "mixed",
+        "\
+mixed: let --crlf and --join-rows change a drawing in which only some need it
+
+  anscheck mend --crlf --mixed FILE > FIXED
+  anscheck mend --join-rows --mixed FILE > FIXED
+The first adds a return before each line feed that has none, even if others
+have one. The second removes the line ends after full rows, even if other full
+rows have none. Look at the picture: what some rows lack may be meant.
 ",
     ),
     (
@@ -534,7 +568,7 @@ add-record: add a SAUCE record for N columns to a drawing that has none
 
   anscheck mend --add-record 80 FILE > FIXED
 Its texts are empty. Its lines are those of --lines N, or else the smallest
-number that works. A record that is there stays as it is, and so does its
+number that works. A record that is there stays as it is; --columns N sets its
 width. None is added if SAUCE00 appears in the file, which is usually a record
 with something after it, or if more of the drawing follows a byte 1Ah.
 ",
@@ -720,6 +754,10 @@ columns: what 'table' writes of each file
   font, date, title,    texts of the record; with --json also 'comments'
   author, group
   file                  its name
+
+'mend --columns N' sets the width of the record to N, 1 to 1024: for a drawing
+that was made for another width. The lines are then those for that width:
+  anscheck mend --columns 132 --least-lines FILE > FIXED
 ",
     ),
     (
@@ -752,7 +790,8 @@ ice: bright backgrounds in place of blinking characters, the iCE colours
 
 Bit 0 of byte 105 of the record, the non-blink flag, says that: then 5 in a
 colour sequence makes the background bright. 'mend --take-out' sets the flag if
-the drawing switched them on by ESC[?33h.
+the drawing has them on, by ESC[?33h, at the last blinking character that it
+prints. 'mend --ice' sets it in any case.
 ",
     ),
     (

@@ -91,7 +91,7 @@ fn each_fault_and_each_note_has_its_name(rt: HostRuntime) -> Result<(), AllocErr
 }
 
 /// Words that the program prints or takes, each in two spellings.
-static WORDS: [[&str; 2]; 34] = [
+static WORDS: [[&str; 2]; 38] = [
     ["verdict", "Verdict"],
     ["pass", "PASS"],
     ["cleared", "CLEARED"],
@@ -114,6 +114,10 @@ static WORDS: [[&str; 2]; 34] = [
     ["take-out", "TAKE-OUT"],
     ["crlf", "CRLF"],
     ["join-rows", "Join-Rows"],
+    ["mixed", "MIXED"],
+    ["ice", "Ice"],
+    ["record", "RECORD"],
+    ["everywhere", "EveryWhere"],
     ["add-record", "ADD-RECORD"],
     ["wrap-at-once", "WRAP-AT-ONCE"],
     ["line-ends", "LINE-ENDS"],
