@@ -140,6 +140,13 @@ static STATED: [Stated; 22] = stated! {
     80 x 2, ANIMATION => NONE, false;
 };
 
+/// What a content shows of other widths, where this width and these lines are stated.
+fn other_widths(rt: &impl Abort, width: usize, lines: usize, content: &[u8]) -> OtherWidths {
+    assert!(rt; 1 <= width && width <= 1024 && lines <= 8192 && content.len() < 1000);
+    let hints = hints_of(rt, width, content);
+    OtherWidths::of(width, lines, &hints, content)
+}
+
 #[test]
 fn other_widths_are_found(rt: HostRuntime) {
     for row in &STATED {
@@ -150,9 +157,7 @@ fn other_widths_are_found(rt: HostRuntime) {
             fitting,
             exchanged,
         } = *row;
-        assert!(&rt; lines <= 8192);
-        let hints = hints_of(&rt, width, content);
-        let found = OtherWidths::of(width, lines, &hints, content);
+        let found = other_widths(&rt, width, lines, content);
         let wanted = OtherWidths { fitting, exchanged };
         assert_eq!(&rt; found, wanted, "{width} x {lines} in {content:?}");
         let some = exchanged || fitting != NONE;
