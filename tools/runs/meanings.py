@@ -46,15 +46,14 @@ are hexadecimal if they are numbers. A size is in columns x lines. If nothing el
 PARTS = (
     ("The record", "F1", """
 The record is the last 128 bytes of the file. Its faults are looked for in this order, and if it has one, the content
-is not looked at. Most drawing programs write it again when they save the drawing; no command sets the width or the
-texts of a record that is there. In a hex editor, or by these lines, a field is set on a copy, at its offset: for F2 to
-F7 the number after `at`, else the file's size, less 128, plus [that in the record](PROFILE.md#the-file). The first sets
-two bytes to 25 and 0, the low byte first, in octal digits; the second the flags to 1, bright backgrounds (iCE colours)
-in place of blink.
+is not looked at. Most drawing programs write it again when they save the drawing. `mend --columns N` sets the width,
+`--lines N` the lines if too few are stated, and `--ice` the flag for bright backgrounds (iCE colours) in place of blink.
+No command sets the texts. In a hex editor, or by these lines, a field is set on a copy, at its offset: for F2 to F7 the
+number after `at`, else the file's size, less 128, plus [that in the record](PROFILE.md#the-file). This sets two
+bytes to 25 and 0, the low byte first, in octal digits.
 
 ```text
 printf '\\31\\0' | dd of=COPY bs=1 seek=101 conv=notrunc
-printf '\\1' | dd of=COPY bs=1 seek=$(($(stat -c %s COPY) - 128 + 105)) conv=notrunc
 ```
 
 To cut off what follows a record (F1), find where it begins, here at 3, and keep what is before its end. To cut out
@@ -78,10 +77,10 @@ it is after a full last row, but nothing may be printed there: the picture is th
 
 UTF-8 takes two to four bytes for one character, and each byte is a character here. `iconv` converts the drawing, but
 not its record, whose numbers are no text: give it the content only, whose length `anscheck check` prints, here 5000
-bytes.
+bytes. `sed` removes a mark at its start.
 
 ```text
-(head -c 5000 FILE | iconv -f UTF-8 -t CP437 && tail -c +5001 FILE) > CONVERTED
+(head -c 5000 FILE | sed '1s/^\\xEF\\xBB\\xBF//' | iconv -f UTF-8 -t CP437 && tail -c +5001 FILE) > CONVERTED
 anscheck mend CONVERTED > FIXED
 ```
 """),
@@ -197,7 +196,7 @@ def anchor(heading):
 
 def contents(named):
     """A link to each fault and each note."""
-    return " · ".join(f"[{name}](#{anchor(f'{name} {title}')})" for name, title in named.items()) + "\n"
+    return ", ".join(f"[{name}](#{anchor(f'{name} {title}')})" for name, title in named.items()) + "\n"
 
 
 def joined(text):

@@ -56,6 +56,8 @@ The file does not end in a SAUCE record, so its width and height are unknown.
 Often there is a record with a few bytes after it, left by a transfer or an
 editor. This cuts off bytes 00h, 0Ah, 0Dh and 1Ah; cut off others yourself:
   anscheck mend FILE > FIXED
+If 'anscheck why' says that a record is damaged, as by a transfer as text, get
+the file again.
 If there is none, save the drawing again with a record, or add one for 80
 columns (--lines N if the smallest number of lines is not what you want):
   anscheck mend --add-record 80 FILE > FIXED
@@ -91,9 +93,10 @@ XBin, as a still ANSI drawing. No command does that.
 The record counts comments, but there is no comment block before it. Something
 removed it or moved it.
 
-Save the drawing and its comments again. Or give the comments up: set their
-number, the byte at the offset, to 0, and delete what is left of them. No
-command does that, since it could be part of the drawing.
+Save the drawing and its comments again. Or give the comments up. This sets
+their number to 0 if nothing is left of them:
+  anscheck mend --record FILE > FIXED
+What is left of them could be part of the drawing: delete it yourself.
 "
     ),
     fault!(
@@ -117,8 +120,9 @@ and this sets 25:
 The record says that the drawing has more than 1024 columns. It is probably
 damaged: drawings are usually 80, 132 or 160 columns wide.
 
-Set the right width, the two bytes at the offset, low byte first. Wider
-drawings are not checked; cut them into strips. No command does that.
+Set the right width, here 80 columns:
+  anscheck mend --columns 80 FILE > FIXED
+Wider drawings are not checked; cut them into strips.
 "
     ),
     fault!(
@@ -139,10 +143,12 @@ drawing that really is longer. No command does that.
 The byte 1Ah ends a drawing, but something follows it before the comments or
 the record. Some programs would play it, others would not.
 
-See the line 'is:' of 'anscheck why'. Delete an older record. Count comments
-that are not counted (byte 104 of the record), or delete them. An arrow in the
-drawing is this very byte: use another character, such as '>'. No command does
-any of that.
+See the line 'is:' of 'anscheck why'. This removes an older record if nothing
+of a drawing follows it, and counts comments that are not counted, if only one
+reading is possible:
+  anscheck mend --record FILE > FIXED
+If a second drawing follows an older record, split the file after that record.
+An arrow in the drawing is this very byte: use another character, such as '>'.
 "
     ),
     fault!(
@@ -203,8 +209,11 @@ not know it skip it or print it.
 This removes ANSI music with its notes, 24-bit colours that follow an ordinary
 colour, and ESC[c:
   anscheck mend --take-out FILE > FIXED
-Otherwise save the drawing with the 16 DOS colours, or remove the sequence in
-an editor.
+The letters b G d X @ P L M S T E F ` a e are sequences of modern terminals.
+They repeat a character, move the cursor, or insert, delete or blank something:
+removed, they leave holes. Write in their place what the line 'is:' of
+'anscheck why' says. Otherwise save the drawing with the 16 DOS colours, or
+remove the sequence in an editor.
 "
     ),
     fault!(
@@ -261,9 +270,12 @@ This removes it:
 A sequence moves the cursor below the last line (by more than one) or to the
 right of the last column. Every screen does something else then.
 
-Often it is the last sequence of a short drawing, going to row 25: remove it in
-an editor. If the record has too few lines, this adds some:
+Often it is the last sequence of a short drawing, going to row 25. If nothing
+is printed after it, this removes it:
+  anscheck mend --take-out FILE > FIXED
+If the record has too few lines, this adds some:
   anscheck mend --least-lines FILE > FIXED
+If it goes to the right of the last column, the width may be wrong (see F20).
 "
     ),
     fault!(
@@ -275,9 +287,19 @@ sometimes is the record wrong. The hints of 'anscheck why' say which:
 
   bare line feeds (a staircase)    anscheck mend --crlf FILE > FIXED
   line ends after full rows        anscheck mend --join-rows FILE > FIXED
-  rows wider than the screen       set the width that it was made for
+  made for another width           anscheck mend --columns N FILE > FIXED
   UTF-8                            convert it to code page 437
   too few lines, picture right     anscheck mend --least-lines FILE > FIXED
+
+With the first two, --mixed helps if only some rows need it. Without a record
+the width is that of --add-record N.
+
+A wrong width is hinted at only if most rows with a line end run over the edge,
+once each; if there is no line end, and the stated lines come out on a common
+width; or if columns and lines seem to be exchanged. Else look at the picture.
+
+If only line ends, bytes 00h, places or modes follow, this removes them:
+  anscheck mend --take-out FILE > FIXED
 "
     ),
     fault!(
@@ -287,7 +309,7 @@ sometimes is the record wrong. The hints of 'anscheck why' say which:
 A line feed comes below the last line. The screen would scroll and lose its top
 row.
 
-If only line ends follow, this removes them:
+If only line ends, bytes 00h, places or modes follow, this removes them:
   anscheck mend --take-out FILE > FIXED
 If more of the drawing follows, see F20: the rows are probably broken.
 "
@@ -350,8 +372,8 @@ static NOTES: [NoteRow; 6] = [
         "\
 The record does not say how wide the drawing is, and 80 columns are assumed.
 
-If that is wrong, set the width, bytes 96 and 97 of the record, low byte first.
-No command does that.
+If that is wrong, set the width, here to 132:
+  anscheck mend --columns 132 FILE > FIXED
 "
     ),
     note!(
@@ -394,7 +416,7 @@ SAUCE uses five bits of the flags byte, and a higher one is set. The byte is
 damaged, or comes from a program with ideas of its own.
 
 Set the flags, byte 105 of the record, to 0, or to 1 if the drawing uses bright
-backgrounds. No command does that.
+backgrounds. No command does that; 'mend --ice' sets bit 0 only.
 "
     ),
     note!(

@@ -24,9 +24,19 @@ static FAULTS: [(Cause, &str); 4] = [
         \n\
         \x20 bare line feeds (a staircase)    anscheck mend --crlf FILE > FIXED\n\
         \x20 line ends after full rows        anscheck mend --join-rows FILE > FIXED\n\
-        \x20 rows wider than the screen       set the width that it was made for\n\
+        \x20 made for another width           anscheck mend --columns N FILE > FIXED\n\
         \x20 UTF-8                            convert it to code page 437\n\
-        \x20 too few lines, picture right     anscheck mend --least-lines FILE > FIXED\n",
+        \x20 too few lines, picture right     anscheck mend --least-lines FILE > FIXED\n\
+        \n\
+        With the first two, --mixed helps if only some rows need it. Without a record\n\
+        the width is that of --add-record N.\n\
+        \n\
+        A wrong width is hinted at only if most rows with a line end run over the edge,\n\
+        once each; if there is no line end, and the stated lines come out on a common\n\
+        width; or if columns and lines seem to be exchanged. Else look at the picture.\n\
+        \n\
+        If only line ends, bytes 00h, places or modes follow, this removes them:\n\
+        \x20 anscheck mend --take-out FILE > FIXED\n",
     ),
     (
         Cause::PrintUnknownPlace,
@@ -63,8 +73,8 @@ fn faults_and_notes_mean_something(rt: HostRuntime) {
         \n\
         The record does not say how wide the drawing is, and 80 columns are assumed.\n\
         \n\
-        If that is wrong, set the width, bytes 96 and 97 of the record, low byte first.\n\
-        No command does that.\n"
+        If that is wrong, set the width, here to 132:\n\
+        \x20 anscheck mend --columns 132 FILE > FIXED\n"
     );
 }
 
