@@ -1,7 +1,7 @@
 -- What is in a file whose record or layout is refused.
 use Rattle.std.specs.Prelude.{◌≡◌, ◌⊎◌, ℕ, ◌+◌, ◌-◌, ◌<◌, ◌≤◌, ◌↔◌, IsTrue, List, length, take, drop, codes}
 use Rattle.std.specs.Prelude.{Option, None, Some}
-use Rattle.memchr.specs.Find.{OccursAt, IsLast}
+use Rattle.memchr.specs.Find.{FindsLastNeedle, OccursAt, IsLast}
 use Rattle.ans_model.specs.declared.fault.Cause.{Cause}
 use Rattle.ans_model.specs.declared.fault.Cause.TheVariants.{NoRecord, WrongVersion, WrongKind, CommentsMissing}
 use Rattle.ans_model.specs.declared.fault.Cause.TheVariants.{LinesUnstated, WidthTooLarge, LinesTooLarge}
@@ -9,6 +9,7 @@ use Rattle.ans_model.specs.declared.fault.Cause.TheVariants.{BytesAfterEndMark}
 use Rattle.ans_model.specs.File.Record.{version_field, data_type, file_type, tinfo, comment_count}
 use Rattle.ans_model.specs.File.Layout.{after_content}
 use Rattle.ans_model.specs.File.Refusals.{block_size}
+use Rattle.ans_sauce.specs.Grown.{grown_by}
 use Rattle.ans_sauce.specs.declared.found.Found.{Found}
 use Rattle.ans_sauce.specs.declared.found.Found.TheVariants as found
 
@@ -47,9 +48,15 @@ after_end_mark file = drop 1 (after_content (body_in file))
 
 -- this is found in the file where it is refused for the cause
 abbrev pub IsFound : List ℕ → Found → Cause → Type 0
-IsFound file found.NoRecord cause = (cause ≡ NoRecord) × IsLastRecord file None
+IsFound file found.NoRecord cause = (cause ≡ NoRecord) × FindsLastNeedle file (codes "SAUCE00") None
+IsFound file (found.Remains offset bytes) cause =
+    (cause ≡ NoRecord) × IsLastRecord file None × FindsLastNeedle file (codes "SAUCE00") (Some offset)
+    × (offset + bytes ≡ length file)
 IsFound file (found.Record offset behind) cause =
-    (cause ≡ NoRecord) × IsLastRecord file (Some offset) × (offset + 128 + behind ≡ length file)
+    (cause ≡ NoRecord) × IsLastRecord file (Some offset) × (grown_by (drop offset file) ≡ None)
+    × (offset + 128 + behind ≡ length file)
+IsFound file (found.Grown offset returns) cause =
+    (cause ≡ NoRecord) × IsLastRecord file (Some offset) × (grown_by (drop offset file) ≡ Some returns)
 IsFound file (found.Version bytes) cause = (cause ≡ WrongVersion) × (bytes.now ≡ version_field (record_in file))
 IsFound file (found.Kind kind subkind) cause =
     (cause ≡ WrongKind) × (kind ≡ data_type (record_in file)) × (subkind ≡ file_type (record_in file))

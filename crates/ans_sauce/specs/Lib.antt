@@ -6,3 +6,4 @@ pub mod Judged
 pub mod WithoutLines
 pub mod Fields
 pub mod Contents
+pub mod Grown

@@ -1,5 +1,5 @@
 //! What is in a file whose record or layout is refused.
-ghost use Rattle.std.specs.Prelude.{◌≡◌, ◌+◌, ◌-◌, ◌≤◌, ℕ, List, Some, length};
+ghost use Rattle.std.specs.Prelude.{◌≡◌, ◌+◌, ◌-◌, ◌≤◌, ℕ, List, None, Some, length};
 ghost use Rattle.memchr.specs.Find.{IsLast};
 ghost use Rattle.ans_model.specs.File.Refusals.{record_fault};
 ghost use Rattle.ans_model.specs.declared.fault.Cause.TheVariants.{NoRecord, BytesAfterEndMark};
@@ -7,6 +7,7 @@ ghost use Rattle.ans_sauce.specs.RecordBytes.{sauce_bytes};
 ghost use Rattle.ans_sauce.specs.Split.{EndsInRecord};
 ghost use Rattle.ans_sauce.specs.Found.{IsFound, IsLastRecord, IsRecordAt, after_end_mark};
 
+use crate::grown::grown_by;
 use crate::layout::{body_before, cut_content, cut_record};
 use crate::record::Record;
 use ans_model::fault::{Cause, Fault};
@@ -16,10 +17,16 @@ use memchr::arch::all::twoway::FinderRev;
 /// there is a record of version 00 where it does not count.
 #[derive(Debug, Clone, Copy, PartialEq, Eq)]
 pub enum Found<'a> {
-    /// F1: there is no record anywhere.
+    /// F1: there is no record anywhere, and no `SAUCE00`.
     NoRecord,
+    /// F1: what is left of a record: the offset of the last `SAUCE00` in the file, and how many bytes come from there
+    /// on, fewer than 128.
+    Remains { offset: usize, bytes: usize },
     /// F1: the last record, by its offset in the file, and how many bytes come after it.
     Record { offset: usize, behind: usize },
+    /// F1: the last record, if a transfer as text may have put these returns in it: from its offset on come 128 bytes
+    /// and as many more as line feeds that follow a return.
+    Grown { offset: usize, returns: usize },
     /// F2: the version's two bytes.
     Version(&'a [u8]),
     /// F3: DataType and FileType.
@@ -72,16 +79,41 @@ pub fn last_record_place(bytes: &[u8]) -> Option<usize>
     Some(place)
 }
 
+/// F1, if there is no whole record.
+fn found_remains(file: &[u8]) -> Found<'_>
+    requires { IsLastRecord file.now None }
+    ensures { IsFound file.now result NoRecord }
+{
+    match FinderRev::new(IDENTIFIER).rfind(file, IDENTIFIER) {
+        None => Found::NoRecord,
+        Some(offset) => Found::Remains {
+            offset,
+            bytes: file.len() - offset,
+        },
+    }
+}
+
+/// F1, if this is the last record.
+fn found_record(file: &[u8], offset: usize) -> Found<'_>
+    requires { IsLastRecord file.now (Some offset) }
+    ensures { IsFound file.now result NoRecord }
+{
+    match grown_by(&file[offset..]) {
+        Some(returns) => Found::Grown { offset, returns },
+        None => Found::Record {
+            offset,
+            behind: file.len() - offset - 128,
+        },
+    }
+}
+
 /// F1
 fn found_before_the_end(file: &[u8]) -> Found<'_>
     ensures { IsFound file.now result NoRecord }
 {
     match last_record_place(file) {
-        None => Found::NoRecord,
-        Some(offset) => Found::Record {
-            offset,
-            behind: file.len() - offset - 128,
-        },
+        None => found_remains(file),
+        Some(offset) => found_record(file, offset),
     }
 }
 

@@ -12,6 +12,7 @@
 
 pub mod fields;
 mod found;
+mod grown;
 mod judged;
 mod layout;
 mod no_lines;
@@ -25,6 +26,7 @@ pub use ans_model::fault::{Cause, Fault};
 pub use ans_model::limits::MAX_FILE;
 pub use ans_model::note::Note;
 pub use found::{Found, find, last_record_place};
+pub use grown::grown_by;
 pub use judged::Judged;
 pub use layout::{body_before, cut_content, cut_record, split};
 pub use no_lines::{WithoutLines, without_lines};

@@ -218,6 +218,121 @@ fn records_before_the_end_are_found(rt: HostRuntime) -> Result<(), Fail> {
     Ok(())
 }
 
+/// What comes before a record, an edit of it, how many of its bytes are left, what comes after them, and what is found.
+type LeftRow = (
+    &'static [u8],
+    (usize, &'static [u8]),
+    usize,
+    &'static [u8],
+    Found<'static>,
+);
+
+/// Of a record too few bytes are left, or a transfer as text made it longer: one of its bytes was 0Ah.
+static LEFT: [LeftRow; 10] = [
+    (
+        b"Hi\x1a",
+        (0, b"SAUCE00"),
+        127,
+        b"",
+        Found::Remains {
+            offset: 3,
+            bytes: 127,
+        },
+    ),
+    (
+        b"Hi",
+        (0, b"SAUCE00"),
+        7,
+        b"",
+        Found::Remains {
+            offset: 2,
+            bytes: 7,
+        },
+    ),
+    (b"Hi", (0, b"SAUCE00"), 6, b"", Found::NoRecord),
+    (
+        b"SAUCE00",
+        (0, b"SAUCE00"),
+        90,
+        b"",
+        Found::Remains {
+            offset: 7,
+            bytes: 90,
+        },
+    ),
+    (
+        b"Hi\x1a",
+        (98, b"\r\n"),
+        128,
+        b"\0",
+        Found::Grown {
+            offset: 3,
+            returns: 1,
+        },
+    ),
+    (
+        b"Hi\x1a",
+        (96, b"\r\n\r\n"),
+        128,
+        b"\0\0",
+        Found::Grown {
+            offset: 3,
+            returns: 2,
+        },
+    ),
+    (
+        b"\r\nHi\x1a",
+        (98, b"\r\n"),
+        128,
+        b"\0\0",
+        Found::Record {
+            offset: 5,
+            behind: 2,
+        },
+    ),
+    (
+        b"Hi\x1a",
+        (98, b"\n\r"),
+        128,
+        b"\0",
+        Found::Record {
+            offset: 3,
+            behind: 1,
+        },
+    ),
+    (
+        b"Hi\x1a",
+        (98, b"\r\n"),
+        128,
+        b"\r\n",
+        Found::Grown {
+            offset: 3,
+            returns: 2,
+        },
+    ),
+    (
+        b"\r\nHi\x1a",
+        (0, b"SAUCE00"),
+        128,
+        b"\0",
+        Found::Record {
+            offset: 5,
+            behind: 1,
+        },
+    ),
+];
+
+#[test]
+fn what_is_left_of_a_record_is_found(rt: HostRuntime) -> Result<(), Fail> {
+    for (front, edit, left, behind, found) in LEFT {
+        let mut file = sample_file(rt.alloc(), front, &[edit])?;
+        file.truncate(front.len() + left);
+        file.extend_from_slice(behind)?;
+        expect_found(&rt, &file, found);
+    }
+    Ok(())
+}
+
 /// Of two records less than 128 bytes apart the earlier counts: what comes before the record, a title, what follows the
 /// record, and the place that is found.
 static OVERLAPPING: [(&[u8], &[u8], &[u8], usize); 4] = [
