@@ -55,8 +55,9 @@ IsFound file (found.Remains offset bytes) cause =
 IsFound file (found.Record offset behind) cause =
     (cause ≡ NoRecord) × IsLastRecord file (Some offset) × (grown_by (drop offset file) ≡ None)
     × (offset + 128 + behind ≡ length file)
-IsFound file (found.Grown offset returns) cause =
+IsFound file (found.Grown offset bytes returns) cause =
     (cause ≡ NoRecord) × IsLastRecord file (Some offset) × (grown_by (drop offset file) ≡ Some returns)
+    × (offset + bytes ≡ length file)
 IsFound file (found.Version bytes) cause = (cause ≡ WrongVersion) × (bytes.now ≡ version_field (record_in file))
 IsFound file (found.Kind kind subkind) cause =
     (cause ≡ WrongKind) × (kind ≡ data_type (record_in file)) × (subkind ≡ file_type (record_in file))

@@ -21,16 +21,29 @@ pub enum Found<'a> {
     NoRecord,
     /// F1: what is left of a record: the offset of the last `SAUCE00` in the file, and how many bytes come from there
     /// on, fewer than 128.
-    Remains { offset: usize, bytes: usize },
+    Remains {
+        offset: usize,
+        bytes: usize,
+    },
     /// F1: the last record, by its offset in the file, and how many bytes come after it.
-    Record { offset: usize, behind: usize },
-    /// F1: the last record, if a transfer as text may have put these returns in it: from its offset on come 128 bytes
-    /// and as many more as line feeds that follow a return.
-    Grown { offset: usize, returns: usize },
+    Record {
+        offset: usize,
+        behind: usize,
+    },
+    /// F1: the last record, if a transfer as text may have put returns in it: from its offset on come so many bytes,
+    /// which are 128 and as many more as line feeds that follow a return.
+    Grown {
+        offset: usize,
+        bytes: usize,
+        returns: usize,
+    },
     /// F2: the version's two bytes.
     Version(&'a [u8]),
     /// F3: DataType and FileType.
-    Kind { data_type: u8, file_type: u8 },
+    Kind {
+        data_type: u8,
+        file_type: u8,
+    },
     /// F4: how many comments are counted.
     Comments(u8),
     /// F6: TInfo1.
@@ -39,7 +52,10 @@ pub enum Found<'a> {
     Lines(u16),
     /// F8: the bytes between the first end mark and the comment block or the record, and whether there is
     /// a record among them.
-    AfterEndMark { bytes: &'a [u8], record: bool },
+    AfterEndMark {
+        bytes: &'a [u8],
+        record: bool,
+    },
 }
 
 /// How a record of version 00 begins.
@@ -98,11 +114,16 @@ fn found_record(file: &[u8], offset: usize) -> Found<'_>
     requires { IsLastRecord file.now (Some offset) }
     ensures { IsFound file.now result NoRecord }
 {
+    let bytes = file.len() - offset;
     match grown_by(&file[offset..]) {
-        Some(returns) => Found::Grown { offset, returns },
+        Some(returns) => Found::Grown {
+            offset,
+            bytes,
+            returns,
+        },
         None => Found::Record {
             offset,
-            behind: file.len() - offset - 128,
+            behind: bytes - 128,
         },
     }
 }

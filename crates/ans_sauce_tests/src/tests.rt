@@ -267,6 +267,7 @@ static LEFT: [LeftRow; 10] = [
         b"\0",
         Found::Grown {
             offset: 3,
+            bytes: 129,
             returns: 1,
         },
     ),
@@ -277,6 +278,7 @@ static LEFT: [LeftRow; 10] = [
         b"\0\0",
         Found::Grown {
             offset: 3,
+            bytes: 130,
             returns: 2,
         },
     ),
@@ -307,6 +309,7 @@ static LEFT: [LeftRow; 10] = [
         b"\r\n",
         Found::Grown {
             offset: 3,
+            bytes: 130,
             returns: 2,
         },
     ),

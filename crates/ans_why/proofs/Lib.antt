@@ -6,3 +6,4 @@ pub mod PlayerLines
 pub mod Relying
 pub mod AllHints
 pub mod EnoughLines
+pub mod TextCounts

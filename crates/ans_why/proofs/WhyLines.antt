@@ -38,3 +38,15 @@ pub found_kind : (kind subkind : List ℕ)
     → (codes "found: data type " ++ (kind ++ (codes ", file type " ++ subkind))) ++ codes "\n"
     ≡ named_line (codes "found") (codes "data type " ++ (kind ++ (codes ", file type " ++ subkind)))
 found_kind kind subkind = simp append_assoc
+
+pub found_remains : (offset bytes : List ℕ)
+    → codes "found: what is left of a record, at " ++ (offset ++ (codes ", " ++ (bytes ++ codes "\n")))
+    ≡ named_line (codes "found") (codes "what is left of a record, at " ++ (offset ++ (codes ", " ++ bytes)))
+found_remains offset bytes = simp append_assoc
+
+pub found_grown : (offset bytes returns text : List ℕ)
+    → (codes "found: a record at " ++ (offset ++ (codes ", " ++ bytes)))
+    ++ (codes " bytes, " ++ (returns ++ (text ++ codes "\n")))
+    ≡ named_line (codes "found")
+    ((codes "a record at " ++ (offset ++ (codes ", " ++ bytes))) ++ (codes " bytes, " ++ (returns ++ text)))
+found_grown offset bytes returns text = simp append_assoc

@@ -32,6 +32,7 @@ use Rattle.ans_hints.specs.declared.hints.Hints.{Hints}
 use Rattle.ans_why.specs.Blamed.{AreToBlame}
 use Rattle.ans_why.specs.Known.{known_sequence}
 use Rattle.ans_why.specs.OtherFiles.{known_file}
+use Rattle.ans_why.specs.TextDamage.{IsDamage}
 use Rattle.ans_why.specs.declared.why.Enough.{Enough}
 use Rattle.ans_why.specs.declared.why.Pass.{Pass}
 use Rattle.ans_why.specs.declared.why.Place.{Place}
@@ -81,6 +82,7 @@ pub record IsPass (file_length : ℕ) (sauce content : List ℕ) (pass : Pass) :
   pub relies : IfSome pass.reliance (λ r. (pass.needs ≢ none_known)
       × IsReliance (stated_size sauce) file_length content r)
   pub hints : AreHintsOf (stated_size sauce) (is_non_blink sauce) content [] pass.hints
+  pub damage : IsDamage content pass.damage
 
 -- F19 to F21, which may go away on more lines
 abbrev pub IsOfLines : Cause → Type 0
@@ -123,6 +125,7 @@ pub record IsRefusal (sauce content : List ℕ) (r : Refusal) : Type 0 where
   pub lines : AreLines (stated_width sauce) content r.fault.cause r.lines
   pub known : r.known ≡ known_sequence r.fault.cause (drop r.fault.offset content)
   pub hints : AreRefusalHints sauce content r.fault r.bytes.now r.lines r.hints
+  pub damage : IsDamage content r.damage
 
 -- This many lines are enough for the file, which lacks only that number: its content is good with that many, and with
 -- no fewer. The hints are those of all of it on that many lines.
@@ -145,6 +148,7 @@ pub record IsRecordRefusal (file : List ℕ) (said : RecordRefusal) : Type 0 whe
   pub refused : IsRecordFault file said.fault
   pub found : IsFound file said.found said.fault.cause
   pub other : said.other ≡ known_file file
+  pub damage : IsDamage (content file) said.damage
   pub enough : IsSaidOfLines file said.fault.cause said.enough
 
 -- what is said about a file

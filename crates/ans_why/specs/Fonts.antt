@@ -1,6 +1,6 @@
 -- The names of fonts (SAUCE 00.5, font names), and their code page.
-use Rattle.std.specs.Prelude.{ℕ, Bool, not, ◌&&◌, ◌==◌, List, [], ◌∷◌, codes}
-use Rattle.std.specs.List.{list_any, before_first}
+use Rattle.std.specs.Prelude.{ℕ, Bool, not, ◌&&◌, ◌||◌, ◌==◌, nat_eq, List, [], ◌∷◌, codes}
+use Rattle.std.specs.List.{list_any, before_first, ends_with, starts_with}
 use Rattle.std.specs.Str.{bytes_eq}
 use Rattle.ans_model.specs.File.Record.{trimmed}
 
@@ -26,3 +26,7 @@ font_name field = trimmed (before_first ends_text field)
 -- the name is not empty, and it is none of those
 abbrev pub has_other_code_page : List ℕ → Bool
 has_other_code_page name = not (bytes_eq name []) && not (list_any (bytes_eq name) fonts_of_437)
+
+-- the fonts of the Amiga and those of code page 819 have the letters of Latin-1
+abbrev pub is_latin_font : List ℕ → Bool
+is_latin_font name = starts_with nat_eq name (codes "Amiga ") || ends_with nat_eq name (codes " 819")

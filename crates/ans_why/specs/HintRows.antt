@@ -41,8 +41,8 @@ convert = always (codes ": convert the text to code page 437")
 
 abbrev pub if_bright : Words
 if_bright = record {
-  one = codes "; if it should have a bright background, set the non-blink flag";
-  more = codes "; if they should have bright backgrounds, set the non-blink flag";
+  one = codes "; if it should have a bright background: --ice";
+  more = codes "; if they should have bright backgrounds: --ice";
 }
 
 abbrev pub seen_as_black : Words
@@ -105,3 +105,33 @@ blinking = hint (codes "character blinks") (codes "characters blink") if_bright
 abbrev pub dark_grey : Hint
 dark_grey =
     hint (codes "character is dark grey on black") (codes "characters are dark grey on black") seen_as_black
+
+abbrev pub lost_escapes : Hint
+lost_escapes =
+    hint (codes "sequence has lost its ESC") (codes "sequences have lost their ESC")
+    (record { one = codes ": put 1Bh before its ["; more = codes ": put 1Bh before each [" })
+
+abbrev pub shown_escapes : Hint
+shown_escapes =
+    hint (codes "sequence has ^[ or <- in place of ESC") (codes "sequences have ^[ or <- in place of ESC")
+    (always (codes ": put 1Bh there"))
+
+abbrev pub short_escapes : Hint
+short_escapes =
+    hint (codes "sequence begins with 9Bh") (codes "sequences begin with 9Bh")
+    (always (codes ": write ESC[ in its place"))
+
+abbrev pub converted : Hint
+converted =
+    hint (codes "character looks like Latin-1 that was made UTF-8")
+    (codes "characters look like Latin-1 that was made UTF-8")
+    (always (codes ": convert the text from UTF-8 to Latin-1"))
+
+abbrev pub lone_returns : Hint
+lone_returns =
+    hint (codes "return comes without a line feed") (codes "returns come without line feeds")
+    (record { one = codes ": put 0Ah after it"; more = codes ": put 0Ah after each" })
+
+abbrev pub capital_latin : Hint
+capital_latin =
+    hint (codes "letter after a capital looks like Latin-1") (codes "letters after a capital look like Latin-1") convert

@@ -1,8 +1,9 @@
 -- The lines of hints.
-use Rattle.std.specs.Prelude.{ℕ, ◌==◌, List, [], ◌++◌, codes, decimal, Option, None, Some, if◌then◌else◌}
+use Rattle.std.specs.Prelude.{ℕ, ◌==◌, Bool, true, false, List, [], ◌++◌, codes, decimal, Option, None, Some}
+use Rattle.std.specs.Prelude.{if◌then◌else◌}
 use Rattle.ans_model.specs.Text.Characters.{shown_bytes}
 use Rattle.ans_model.specs.Text.FaultText.{line_of}
-use Rattle.ans_why.specs.Fonts.{font_name, has_other_code_page}
+use Rattle.ans_why.specs.Fonts.{font_name, has_other_code_page, is_latin_font}
 use Rattle.ans_why.specs.HintRows.{Hint, Words, words_for}
 use Rattle.ans_why.specs.HintRows as row
 use Rattle.ans_hints.specs.Hints.{much_dark}
@@ -10,6 +11,8 @@ use Rattle.ans_hints.specs.RowEnds.{wider_rows}
 use Rattle.ans_hints.specs.declared.hints.Hints.{Hints}
 use Rattle.ans_hints.specs.declared.row_ends.WiderRows.{WiderRows}
 use Rattle.ans_pens.specs.declared.times.Times.{Times}
+use Rattle.ans_why.specs.TextDamage.{lost_told}
+use Rattle.ans_why.specs.declared.text_damage.TextDamage.{TextDamage}
 
 -- a line that begins with `hint: `
 abbrev pub hint_line : List ℕ → List ℕ
@@ -60,12 +63,17 @@ row_hints hints =
     ++ (counted_line row.ended_rows hints.row_ends.ended
     ++ (wider_line (wider_rows hints.row_ends) ++ counted_line row.overprints hints.row_ends.overprints))
 
+-- letters of Latin-1, unless the font in the record's field has them
+abbrev pub latin_told : List ℕ → Option Times → Option Times
+latin_told field letters = if is_latin_font (font_name field) then None else letters
+
 -- the hints of text of other systems
-abbrev pub foreign_hints : Hints → List ℕ
-foreign_hints hints =
+abbrev pub foreign_hints : Hints → List ℕ → List ℕ
+foreign_hints hints field =
     counted_line row.wide_characters hints.wide_characters
     ++ (counted_line row.two_byte_letters hints.two_byte_letters
-    ++ (counted_line row.latin_letters hints.latin_letters ++ counted_line row.board_codes hints.board_codes))
+    ++ (counted_line row.latin_letters (latin_told field hints.latin_letters)
+    ++ counted_line row.board_codes hints.board_codes))
 
 -- the hints of colours
 abbrev pub colour_hints : Hints → List ℕ
@@ -77,5 +85,24 @@ colour_hints hints =
 abbrev pub hints_text : Hints → List ℕ → List ℕ
 hints_text hints field =
     row_hints hints
-    ++ (foreign_hints hints
+    ++ (foreign_hints hints field
     ++ (colour_hints hints ++ (font_line field ++ empty_rows_line hints.empty_rows)))
+
+-- the mark of UTF-8
+abbrev pub mark_line : Bool → List ℕ
+mark_line true = hint_line (codes "the file begins with EF BB BF, the mark of UTF-8: remove these bytes")
+mark_line false = []
+
+-- what seems to have happened to a text on its way, except for letters
+abbrev pub text_lines : TextDamage → List ℕ
+text_lines damage =
+    counted_line row.lost_escapes (lost_told damage)
+    ++ (counted_line row.shown_escapes damage.shown_escapes
+    ++ (counted_line row.short_escapes damage.short_escapes
+    ++ (counted_line row.converted damage.converted
+    ++ (counted_line row.lone_returns damage.returns ++ mark_line damage.mark))))
+
+-- and letters, by the record's field of the font
+abbrev pub damage_lines : TextDamage → List ℕ → List ℕ
+damage_lines damage field =
+    text_lines damage ++ counted_line row.capital_latin (latin_told field damage.capital_latin)

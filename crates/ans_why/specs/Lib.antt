@@ -8,3 +8,4 @@ pub mod HintsText
 pub mod PlayersText
 pub mod Explained
 pub mod WhyText
+pub mod TextDamage

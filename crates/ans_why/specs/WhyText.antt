@@ -1,5 +1,5 @@
 -- The text of `why`.
-use Rattle.std.specs.Prelude.{◌≡◌, ℕ, Bool, true, false, List, [], ◌∷◌, ◌++◌, length, codes, decimal}
+use Rattle.std.specs.Prelude.{◌≡◌, ◌==◌, ℕ, Bool, true, false, List, [], ◌∷◌, ◌++◌, length, codes, decimal}
 use Rattle.std.specs.Prelude.{Option, Some, None, is_some, if◌then◌else◌}
 use Rattle.std.specs.List.{flat_map}
 use Rattle.ans_model.specs.declared.cell.Cell.{Cell}
@@ -22,10 +22,12 @@ use Rattle.ans_report.specs.FaultTold.{fault_told}
 pub use Rattle.ans_report.specs.Quoted.{quoted, quoted_byte}
 use Rattle.ans_hints.specs.Hints.{are_torn}
 use Rattle.ans_hints.specs.declared.hints.Hints.{Hints}
-use Rattle.ans_why.specs.HintsText.{hints_text}
+use Rattle.ans_pens.specs.declared.times.Times.{Times}
+use Rattle.ans_why.specs.HintRows.{wide_characters}
+use Rattle.ans_why.specs.HintsText.{counted_line, damage_lines, hints_text, text_lines}
 use Rattle.ans_why.specs.Known.{known_behind_end_mark, known_text}
 use Rattle.ans_why.specs.OtherFiles.{first_known, known_file}
-use Rattle.ans_why.specs.PlayersText.{is_same_class, players_lines}
+use Rattle.ans_why.specs.PlayersText.{is_same_class, players_lines, remedy_line}
 use Rattle.ans_sauce.specs.Judged.{is_pass}
 use Rattle.ans_sauce.specs.declared.judged.Judged.TheVariants.{NoContent, Refused, Passes}
 use Rattle.ans_why.specs.Explained.{IsTrueOf, Why}
@@ -33,6 +35,7 @@ use Rattle.ans_why.specs.declared.known_bytes.Known.{Known}
 use Rattle.ans_why.specs.declared.why.Enough.{Enough}
 use Rattle.ans_why.specs.declared.why.Pass.{Pass}
 use Rattle.ans_why.specs.declared.why.Place.{Place}
+use Rattle.ans_why.specs.declared.why.RecordRefusal.{RecordRefusal}
 use Rattle.ans_why.specs.declared.why.Refusal.{Refusal}
 use Rattle.ans_why.specs.declared.why.Reliance.{Reliance}
 use Rattle.ans_why.specs.declared.why.Shown.{Shown}
@@ -105,6 +108,12 @@ abbrev pub after_end_mark_text : Bool → List ℕ
 after_end_mark_text true = codes " after the end mark, with an older record"
 after_end_mark_text false = codes " after the end mark, without a record"
 
+-- returns in a record
+abbrev pub returns_text : ℕ → List ℕ
+returns_text returns =
+    if returns == 1 then codes " of them a return that a transfer as text may have put in"
+    else codes " of them returns that a transfer as text may have put in"
+
 -- the line of what is found if a record or a layout is refused
 abbrev pub found_line : Found → List ℕ
 found_line found.NoRecord = []
@@ -112,6 +121,14 @@ found_line (found.Record offset after) =
     named_line (codes "found")
     (codes "a record at "
     ++ (decimal offset ++ (codes ", and " ++ (counted_text after (codes "byte") ++ codes " after it"))))
+found_line (found.Remains offset bytes) =
+    named_line (codes "found")
+    (codes "what is left of a record, at "
+    ++ (decimal offset ++ (codes ", " ++ counted_text bytes (codes "byte"))))
+found_line (found.Grown offset bytes returns) =
+    named_line (codes "found")
+    ((codes "a record at " ++ (decimal offset ++ (codes ", " ++ decimal bytes)))
+    ++ (codes " bytes, " ++ (decimal returns ++ returns_text returns)))
 found_line (found.Version bytes) = named_line (codes "found") (codes "version " ++ shown_bytes bytes.now)
 found_line (found.Kind kind subkind) =
     named_line (codes "found")
@@ -131,6 +148,14 @@ known_found _ = None
 abbrev pub enough_lines : Option Enough → List ℕ
 enough_lines None = []
 enough_lines (Some e) = hints_text e.hints e.font.now ++ lines_line (Some e.lines) (are_torn e.hints)
+
+-- characters of UTF-8 in three bytes, unless the hints tell them
+abbrev pub wide_told : RecordRefusal → Option Times
+wide_told said = if is_some said.enough then None else said.damage.wide_characters
+
+-- what seems to have happened to the file on its way as a text
+abbrev pub file_lines : RecordRefusal → List ℕ
+file_lines said = text_lines said.damage ++ counted_line wide_characters (wide_told said)
 
 -- the size
 abbrev pub size_line : Parts → List ℕ
@@ -158,7 +183,9 @@ pass_lines parts pass =
     ++ (reliance_lines pass.reliance
     ++ (players_lines pass.needs pass.players
     ++ (taller_line pass.taller
-    ++ (fix_line (is_fixed pass.reliance) ++ hints_text pass.hints (font_of parts)))))))
+    ++ (fix_line (is_fixed pass.reliance)
+    ++ (damage_lines pass.damage (font_of parts)
+    ++ (hints_text pass.hints (font_of parts) ++ remedy_line pass.players))))))))
 
 -- Empty rows at the end are not spoken of if not all is played.
 abbrev pub told_hints : Refusal → Hints
@@ -169,7 +196,8 @@ refusal_lines parts r =
     fault_lines r.fault r.bytes.now
     ++ (known_line (first_known r.known (known_file (content_of parts)))
     ++ (named_line (codes "cursor") (place_text r.cursor)
-    ++ (hints_text (told_hints r) (font_of parts) ++ lines_line r.lines (are_torn r.hints))))
+    ++ (damage_lines r.damage (font_of parts)
+    ++ (hints_text (told_hints r) (font_of parts) ++ lines_line r.lines (are_torn r.hints)))))
 
 -- the size, and what is odd about the record
 abbrev pub heading_lines : Parts → List ℕ
@@ -180,7 +208,8 @@ abbrev pub why_text : Why → List ℕ
 why_text (NoContent said) =
     fault_lines said.fault []
     ++ (found_line said.found
-    ++ (known_line (first_known said.other (known_found said.found)) ++ enough_lines said.enough))
+    ++ (known_line (first_known said.other (known_found said.found))
+    ++ (file_lines said ++ enough_lines said.enough)))
 why_text (Refused parts refusal) = heading_lines parts ++ refusal_lines parts refusal
 why_text (Passes parts pass) = heading_lines parts ++ pass_lines parts pass
 

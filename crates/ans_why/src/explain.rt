@@ -21,6 +21,7 @@ ghost use Rattle.ans_why.specs.Explained.{IsRecordRefusal, IsRefusal};
 use crate::blamed::bytes_to_blame;
 use crate::known_bytes::known_sequence;
 use crate::other_files::known_file;
+use crate::text_damage::TextDamage;
 use crate::why::{Enough, Pass, Place, RecordRefusal, Refusal, Reliance, Shown};
 use ans_hints::{Hints, Overview};
 use ans_model::beginning::SAFE_BEGINNING;
@@ -30,7 +31,7 @@ use ans_model::limits::MAX_FILE;
 use ans_model::size::Size;
 use ans_model::start::Start;
 use ans_pens::{cells_of_fault, cursors_before, least_lines};
-use ans_sauce::{Parts, WithoutLines, find, without_lines};
+use ans_sauce::{Parts, WithoutLines, cut_content, find, without_lines};
 
 fn place(size: Size, position: Position) -> Place
     requires { IsOnScreen size position }
@@ -164,6 +165,14 @@ fn enough(file: &[u8]) -> Option<Enough<'_>>
     })
 }
 
+/// The bytes up to the first end mark.
+fn front(file: &[u8]) -> &[u8]
+    ensures front { result.now ≡ content file.now }
+    ensures within { length result.now ≤ length file.now }
+{
+    cut_content(file).0
+}
+
 impl<'a> RecordRefusal<'a> {
     /// For a file whose record or layout is refused. It takes no memory.
     pub fn of(file: &'a [u8], fault: Fault) -> RecordRefusal<'a>
@@ -175,6 +184,7 @@ impl<'a> RecordRefusal<'a> {
             fault,
             found: find(file, fault),
             other: known_file(file),
+            damage: TextDamage::of(front(file)),
             enough: match fault.cause {
                 Cause::LinesUnstated => enough(file),
                 _ => None,
@@ -219,6 +229,7 @@ impl<'a> Refusal<'a> {
             cursor: place(size, cursor),
             lines,
             hints: refusal_hints(parts, &fault, bytes, lines),
+            damage: TextDamage::of(content),
         }
     }
 }
@@ -245,6 +256,7 @@ impl<'a> Pass<'a> {
             taller: overview.taller,
             reliance: reliance_of(size, file_length, content, fault),
             hints: overview.hints,
+            damage: TextDamage::of(content),
         }
     }
 }

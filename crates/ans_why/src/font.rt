@@ -3,7 +3,7 @@
 ghost use Rattle.std.specs.Prelude.{◌≡◌};
 ghost use Rattle.std.specs.List.{list_any, position};
 ghost use Rattle.std.specs.Str.{bytes_eq};
-ghost use Rattle.ans_why.specs.Fonts.{fonts_of_437, ends_text, font_name, has_other_code_page};
+ghost use Rattle.ans_why.specs.Fonts.{fonts_of_437, ends_text, font_name, has_other_code_page, is_latin_font};
 
 fn first_zero(field: &[u8]) -> Option<usize>
     ensures { result ≡ position ends_text field.now }
@@ -50,4 +50,11 @@ pub fn has_other_code_page(name: &[u8]) -> bool
     ensures { result ≡ has_other_code_page name.now }
 {
     !name.is_empty() && !is_of_437(name)
+}
+
+/// Whether a font has the letters of Latin-1: those of the Amiga, and those of code page 819 (SAUCE 00.5, font names).
+pub(crate) fn is_latin_font(name: &[u8]) -> bool
+    ensures { result ≡ is_latin_font name.now }
+{
+    name.starts_with(b"Amiga ") || name.ends_with(b" 819")
 }

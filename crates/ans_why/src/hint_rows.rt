@@ -137,8 +137,8 @@ pub(crate) const BLINKING: HintRow = HintRow {
         more: b"characters blink",
     },
     advice: Wording {
-        one: b"; if it should have a bright background, set the non-blink flag",
-        more: b"; if they should have bright backgrounds, set the non-blink flag",
+        one: b"; if it should have a bright background: --ice",
+        more: b"; if they should have bright backgrounds: --ice",
     },
 };
 
@@ -153,4 +153,79 @@ pub(crate) const DARK_GREY: HintRow = HintRow {
         one: b"; some terminals show it as black",
         more: b"; some terminals show them as black",
     },
+};
+
+/// Sequences without their ESC.
+pub(crate) const LOST_ESCAPES: HintRow = HintRow {
+    before: b"",
+    what: Wording {
+        one: b"sequence has lost its ESC",
+        more: b"sequences have lost their ESC",
+    },
+    advice: Wording {
+        one: b": put 1Bh before its [",
+        more: b": put 1Bh before each [",
+    },
+};
+
+/// Sequences with two characters in place of ESC.
+pub(crate) const SHOWN_ESCAPES: HintRow = HintRow {
+    before: b"",
+    what: Wording {
+        one: b"sequence has ^[ or <- in place of ESC",
+        more: b"sequences have ^[ or <- in place of ESC",
+    },
+    advice: Wording {
+        one: b": put 1Bh there",
+        more: b": put 1Bh there",
+    },
+};
+
+/// Sequences with 9Bh in place of ESC and `[`.
+pub(crate) const SHORT_ESCAPES: HintRow = HintRow {
+    before: b"",
+    what: Wording {
+        one: b"sequence begins with 9Bh",
+        more: b"sequences begin with 9Bh",
+    },
+    advice: Wording {
+        one: b": write ESC[ in its place",
+        more: b": write ESC[ in its place",
+    },
+};
+
+/// Code page 437 that was read as Latin-1 and written as UTF-8.
+pub(crate) const CONVERTED: HintRow = HintRow {
+    before: b"",
+    what: Wording {
+        one: b"character looks like Latin-1 that was made UTF-8",
+        more: b"characters look like Latin-1 that was made UTF-8",
+    },
+    advice: Wording {
+        one: b": convert the text from UTF-8 to Latin-1",
+        more: b": convert the text from UTF-8 to Latin-1",
+    },
+};
+
+/// Returns in a text that has no line feeds.
+pub(crate) const LONE_RETURNS: HintRow = HintRow {
+    before: b"",
+    what: Wording {
+        one: b"return comes without a line feed",
+        more: b"returns come without line feeds",
+    },
+    advice: Wording {
+        one: b": put 0Ah after it",
+        more: b": put 0Ah after each",
+    },
+};
+
+/// Letters of Latin-1 after a capital.
+pub(crate) const CAPITAL_LATIN: HintRow = HintRow {
+    before: b"",
+    what: Wording {
+        one: b"letter after a capital looks like Latin-1",
+        more: b"letters after a capital look like Latin-1",
+    },
+    advice: CONVERT,
 };

@@ -1,15 +1,19 @@
 //! The lines of hints.
 
+ghost use Rattle.std.specs.Prelude.{◌≡◌};
 ghost use Rattle.ans_why.specs.HintsText.{colour_hints, empty_rows_line, font_line, foreign_hints, hints_text};
-ghost use Rattle.ans_why.specs.HintsText.{counted_line, counted_words, row_hints, wider_line};
+ghost use Rattle.ans_why.specs.HintsText.{counted_line, counted_words, latin_told, row_hints, wider_line};
+ghost use Rattle.ans_why.specs.HintsText.{damage_lines, mark_line, text_lines};
 ghost use Rattle.ans_why.specs.HintRows.{hint_of, words_of};
 ghost use Rattle.ans_write.specs.Puts.{Puts};
 
-use crate::font::{font_name, has_other_code_page};
+use crate::font::{font_name, has_other_code_page, is_latin_font};
 use crate::hint_rows::{
-    BARE_LINE_FEEDS, BLINKING, BOARD_CODES, DARK_GREY, ENDED_ROWS, HintRow, LATIN_LETTERS,
-    MODERN_COLOURS, OVERPRINTS, ROWS_OVER, TWO_BYTE_LETTERS, WIDE_CHARACTERS, Wording,
+    BARE_LINE_FEEDS, BLINKING, BOARD_CODES, CAPITAL_LATIN, CONVERTED, DARK_GREY, ENDED_ROWS,
+    HintRow, LATIN_LETTERS, LONE_RETURNS, LOST_ESCAPES, MODERN_COLOURS, OVERPRINTS, ROWS_OVER,
+    SHORT_ESCAPES, SHOWN_ESCAPES, TWO_BYTE_LETTERS, WIDE_CHARACTERS, Wording,
 };
+use crate::text_damage::TextDamage;
 use ans_hints::{Hints, WiderRows};
 use ans_pens::Times;
 use ans_write::{Outbox, put_characters};
@@ -32,7 +36,11 @@ fn put_counted_words<W: Write>(out: &mut Outbox<'_, W>, what: Wording, times: Ti
     out.put_decimal(times.first as u64);
 }
 
-fn put_counted_line<W: Write>(out: &mut Outbox<'_, W>, row: &HintRow, times: Option<Times>)
+pub(crate) fn put_counted_line<W: Write>(
+    out: &mut Outbox<'_, W>,
+    row: &HintRow,
+    times: Option<Times>,
+)
     ensures { Puts W.contents out.old out.new (counted_line (hint_of row.now) times) }
 {
     let Some(times) = times else {
@@ -93,12 +101,23 @@ fn put_row_hints<W: Write>(out: &mut Outbox<'_, W>, hints: &Hints)
     put_counted_line(out, &OVERPRINTS, hints.row_ends.overprints);
 }
 
-fn put_foreign_hints<W: Write>(out: &mut Outbox<'_, W>, hints: &Hints)
-    ensures { Puts W.contents out.old out.new (foreign_hints hints.now) }
+/// Letters of Latin-1, unless the font has them.
+fn latin_told(field: &[u8], letters: Option<Times>) -> Option<Times>
+    ensures { result ≡ latin_told field.now letters }
+{
+    if is_latin_font(font_name(field)) {
+        None
+    } else {
+        letters
+    }
+}
+
+fn put_foreign_hints<W: Write>(out: &mut Outbox<'_, W>, hints: &Hints, field: &[u8])
+    ensures { Puts W.contents out.old out.new (foreign_hints hints.now field.now) }
 {
     put_counted_line(out, &WIDE_CHARACTERS, hints.wide_characters);
     put_counted_line(out, &TWO_BYTE_LETTERS, hints.two_byte_letters);
-    put_counted_line(out, &LATIN_LETTERS, hints.latin_letters);
+    put_counted_line(out, &LATIN_LETTERS, latin_told(field, hints.latin_letters));
     put_counted_line(out, &BOARD_CODES, hints.board_codes);
 }
 
@@ -117,8 +136,40 @@ pub fn put_hints<W: Write>(out: &mut Outbox<'_, W>, hints: &Hints, font_field: &
     ensures { Puts W.contents out.old out.new (hints_text hints.now font_field.now) }
 {
     put_row_hints(out, hints);
-    put_foreign_hints(out, hints);
+    put_foreign_hints(out, hints, font_field);
     put_colour_hints(out, hints);
     put_font_line(out, font_field);
     put_empty_rows_line(out, hints.empty_rows);
+}
+
+fn put_mark_line<W: Write>(out: &mut Outbox<'_, W>, mark: bool)
+    ensures { Puts W.contents out.old out.new (mark_line mark) }
+{
+    if mark {
+        out.put(b"hint: the file begins with EF BB BF, the mark of UTF-8: remove these bytes\n");
+    }
+}
+
+/// Puts a line for each thing that seems to have happened to a text on its way, except for letters.
+pub(crate) fn put_text_damage<W: Write>(out: &mut Outbox<'_, W>, damage: &TextDamage)
+    ensures { Puts W.contents out.old out.new (text_lines damage.now) }
+{
+    put_counted_line(out, &LOST_ESCAPES, damage.lost_told());
+    put_counted_line(out, &SHOWN_ESCAPES, damage.shown_escapes);
+    put_counted_line(out, &SHORT_ESCAPES, damage.short_escapes);
+    put_counted_line(out, &CONVERTED, damage.converted);
+    put_counted_line(out, &LONE_RETURNS, damage.returns);
+    put_mark_line(out, damage.mark);
+}
+
+/// The same, and a line on letters of Latin-1 after a capital, unless the record's field names a font that has them.
+pub(crate) fn put_damage<W: Write>(out: &mut Outbox<'_, W>, damage: &TextDamage, font_field: &[u8])
+    ensures { Puts W.contents out.old out.new (damage_lines damage.now font_field.now) }
+{
+    put_text_damage(out, damage);
+    put_counted_line(
+        out,
+        &CAPITAL_LATIN,
+        latin_told(font_field, damage.capital_latin),
+    );
 }

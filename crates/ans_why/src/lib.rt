@@ -20,6 +20,7 @@ mod known_bytes;
 mod other_files;
 mod players_text;
 mod terminal_letters;
+mod text_damage;
 mod why;
 mod why_text;
 
@@ -29,5 +30,6 @@ pub use hints_text::put_hints;
 pub use known_bytes::{Known, known_behind_end_mark, known_sequence};
 pub use other_files::known_file;
 pub use terminal_letters::Terminal;
+pub use text_damage::TextDamage;
 pub use why::{Enough, Pass, RecordRefusal, Refusal, Reliance, Shown, Why};
 pub use why_text::{known_found, put_why};

@@ -1,6 +1,7 @@
 //! What `why` says about a file.
 
 use crate::known_bytes::Known;
+use crate::text_damage::TextDamage;
 use ans_hints::Hints;
 use ans_kinds::Players;
 use ans_model::cell::Cell;
@@ -48,6 +49,7 @@ pub struct Pass<'a> {
     /// What it relies on, if it does not pass from every start.
     pub reliance: Option<Reliance<'a>>,
     pub hints: Hints,
+    pub damage: TextDamage,
 }
 
 /// What there is to say about a content that is refused from the cleared start.
@@ -65,6 +67,8 @@ pub struct Refusal<'a> {
     /// Those of all of the content on that many lines; or if there is no such number, those of its tokens up to
     /// the one to blame.
     pub hints: Hints,
+    /// That of all of the content.
+    pub damage: TextDamage,
 }
 
 /// How many lines are enough for a content whose record states none.
@@ -85,6 +89,8 @@ pub struct RecordRefusal<'a> {
     pub found: Found<'a>,
     /// Which other kind of file it is, if it is known as one.
     pub other: Option<Known>,
+    /// That of the bytes up to the first end mark.
+    pub damage: TextDamage,
     /// For F5, if neither F6 nor F8 would follow: the number of lines, if one is enough.
     pub enough: Option<Enough<'a>>,
 }

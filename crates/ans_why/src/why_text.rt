@@ -12,16 +12,19 @@ ghost use Rattle.ans_why.specs.WhyText.{after_end_mark_text, enough_lines, headi
 ghost use Rattle.ans_hints.specs.Hints.{are_torn};
 ghost use Rattle.ans_why.specs.OtherFiles.{first_known, known_file};
 ghost use Rattle.ans_why.specs.WhyText.{found_line, pass_lines, refusal_lines, told_hints, torn_text, why_text};
+ghost use Rattle.ans_why.specs.WhyText.{file_lines, returns_text, wide_told};
 
-use crate::hints_text::put_hints;
+use crate::hint_rows::WIDE_CHARACTERS;
+use crate::hints_text::{put_counted_line, put_damage, put_hints, put_text_damage};
 use crate::known_bytes::{Known, known_behind_end_mark};
 use crate::other_files::known_file;
-use crate::players_text::{is_same_class, put_players};
+use crate::players_text::{is_same_class, put_players, put_remedy_line};
 use crate::why::{Enough, Pass, Place, RecordRefusal, Refusal, Reliance, Shown, Why};
 use ans_hints::Hints;
 use ans_model::cell::Cell;
 use ans_model::fault::Fault;
 use ans_model::start::Start;
+use ans_pens::Times;
 use ans_report::{
     put_counted, put_fault, put_named_line, put_needed_parts, put_notes, put_quoted, put_size_line,
 };
@@ -182,7 +185,9 @@ fn put_pass<W: Write>(out: &mut Outbox<'_, W>, parts: &Parts<'_>, pass: &Pass<'_
     put_players(out, pass.needs, &pass.players);
     put_taller_line(out, pass.taller);
     put_fix_line(out, is_fixed(pass.reliance));
+    put_damage(out, &pass.damage, parts.sauce().font());
     put_hints(out, &pass.hints, parts.sauce().font());
+    put_remedy_line(out, &pass.players);
 }
 
 fn put_known_line<W: Write>(out: &mut Outbox<'_, W>, known: Option<Known>)
@@ -244,6 +249,7 @@ fn put_refused<W: Write>(out: &mut Outbox<'_, W>, parts: &Parts<'_>, refusal: &R
     put_fault_lines(out, &refusal.fault, refusal.bytes);
     put_known_line(out, first_known(refusal.known, known_file(parts.content())));
     put_place_line(out, b"cursor", refusal.cursor);
+    put_damage(out, &refusal.damage, parts.sauce().font());
     put_hints(out, &told_hints(refusal), parts.sauce().font());
     put_lines_line(out, refusal.lines, &refusal.hints);
 }
@@ -266,6 +272,36 @@ fn put_record_found<W: Write>(out: &mut Outbox<'_, W>, offset: usize, after: usi
     out.put(b", and ");
     put_counted(out, after as u64, b"byte");
     out.put(b" after it\n");
+}
+
+fn put_remains_found<W: Write>(out: &mut Outbox<'_, W>, offset: usize, bytes: usize)
+    ensures { Puts W.contents out.old out.new (found_line (found.Remains offset bytes)) }
+{
+    out.put(b"found: what is left of a record, at ");
+    out.put_decimal(offset as u64);
+    out.put(b", ");
+    put_counted(out, bytes as u64, b"byte");
+    out.put(b"\n");
+}
+
+fn returns_text(returns: usize) -> &'static [u8]
+    ensures { result.now ≡ returns_text returns }
+{
+    if returns == 1 {
+        b" of them a return that a transfer as text may have put in"
+    } else {
+        b" of them returns that a transfer as text may have put in"
+    }
+}
+
+fn put_grown_found<W: Write>(out: &mut Outbox<'_, W>, offset: usize, bytes: usize, returns: usize)
+    ensures { Puts W.contents out.old out.new (found_line (found.Grown offset bytes returns)) }
+{
+    put_numbers(out, b"found: a record at ", offset, b", ", bytes);
+    out.put(b" bytes, ");
+    out.put_decimal(returns as u64);
+    out.put(returns_text(returns));
+    out.put(b"\n");
 }
 
 fn put_kind_found<W: Write>(out: &mut Outbox<'_, W>, data_type: u8, file_type: u8)
@@ -307,6 +343,12 @@ fn put_found<W: Write>(out: &mut Outbox<'_, W>, found: &Found<'_>)
 {
     match *found {
         Found::NoRecord => {}
+        Found::Remains { offset, bytes } => put_remains_found(out, offset, bytes),
+        Found::Grown {
+            offset,
+            bytes,
+            returns,
+        } => put_grown_found(out, offset, bytes, returns),
         Found::Record { offset, behind } => put_record_found(out, offset, behind),
         Found::Version(version) => put_version_found(out, version),
         Found::Kind {
@@ -343,12 +385,31 @@ fn put_enough<W: Write>(out: &mut Outbox<'_, W>, enough: Option<Enough<'_>>)
     put_lines_line(out, Some(enough.lines), &enough.hints);
 }
 
+/// Characters of UTF-8 in three bytes, unless the hints tell them.
+fn wide_told(said: &RecordRefusal<'_>) -> Option<Times>
+    ensures { result ≡ wide_told said.now }
+{
+    match said.enough {
+        Some(_) => None,
+        None => said.damage.wide_characters,
+    }
+}
+
+/// Puts what seems to have happened to the file on its way as a text.
+fn put_file_damage<W: Write>(out: &mut Outbox<'_, W>, said: &RecordRefusal<'_>)
+    ensures { Puts W.contents out.old out.new (file_lines said.now) }
+{
+    put_text_damage(out, &said.damage);
+    put_counted_line(out, &WIDE_CHARACTERS, wide_told(said));
+}
+
 fn put_record_refusal<W: Write>(out: &mut Outbox<'_, W>, said: &RecordRefusal<'_>)
     ensures { Puts W.contents out.old out.new (why_text (NoContent said.now)) }
 {
     put_fault_lines(out, &said.fault, b"");
     put_found(out, &said.found);
     put_known_line(out, first_known(said.other, known_found(&said.found)));
+    put_file_damage(out, said);
     put_enough(out, said.enough);
 }
 
@@ -364,14 +425,15 @@ fn put_heading<W: Write>(out: &mut Outbox<'_, W>, parts: &Parts<'_>)
 /// first.
 ///
 /// If the file passes: which other kind of file it is known as, what it needs, where and why, on which players it
-/// shows its picture, whether it plays the same on taller screens, the command that fixes it, and the hints.
+/// shows its picture, whether it plays the same on taller screens, the command that fixes it, what happened to it as
+/// a text, the hints, and the command that makes it look the same everywhere.
 ///
 /// If its content is refused: the fault with the offending bytes, what they or the file are known as, where the
-/// cursor is before them, the hints, and the number of lines that is enough.
+/// cursor is before them, what happened to it as a text, the hints, and the number of lines that is enough.
 ///
 /// If its record or its layout is refused, there are no size and no notes. The fault comes, what is found there,
-/// and what the file or that is known as; and if nothing but the number of lines is missing, the hints on as many
-/// as are enough, and that number.
+/// what the file or that is known as, and what happened to it as a text; and if nothing but the number of lines is
+/// missing, the hints on as many as are enough, and that number.
 pub fn put_why<W: Write>(out: &mut Outbox<'_, W>, why: &Why<'_>)
     ensures { Puts W.contents out.old out.new (why_text why.now) }
 {

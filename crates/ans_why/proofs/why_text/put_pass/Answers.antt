@@ -10,6 +10,7 @@ returns g c =
     let verdict : c.verdict_words.result.now ≡ verdict_words c.args.pass.now.needs = search rules in
     let fixed : c.is_fixed.result ≡ is_fixed c.args.pass.now.reliance = search rules in
     let font : c.font.result.now ≡ font_of c.args.parts.now = search rules in
+    let font-2 : c.font-2.result.now ≡ font_of c.args.parts.now = search rules in
     let known : c.known_file.result ≡ known_file (content_of c.args.parts.now) =
     c.known_file.ensures ∙ ap known_file c.content.ensures in
     Puts-then (rw verdict at c.put_named_line.ensures)
@@ -18,4 +19,6 @@ returns g c =
     (Puts-then c.put_reliance.ensures
     (Puts-then c.put_players.ensures
     (Puts-then c.put_taller_line.ensures
-    (Puts-then (rw fixed at c.put_fix_line.ensures) (rw font at c.put_hints.ensures)))))))
+    (Puts-then (rw fixed at c.put_fix_line.ensures)
+    (Puts-then (rw font at c.put_damage.ensures)
+    (Puts-then (rw font-2 at c.put_hints.ensures) c.put_remedy_line.ensures))))))))

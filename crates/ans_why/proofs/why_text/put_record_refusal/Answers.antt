@@ -9,4 +9,5 @@ returns g c =
     let known = c.first_known.ensures ∙ ap (first_known c.args.said.now.other) c.known_found.ensures in
     Puts-then c.put_fault_lines.ensures
     (Puts-then c.put_found.ensures
-    (Puts-then (Puts-same (ap known_line known) c.put_known_line.ensures) c.put_enough.ensures))
+    (Puts-then (Puts-same (ap known_line known) c.put_known_line.ensures)
+    (Puts-then c.put_file_damage.ensures c.put_enough.ensures)))

@@ -7,6 +7,7 @@ returns c = record {
   refused = c.requires.refused;
   found = c.find.ensures;
   other = c.known_file.ensures;
+  damage = rw c.front.ensures.front at c.of.ensures;
   enough = elim c.match-fault.branch [
     | in-LinesUnstated w ↦
         rw w.result-is (said_of_lines c.args.file.now c.args.fault.cause w.enough.result w.in-LinesUnstated.is

@@ -21,4 +21,5 @@ returns c =
       known = c.known_sequence.ensures ∙ ap (known_sequence c.args.fault.cause)
           (c.split_at.ensures.back ∙ ap (drop c.args.fault.offset) c.content-content.ensures);
       hints = c.refusal_hints.ensures;
+      damage = rw c.content-content.ensures at c.of.ensures;
     }
