@@ -18,8 +18,8 @@ use Rattle.ans_tokens.specs.Walk.{Front, front_with, WalksTo}
 use Rattle.ans_tokens.proofs.Walked.{walked_whole}
 use Rattle.ans_hints.specs.Places.{Condition, offset_if, places, places_before, times_of}
 use Rattle.ans_hints.specs.Conditions.{keeps_column, loose_line_feed, wide_character, two_byte_letter, latin_letter}
-use Rattle.ans_hints.specs.Conditions.{board_code, later_colours, blinking_glyph, dark_glyph, seen_glyph, prints}
-use Rattle.ans_hints.specs.Conditions.{sets_column}
+use Rattle.ans_hints.specs.Conditions.{board_code, later_colours, off_switches, blinking_glyph, dark_glyph, seen_glyph}
+use Rattle.ans_hints.specs.Conditions.{prints, sets_column}
 use Rattle.ans_hints.specs.RowEnds.{Written, nothing_written, row_ends_with, row_with, written_after, written_with}
 use Rattle.ans_hints.specs.declared.row.Row.{Row}
 use Rattle.ans_pens.specs.Counted.{counted}
@@ -159,6 +159,7 @@ module _ (first old : Walk) (front : Front) (t : TokenKind) (text behind : List 
     latin_letters = found latin_letter 1 (offset + 1) _ (omega arith) h.hints.latin_letters;
     board_codes = found board_code 0 offset _ (omega arith) h.hints.board_codes;
     later_colours = found later_colours 0 offset _ (omega arith) h.hints.later_colours;
+    off_switches = found off_switches 0 offset _ (omega arith) h.hints.off_switches;
     blinking_glyphs =
         ap (λ (v : Option Times). counted v (not first.non_blink && blinking_glyph z here t behind) offset)
         h.hints.blinking_glyphs
@@ -212,6 +213,7 @@ is_at_later walk n m h later =
         latin_letters = omega (arith, w.latin_letters, later);
         board_codes = omega (arith, w.board_codes, later);
         later_colours = omega (arith, w.later_colours, later);
+        off_switches = omega (arith, w.off_switches, later);
         blinking_glyphs = omega (arith, w.blinking_glyphs, later);
         seen_glyphs = omega (arith, w.seen_glyphs, later);
         dark_glyphs = omega (arith, w.dark_glyphs, later);

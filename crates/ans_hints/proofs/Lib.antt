@@ -3,6 +3,7 @@ mod TimesFound
 mod LooseFound
 pub mod HintsFound
 mod PlainConditions
+pub mod ModernNumbers
 pub mod RunHints
 mod LineEndBytes
 mod FullRowsFound

@@ -57,6 +57,20 @@ abbrev pub later_colours : Condition
 later_colours z s (Colours parameters) rest = list_any is_later_colour parameters
 later_colours z s _ rest = false
 
+-- a number by which later terminals switch bold, reverse or a colour off, and ANSI.SYS nothing
+abbrev pub is_off_switch : ℕ → Bool
+is_off_switch n = n == 22 || n == 27 || n == 39 || n == 49
+
+-- one of both kinds
+abbrev pub is_modern : ℕ → Bool
+is_modern n = is_later_colour n || is_off_switch n
+
+-- a sequence that switches something off so, and sets no such colour
+abbrev pub off_switches : Condition
+off_switches z s (Colours parameters) rest =
+    list_any is_off_switch parameters && not (list_any is_later_colour parameters)
+off_switches z s _ rest = false
+
 -- a glyph is printed with bit 7 of the attribute set
 abbrev pub blinking_glyph : Condition
 blinking_glyph z s (Glyph byte) rest = nat_le 0x80 s.attribute

@@ -5,7 +5,7 @@ use Rattle.ans_model.specs.Screen.State.{Size}
 use Rattle.ans_model.specs.Screen.StartClass.{cleared}
 use Rattle.ans_hints.specs.Places.{places, places_before, times_of}
 use Rattle.ans_hints.specs.Conditions.{keeps_column, loose_line_feed, wide_character, two_byte_letter, latin_letter}
-use Rattle.ans_hints.specs.Conditions.{board_code, later_colours, blinking_glyph, dark_glyph, seen_glyph}
+use Rattle.ans_hints.specs.Conditions.{board_code, later_colours, off_switches, blinking_glyph, dark_glyph, seen_glyph}
 use Rattle.ans_pens.specs.Counted.{count_of}
 use Rattle.ans_hints.specs.RowEnds.{are_all_ended, nothing_written, wider_rows, written_after}
 use Rattle.ans_hints.specs.Rows.{empty_rows}
@@ -25,6 +25,7 @@ pub record AreHints (z : Size) (non_blink : Bool) (tokens : List TokenKind) (tex
   pub latin_letters : hints.latin_letters ≡ times_of (places latin_letter z (cleared z) 1 tokens texts behind)
   pub board_codes : hints.board_codes ≡ times_of (places board_code z (cleared z) 0 tokens texts behind)
   pub later_colours : hints.later_colours ≡ times_of (places later_colours z (cleared z) 0 tokens texts behind)
+  pub off_switches : hints.off_switches ≡ times_of (places off_switches z (cleared z) 0 tokens texts behind)
   pub blinking_glyphs : hints.blinking_glyphs
       ≡ (if non_blink then None else times_of (places blinking_glyph z (cleared z) 0 tokens texts behind))
   pub seen_glyphs : hints.seen_glyphs ≡ times_of (places seen_glyph z (cleared z) 0 tokens texts behind)

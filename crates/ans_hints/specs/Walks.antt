@@ -8,7 +8,7 @@ use Rattle.ans_model.specs.Screen.StartClass.{cleared}
 use Rattle.ans_pens.specs.Pens.{further, pen_of, StandsOn}
 use Rattle.ans_tokens.specs.Walk.{Front}
 use Rattle.ans_hints.specs.Conditions.{loose_line_feed, wide_character, two_byte_letter, latin_letter, board_code}
-use Rattle.ans_hints.specs.Conditions.{later_colours, blinking_glyph, dark_glyph, is_seen, seen_glyph, prints}
+use Rattle.ans_hints.specs.Conditions.{later_colours, off_switches, blinking_glyph, dark_glyph, is_seen, seen_glyph, prints}
 use Rattle.ans_hints.specs.Conditions.{sets_column}
 use Rattle.ans_hints.specs.Places.{places_before, times_of}
 use Rattle.ans_pens.specs.declared.times.Times.{Times}
@@ -46,6 +46,7 @@ hints_with walk s offset t rest = record {
   latin_letters = counted walk.hints.latin_letters (latin_letter walk.size s t rest) (offset + 1);
   board_codes = counted walk.hints.board_codes (board_code walk.size s t rest) offset;
   later_colours = counted walk.hints.later_colours (later_colours walk.size s t rest) offset;
+  off_switches = counted walk.hints.off_switches (off_switches walk.size s t rest) offset;
   blinking_glyphs = counted walk.hints.blinking_glyphs
       (not walk.non_blink && blinking_glyph walk.size s t rest) offset;
   seen_glyphs = counted walk.hints.seen_glyphs (seen_glyph walk.size s t rest) offset;
@@ -94,6 +95,7 @@ pub record CountsWithin (hints : Hints) (offset : ℕ) : Type 0 where
   pub latin_letters : count_of hints.latin_letters ≤ offset
   pub board_codes : count_of hints.board_codes ≤ offset
   pub later_colours : count_of hints.later_colours ≤ offset
+  pub off_switches : count_of hints.off_switches ≤ offset
   pub blinking_glyphs : count_of hints.blinking_glyphs ≤ offset
   pub seen_glyphs : count_of hints.seen_glyphs ≤ offset
   pub dark_glyphs : count_of hints.dark_glyphs ≤ offset

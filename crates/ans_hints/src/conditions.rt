@@ -5,6 +5,7 @@ ghost use Rattle.std.specs.List.{list_any};
 ghost use Rattle.std.specs.Str.{is_utf8};
 ghost use Rattle.ans_hints.specs.Conditions.{begins_with_pipe_number, begins_with_two_byte_letter, begins_with_wide};
 ghost use Rattle.ans_hints.specs.Conditions.{begins_with_x_number, is_digit, is_hex_digit, is_later_colour};
+ghost use Rattle.ans_hints.specs.Conditions.{is_modern, is_off_switch};
 ghost use Rattle.ans_hints.specs.Conditions.{is_latin_letter, is_letter, is_second_byte, is_seen, is_small_letter};
 ghost use Rattle.ans_hints.specs.Conditions.{wide_size};
 
@@ -59,6 +60,33 @@ fn is_later_colour(number: u8) -> bool
     ensures { result ≡ is_later_colour number }
 {
     matches!(number, 38 | 48 | 90..=97 | 100..=107)
+}
+
+fn is_off_switch(number: u8) -> bool
+    ensures { result ≡ is_off_switch number }
+{
+    matches!(number, 22 | 27 | 39 | 49)
+}
+
+fn is_modern(number: u8) -> bool
+    ensures { result ≡ is_modern number }
+{
+    is_later_colour(number) || is_off_switch(number)
+}
+
+/// Whether one of the numbers means something on later terminals only. It is asked of each sequence of colours, and
+/// mostly it is not so.
+pub(crate) fn has_modern(numbers: &[u8]) -> bool
+    ensures { result ≡ list_any is_modern numbers.now }
+{
+    numbers.iter().any(|number| is_modern(*number))
+}
+
+/// Whether one of the numbers switches something off on later terminals, and nothing by ANSI.SYS.
+pub(crate) fn has_off_switch(numbers: &[u8]) -> bool
+    ensures { result ≡ list_any is_off_switch numbers.now }
+{
+    numbers.iter().any(|number| is_off_switch(*number))
 }
 
 /// Whether one of the numbers sets a colour on later terminals, and none by ANSI.SYS.

@@ -31,6 +31,9 @@ pub struct Hints {
     pub board_codes: Option<Times>,
     /// Sequences with colours that only later terminals know.
     pub later_colours: Option<Times>,
+    /// Sequences with 22, 27, 39 or 49, by which only later terminals switch something off, and with none of those
+    /// colours.
+    pub off_switches: Option<Times>,
     /// Glyphs that blink.
     pub blinking_glyphs: Option<Times>,
     /// Glyphs that are seen: all but 20h, 00h and FFh. They are no hint and have no line.

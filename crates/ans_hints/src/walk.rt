@@ -1,14 +1,16 @@
 //! A walk over the tokens of a content that finds its hints.
 
 ghost use Rattle.std.specs.Prelude.{◌≡◌, ◌+◌, ◌-◌, ◌<◌, ◌≤◌, ◌&&◌, ◌||◌, ◌==◌, ℕ, List, true, false, length};
-ghost use Rattle.std.specs.Prelude.{min, slice_index};
+ghost use Rattle.std.specs.Prelude.{min, not, slice_index};
 ghost use Rattle.ans_model.specs.Bytes.{longest_file};
 ghost use Rattle.ans_model.specs.Sequence.TokenKind.{Colours, Glyph, LineFeed};
 ghost use Rattle.ans_model.specs.Screen.Attribute.{attribute_after_all};
 ghost use Rattle.ans_model.specs.Screen.State.{State};
 ghost use Rattle.ans_model.specs.Inside.ShownKind.{shown_kind};
 ghost use Rattle.ans_hints.specs.Conditions.{begins_with_pipe_number, begins_with_two_byte_letter, is_latin_letter};
-ghost use Rattle.ans_hints.specs.Conditions.{begins_with_x_number, is_letter, is_small_letter};
+ghost use Rattle.ans_hints.specs.Conditions.{begins_with_x_number, is_later_colour, is_letter, is_off_switch};
+ghost use Rattle.ans_hints.specs.Conditions.{is_small_letter};
+ghost use Rattle.std.specs.List.{list_any};
 ghost use Rattle.ans_pens.specs.Counted.{count_of, counted};
 ghost use Rattle.ans_pens.specs.Pens.{glyph_wraps, pen_of};
 ghost use Rattle.ans_hints.specs.RowEnds.{is_stuck, with_glyph, CountsRows};
@@ -18,8 +20,8 @@ ghost use Rattle.ans_tokens.specs.Walk.{no_front};
 
 use crate::conditions::{
     begins_with_latin_letter, begins_with_pipe_number, begins_with_two_byte_letter,
-    begins_with_wide, begins_with_x_number, has_later_colour, is_letter, is_seen, is_small_letter,
-    may_be_foreign,
+    begins_with_wide, begins_with_x_number, has_later_colour, has_modern, has_off_switch,
+    is_letter, is_seen, is_small_letter, may_be_foreign,
 };
 use crate::hints::Hints;
 use crate::row::Row;
@@ -66,6 +68,7 @@ impl Walk {
                 latin_letters: None,
                 board_codes: None,
                 later_colours: None,
+                off_switches: None,
                 blinking_glyphs: None,
                 seen_glyphs: None,
                 dark_glyphs: None,
@@ -248,6 +251,46 @@ impl Walk {
         self.print_in(self.pen.cursor.row);
     }
 
+    /// A sequence of colours with a number that only later terminals know.
+    #[cold]
+    #[inline(never)]
+    fn count_modern(&mut self, offset: usize, numbers: &[u8])
+        requires room { offset < longest_file }
+        requires within { CountsWithin self.old.hints offset }
+        ensures within { CountsWithin self.new.hints (offset + 1) }
+        ensures hints { self.new ≡ record self.old {
+          hints = record self.old.hints {
+            later_colours = counted self.old.hints.later_colours (list_any is_later_colour numbers.now) offset;
+            off_switches = counted self.old.hints.off_switches
+                (list_any is_off_switch numbers.now && not (list_any is_later_colour numbers.now)) offset;
+          };
+        } }
+    {
+        let is_later = has_later_colour(numbers);
+        let is_off = has_off_switch(numbers) && !is_later;
+        count(&mut self.hints.later_colours, is_later, offset);
+        count(&mut self.hints.off_switches, is_off, offset);
+    }
+
+    /// A sequence of colours; most have no such number.
+    #[inline(always)]
+    fn look_at_colours(&mut self, offset: usize, numbers: &[u8])
+        requires room { offset < longest_file }
+        requires within { CountsWithin self.old.hints offset }
+        ensures within { CountsWithin self.new.hints (offset + 1) }
+        ensures hints { self.new ≡ record self.old {
+          hints = record self.old.hints {
+            later_colours = counted self.old.hints.later_colours (list_any is_later_colour numbers.now) offset;
+            off_switches = counted self.old.hints.off_switches
+                (list_any is_off_switch numbers.now && not (list_any is_later_colour numbers.now)) offset;
+          };
+        } }
+    {
+        if has_modern(numbers) {
+            self.count_modern(offset, numbers);
+        }
+    }
+
     /// Looks at a token at this offset, before it is played.
     #[inline(always)]
     fn look(&mut self, offset: usize, kind: &Kind, behind: &[u8])
@@ -279,10 +322,7 @@ impl Walk {
                 let pen = self.pen;
                 self.print_in(pen.row_of_tab(self.size));
             }
-            Kind::Colours(numbers) => {
-                let later = has_later_colour(numbers);
-                count(&mut self.hints.later_colours, later, offset);
-            }
+            Kind::Colours(numbers) => self.look_at_colours(offset, numbers),
             _ => {}
         }
     }
@@ -313,8 +353,7 @@ impl Walk {
         ensures at { IsAt self.new (offset + 1) }
         ensures over { (behind : List ℕ) → GoesOver self.old self.new offset (Colours numbers.now) behind }
     {
-        let later = has_later_colour(numbers);
-        count(&mut self.hints.later_colours, later, offset);
+        self.look_at_colours(offset, numbers);
         self.pen.attribute = attribute;
     }
 

@@ -9,6 +9,7 @@ ghost use Rattle.ans_model.specs.Verdict.LastFault.{IsDeserved};
 mod full_rows;
 mod kinds;
 mod lines;
+mod modern_numbers;
 mod taller;
 mod widths;
 

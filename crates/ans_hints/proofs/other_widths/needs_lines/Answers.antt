@@ -1,4 +1,4 @@
-use Rattle.std.proofs.Common.{◌≡◌, ◌+◌, ◌-◌, ◌<◌, ◌≤◌, ◌↔◌, ℕ, List, Bool, true, false, true≢false, not, arith, refl, sym}
+use Rattle.std.proofs.Common.{◌-◌, ◌≤◌, ◌↔◌, ℕ, List, Bool, true, false, true≢false, not, arith, refl, sym}
 use Rattle.std.specs.Prelude.{IsTrue}
 use Rattle.ans_pens.specs.Lines.{IsGoodOn, IsLeastLines}
 use Rattle.ans_pens.proofs.MoreLines.{good_from_on}
