@@ -43,7 +43,7 @@ from second_machine import (
 )
 
 MOST_LINES, MOST_COLUMNS, TRIED_ONE_BY_ONE = 8192, 1024, 24
-OF_PLAYERS = re.compile(r"players: |players differ: |needs on all players: ")
+OF_PLAYERS = re.compile(r"players: |players differ: |needs on all players: |everywhere: ")
 MENDING = b"\x1b[?7h\x1b[0;37;40m\x1b[2J\x1b[H\x1b[s"
 NAMES = {7: "<BEL>", 8: "<BS>", 9: "<TAB>", 10: "<LF>", 13: "<CR>", 27: "<ESC>", 32: "<SP>"}
 LOW_GLYPHS = " ☺☻♥♦♣♠•◘○◙♂♀♪♫☼►◄↕‼¶§▬↨↑↓→←∟↔▲▼"
@@ -73,17 +73,40 @@ COUNTED_HINTS = [
     ("later colour", "", ("sequence uses modern colours (38, 48, 90 to 97, 100 to 107)",
                           "sequences use modern colours (38, 48, 90 to 97, 100 to 107)"), ("", "")),
     ("blinking", "", ("character blinks", "characters blink"),
-     ("; if it should have a bright background, set the non-blink flag",
-      "; if they should have bright backgrounds, set the non-blink flag")),
+     ("; if it should have a bright background: --ice", "; if they should have bright backgrounds: --ice")),
     ("dark grey", "", ("character is dark grey on black", "characters are dark grey on black"),
      ("; some terminals show it as black", "; some terminals show them as black")),
 ]
+# What may have happened to a text on its way, in the order of the lines: what comes after the count and after the offset.
+PUT_THERE = ": put 1Bh there"
+DAMAGE = {
+    "lost": (("sequence has lost its ESC", "sequences have lost their ESC"),
+             (": put 1Bh before its [", ": put 1Bh before each [")),
+    "shown": (("sequence has ^[ or <- in place of ESC", "sequences have ^[ or <- in place of ESC"), (PUT_THERE, PUT_THERE)),
+    "short": (("sequence begins with 9Bh", "sequences begin with 9Bh"), (": write ESC[ in its place",) * 2),
+    "converted": (("character looks like Latin-1 that was made UTF-8", "characters look like Latin-1 that was made UTF-8"),
+                  (": convert the text from UTF-8 to Latin-1",) * 2),
+    "returns": (("return comes without a line feed", "returns come without line feeds"),
+                (": put 0Ah after it", ": put 0Ah after each")),
+    "mark": None,
+    "capital": (("letter after a capital looks like Latin-1", "letters after a capital look like Latin-1"),
+                (CONVERT, CONVERT)),
+    "wide": (("character looks like UTF-8", "characters look like UTF-8"), (CONVERT, CONVERT)),
+}
+NUMBERS = rb"[0-9][0-9;]*"
+LOST_ESCAPE = re.compile(rb"(?<!\x1b)\[" + NUMBERS + rb"[mHCJ]")
+SHOWN_ESCAPE = re.compile(rb"(?:\^\[|<-)\[" + NUMBERS + rb"m")
+SHORT_ESCAPE = re.compile(rb"\x9b" + NUMBERS + rb"m")
+PAIR_OF_PAIRS = re.compile(rb"(?=(?:[\xc2\xc3][\x80-\xbf]){2})")
+WIDE_CHARACTER = re.compile(rb"\xe2[\x80-\xaf][\x80-\xbf]")
+MARK_LINE = "hint: the file begins with EF BB BF, the mark of UTF-8: remove these bytes"
 BROKEN = ", but the rows look broken"
 # Bytes that look as a blank does.
 UNSEEN, DARK_GREY = {0x00, 0x20, 0xFF}, 0x08
 LATIN_LETTERS = "äèéêñòóôöü".encode("latin-1")
 LETTER_IN_UTF8 = re.compile(rb"[A-Za-z]\xc3(?:[\x80-\x96\x98-\xaf]|[\xb0-\xb6\xb8-\xbf](?=[A-Za-z]))")
 LETTER_IN_LATIN1 = re.compile(rb"[a-z][" + LATIN_LETTERS + rb"][a-z]")
+CAPITAL_LATIN = re.compile(rb"(?<=[A-Z])[" + LATIN_LETTERS + rb"](?=[a-z])")
 BOARD_CODE = re.compile(rb"\|(?:[01][0-9]|2[0-3])[A-Za-z]|@X[0-9A-F]{2}")
 KNOWN_FORMS = {
     "ANSI music": re.compile(rb"\x1b\[[MN|][A-Za-z0-9#+\-.<> ]{0,250}\x0e"),
@@ -351,11 +374,9 @@ class Rows:
 
     def widest(self):
         """The columns of the drawing that these are the rows of, where it was made for more."""
-        columns = [columns for _, columns in self.over]
-        widest = max(columns, default=0)
-        are_most = 2 * len(columns) >= self.line_ends
-        is_regular = widest <= 2 * self.width and 2 * columns.count(widest) >= len(columns)
-        return widest if len(columns) >= 3 and are_most and is_regular else None
+        widest = max((columns for _, columns in self.over), default=0)
+        are_most = 2 * len(self.over) > self.line_ends
+        return widest if len(self.over) >= 4 and are_most and widest <= 2 * self.width else None
 
     def all_end(self):
         return self.followed[1] >= 2 and self.followed[0] == self.followed[1]
@@ -442,11 +463,13 @@ class Hints:
         """The lines of the hints, and that of the font."""
         if record.flags & 1:
             self.offsets["blinking"] = []
+        if has_latin_font(record):
+            self.offsets["letter in Latin-1"] = []
         said = [
             "hint: " + counted_text(self.offsets[key], before, what, advice).format(widest=self.widest)
             for key, before, what, advice in COUNTED_HINTS if self.offsets[key]
         ]
-        name = record.font.partition(b"\0")[0].rstrip(b" ")
+        name = font_name(record)
         if name and name not in FONTS_OF_437:
             characters = "".join(map(shown, name))
             said.append(f"hint: the font {characters} is not a code page 437 font; some characters may look different")
@@ -454,6 +477,48 @@ class Hints:
             rows = "line is" if self.empty == 1 else f"{self.empty} lines are"
             said.append(f"hint: the last {rows} empty")
         return said
+
+
+def font_name(record):
+    return record.font.partition(b"\0")[0].rstrip(b" ")
+
+
+def has_latin_font(record):
+    """The fonts of the Amiga and those of code page 819 have the letters of Latin-1."""
+    return font_name(record).startswith(b"Amiga ") or font_name(record).endswith(b" 819")
+
+
+def damage_of(content):
+    """What may have happened to a text on its way: the offsets of each kind."""
+    def at(form):
+        return [found.start() for found in form.finditer(content)]
+    many_pairs, returns = at(PAIR_OF_PAIRS), [place for place, byte in enumerate(content) if byte == 0x0D]
+    found = {"lost": at(LOST_ESCAPE), "shown": at(SHOWN_ESCAPE), "short": at(SHORT_ESCAPE), "capital": at(CAPITAL_LATIN)}
+    found["wide"] = at(WIDE_CHARACTER)
+    found["lost"] = [] if len(found["lost"]) < 4 or len(found["shown"]) > 1 else found["lost"]
+    for kind in ("shown", "short"):
+        found[kind] = found[kind] if len(found[kind]) > 1 else []
+    others = re.sub(rb"[\xc2\xc3][\x80-\xbf]", b"", content)
+    found["converted"] = [] if len(many_pairs) < 8 or any(byte > 0x7F for byte in others) else many_pairs
+    found["returns"] = [] if len(returns) < 4 or b"\n" in content else returns
+    return found
+
+
+def damage_lines(content, kinds):
+    """The lines of these kinds of damage."""
+    found, said = damage_of(content), []
+    for kind in kinds:
+        if kind == "mark":
+            said += [MARK_LINE] * content.startswith(b"\xef\xbb\xbf")
+        elif found[kind]:
+            said.append("hint: " + counted_text(found[kind], "", *DAMAGE[kind]))
+    return said
+
+
+def damage_told(content, record):
+    """Those of a content with its record."""
+    return damage_lines(content, [kind for kind in DAMAGE if kind != "wide" and not (
+        kind == "capital" and has_latin_font(record))])
 
 
 def counted_text(offsets, before, what, advice):
@@ -529,10 +594,17 @@ def last_record(file):
 
 
 def missing_record(file):
-    """F1, and where a record stands all the same."""
-    place = last_record(file)
-    behind = many(len(file) - place - 128, "byte")
-    return len(file), 1, f"a record at {place}, and {behind} after it" if place >= 0 else None
+    """F1, and where a record stands all the same, or what is left of one."""
+    place, left = last_record(file), file.rfind(b"SAUCE00")
+    if place < 0:
+        remains = f"what is left of a record, at {left}, {many(len(file) - left, 'byte')}"
+        return len(file), 1, remains if left >= 0 else None
+    pairs = file[place:].count(b"\r\n")
+    if pairs and len(file) - place == 128 + pairs:
+        them = "a return that" if pairs == 1 else "returns that"
+        grown = f"{len(file) - place} bytes, {pairs} of them {them} a transfer as text may have put in"
+        return len(file), 1, f"a record at {place}, {grown}"
+    return len(file), 1, f"a record at {place}, and {many(len(file) - place - 128, 'byte')} after it"
 
 
 def record_fault(file):
@@ -592,6 +664,7 @@ def refusal_lines(chance, content, width, lines, record):
     said = ["verdict: refused", "fault: " + fault_told(offset, number, blamed=blamed)]
     said += is_line(known or known_file(content))
     said.append("cursor: " + place_text(machine))
+    said += damage_told(content, record)
     least = least_lines(chance, content, width) if 19 <= number <= 21 else None
     if least:
         return said + enough_lines(content, width, least, record)
@@ -603,18 +676,20 @@ def record_lines(chance, file, offset, number, found):
     """The lines of a file whose record or layout is refused."""
     said = ["verdict: refused", "fault: " + fault_told(offset, number)] + ([f"found: {found}"] if found else [])
     known = known_file(file)
+    damage = [kind for kind in DAMAGE if kind != "capital"]
+    whole = damage_lines(file.partition(b"\x1a")[0], damage)
     if number not in (5, 8):
-        return said + is_line(known)
+        return said + is_line(known) + whole
     record = record_of(file)
     content, mark, behind = body_of(file, record).partition(b"\x1a")
     said += is_line(known or (known_behind(behind) if number == 8 else None))
-    if number == 8:
-        return said
-    if record.width > MOST_COLUMNS or behind.strip(b"\x1a"):
-        return said
+    if number == 8 or record.width > MOST_COLUMNS or behind.strip(b"\x1a"):
+        return said + whole
     width = record.width or 80
     least = least_lines(chance, content, width)
-    return said + (enough_lines(content, width, least, record) if least else [])
+    if not least:
+        return said + whole
+    return said + damage_lines(file.partition(b"\x1a")[0], damage[:-1]) + enough_lines(content, width, least, record)
 
 
 def why(chance, file):
@@ -631,6 +706,7 @@ def why(chance, file):
         return heading + refusal_lines(chance, content, width, lines, record), 1
     needs = needs_answer(chance, content, width, lines)
     said = pass_lines(chance, content, width, lines, needs, picture)
+    said += damage_told(content, record)
     return heading + said + Hints(content, len(content), width, lines).lines(record, True), 0
 
 
@@ -724,6 +800,27 @@ def a_foreign_code(chance):
     return b"@" + chance.choice([b"X", b"X", b"X", b"x", b""]) + number
 
 
+def a_damaged_text(chance):
+    """Sequences that lost their ESC or have others in its place, letters of other encodings, returns alone; or nearly."""
+    kind, count = chance.random(), chance.choice([1, 2, 3, 4, 5, 8, 9])
+    numbers = [b"0", b"1;33", b"0;1;30;44", b"", b"12;", b";1"]
+    if kind < 0.4:
+        escapes = [b"", b"", b"^[", b"<-", b"\x1b", b"^", b"<", b"\x9b", b"\x9b"]
+        escape, letters = chance.choice(escapes), chance.choice([b"m", b"m", b"mHCJ", b"mA"])
+        bracket = b"" if escape == b"\x9b" else b"["
+        return b"".join(
+            escape + bracket + chance.choice(numbers) + bytes([chance.choice(letters)]) + b"A" * chance.randrange(2)
+            for _ in range(count))
+    if kind < 0.6:
+        text = bytes(chance.choices(b"\xdb\xb0\xc4\xe9\x80\xbf", k=2 * count)).decode("latin-1").encode()
+        return text + chance.choice([b"", b"", b"\xdb", b"A"])
+    if kind < 0.75:
+        return b"".join(chance.choice([b"AB\r", b"A\r", b"\r"]) for _ in range(count)) + chance.choice([b"", b"", b"\n"])
+    if kind < 0.9:
+        return b"".join(chance.choice([b"Z\xfcr", b"\xfcr", b"Z\xfcR", b"M\xe4d"]) for _ in range(count))
+    return chance.choice(["█▓→".encode(), "é█".encode(), b"\xe2\x96", b"\xef\xbb\xbf", b"\xef\xbb"])
+
+
 def another_file(chance):
     """Bytes of another kind of file, or nearly so."""
     kind, count = chance.random(), chance.choice([1, 2, 3, 3, 4, 5])
@@ -757,6 +854,8 @@ def a_why_piece(chance, width, lines):
         return text if chance.random() < 0.8 else text[:-1]
     if kind < 0.47:
         return another_file(chance)
+    if kind < 0.51:
+        return a_damaged_text(chance)
     if kind < 0.57:
         return b"".join(a_foreign_code(chance) for _ in range(chance.choice([1, 2, 3])))
     if kind < 0.66:
@@ -793,7 +892,7 @@ def a_why_content(chance, width, lines):
 def a_font(chance):
     if chance.random() < 0.7:
         return b""
-    odd = [b"IBM VGA 866", b"IBM VGA 437 ", b"Amiga Topaz 1", b"ibm vga", b" IBM VGA", b"A\0\xb0", b"IBM VGA50 4377"]
+    odd = [b"IBM VGA 866", b"IBM VGA 437 ", b"Amiga Topaz 1", b"Amiga Topaz 1", b"IBM VGA 819", b"Amiga", b"IBM 8190", b"ibm vga", b" IBM VGA", b"A\0\xb0", b"IBM VGA50 4377"]
     field = chance.choice(FONTS_OF_437 + odd + [b" " * 22, b"\x1b" * 22])
     behind = [b"", b"", b"\0 866", b" \0\xb0", b"\0\0437"]
     return (field + chance.choice(behind))[:22]
@@ -838,6 +937,10 @@ def behind_the_end_mark(chance, record):
 def a_broken_file(chance, content, record):
     """A file whose record is refused, or the layout of which is odd."""
     kind = chance.random()
+    if kind < 0.1:
+        fields = record._replace(group=chance.choice([b"a\nb", b"\n\n", b"ab"]).ljust(20), lines=chance.choice([10, 9, 13]))
+        text = content + b"\x1a" + packed(fields)
+        return chance.choice([text.replace(b"\n", b"\r\n"), text.replace(b"\r", b""), text + b"\r\n"])
     if kind < 0.2:
         file = content + b"\x1a" + packed(record)
         cut = file[:-chance.randrange(1, 129)]
@@ -867,6 +970,7 @@ def a_file(chance):
     width = chance.randrange(*chance.choices([(1, 5), (5, 21), (21, 81)], [50, 47, 3])[0])
     lines = chance.randrange(1, 7)
     content = a_why_content(chance, width, lines)
+    content = b"\xef\xbb\xbf" + content if chance.random() < 0.01 else content
     record = a_record(chance, width, lines, len(content))
     kind = chance.random()
     if kind < 0.04:
@@ -893,9 +997,11 @@ def kinds_of(said):
             yield ("torn" if rest.endswith(BROKEN) else "not torn") + (" of F5" if "size" not in keys else "")
         elif key == "hint":
             others = "font" if rest.startswith("the font") else "empty lines"
-            yield "hint: " + next((name for name, _, what, _ in COUNTED_HINTS if any(w in rest for w in what)), others)
+            rows = [*COUNTED_HINTS, *((kind, "", *texts) for kind, texts in DAMAGE.items() if texts)]
+            others = "the mark of UTF-8" if line == MARK_LINE else others
+            yield "hint: " + next((name for name, _, what, _ in rows if any(w in rest for w in what)), others)
         elif key == "found":
-            yield "found: " + re.search("a record at|version|data type|comment|line|column|with.*", rest)[0]
+            yield "found: " + re.search("what is left|a record at|transfer|version|data type|comment|line|column|with.*", rest)[0]
         elif key in ("verdict", "taller screens", "fix", "is", "note"):
             yield line
 
