@@ -1,5 +1,6 @@
 mod Pushing
 mod Overwriting
+mod RecordWidth
 mod LastRecord
 pub mod EndMarks
 mod Returns

@@ -148,7 +148,7 @@ one_if false = refl
 
 module _ (mends : Mends) (lacks : Bool) (sauce bytes : List ℕ) (wanted : WantsLines lacks sauce bytes)
     (asks : AsksForLeast mends) where
-  pub least_taken : (r : Result (Option ℕ) Unmended) → IfOk r (λ n. IfSome n (HasLeast false sauce bytes))
+  pub least_taken : (r : Result (Option ℕ) Unmended) → IfOk r (λ n. IfSome n (HasLeast false lacks sauce bytes))
       → IfOk r (λ n. IfSome n (TakesLines mends lacks sauce bytes))
   least_taken (Ok None) h = h
   least_taken (Ok (Some n)) h = (wanted, inr (asks, h))

@@ -12,14 +12,17 @@ use Rattle.ans_model.specs.File.Record.{comment_count}
 use Rattle.ans_model.specs.File.Refusals.{block_size, has_record}
 use Rattle.ans_sauce.specs.Found.{body_in, front_in, record_in}
 use Rattle.ans_sauce.specs.Contents.{content_in, with_content}
-use Rattle.ans_sauce.proofs.RecordLemmas.{front_before, front_shorter}
+use Rattle.ans_sauce.proofs.RecordLemmas.{front_before, front_shorter, recorded_long}
 use Rattle.ans_mend.specs.LineEnds.{is_line_feed, line_feeds, byte_returned as returned_byte, wants_returns}
 use Rattle.ans_mend.specs.LineEnds.{with_line_ends}
 use Rattle.ans_mend.specs.LineEnds.{with_returns}
 use Rattle.ans_mend.specs.NewRecord.{new_record, takes_record, with_new_record}
 use Rattle.ans_mend.specs.Tail.{IsTailCut}
 use Rattle.ans_model.specs.declared.mends.Mends.{Mends}
-use Rattle.ans_mend.specs.Mending.{asked_for, recorded}
+use Rattle.ans_mend.specs.Mending.{asked_for, record_added, recorded, widened}
+use Rattle.ans_mend.specs.Columns.{with_columns, with_width}
+use Rattle.ans_sauce.specs.Fields.{two_bytes, with_record}
+use Rattle.ans_sauce.proofs.Overwriting.{overwritten_length, recorded_length as same_length}
 use Rattle.ans_mend.specs.MendingRoom.{most_returns}
 
 -- ---- the line feeds of a front, and how long it is
@@ -138,20 +141,69 @@ module _ (width : ℕ) (cut : List ℕ) where
           let short = content_short cut in
           omega (arith, all, long, short)
 
-pub recorded_length : (mends : Mends) (cut : List ℕ) → length (recorded mends cut) ≤ length cut + 129
-recorded_length mends cut = go mends.add_record
+added_length : (mends : Mends) (cut : List ℕ) → length (record_added mends cut) ≤ length cut + 129
+added_length mends cut = go mends.add_record
   where
     go : (width : Option ℕ) → length (option_map_or (λ w. with_new_record w cut) width cut) ≤ length cut + 129
     go None = omega arith
     go (Some width) = new_length width cut
 
-recorded_feeds : (mends : Mends) (cut : List ℕ) → line_feeds (front_in (recorded mends cut)) ≤ line_feeds cut
-recorded_feeds mends cut = go mends.add_record
+added_feeds : (mends : Mends) (cut : List ℕ) → line_feeds (front_in (record_added mends cut)) ≤ line_feeds cut
+added_feeds mends cut = go mends.add_record
   where
     go : (width : Option ℕ) → line_feeds (front_in (option_map_or (λ w. with_new_record w cut) width cut))
         ≤ line_feeds cut
     go None = front_feeds (length cut - 128) cut
     go (Some width) = new_feeds width cut
+
+-- another width in its record leaves a file as long, and what comes before the record as it is
+width_record_length : (n : ℕ) (file : List ℕ) → 128 ≤ length file → length (with_width n (record_in file)) ≡ 128
+width_record_length n file long =
+    let record_long : length (record_in file) ≡ 128 = length-drop (length file - 128) file ∙ omega (arith, long) in
+    overwritten_length 96 (two_bytes n) (record_in file) (omega (arith, record_long)) ∙ record_long
+
+module _ (file : List ℕ) where
+  pub columns_length : (n : ℕ) → length (with_columns n file) ≡ length file
+  columns_length n = go (has_record file) refl
+    where
+      go : (has : Bool) → has_record file ≡ has
+          → length (if has then with_record (with_width n (record_in file)) file else file) ≡ length file
+      go false is = refl
+      go true is = same_length 96 (two_bytes n) file (recorded_long file is) (omega arith)
+
+  columns_front : (n : ℕ) → front_in (with_columns n file) ≡ front_in file
+  columns_front n = go (has_record file) refl
+    where
+      go : (has : Bool) → has_record file ≡ has
+          → front_in (if has then with_record (with_width n (record_in file)) file else file) ≡ front_in file
+      go false is = refl
+      go true is =
+          front_before (front_in file) (with_width n (record_in file))
+          (width_record_length n file (recorded_long file is))
+
+  widened_length : (mends : Mends) → length (widened mends file) ≡ length file
+  widened_length mends = go mends.columns
+    where
+      go : (width : Option ℕ) → length (option_map_or (λ w. with_columns w file) width file) ≡ length file
+      go None = refl
+      go (Some width) = columns_length width
+
+  widened_front : (mends : Mends) → front_in (widened mends file) ≡ front_in file
+  widened_front mends = go mends.columns
+    where
+      go : (width : Option ℕ) → front_in (option_map_or (λ w. with_columns w file) width file) ≡ front_in file
+      go None = refl
+      go (Some width) = columns_front width
+
+pub recorded_length : (mends : Mends) (cut : List ℕ) → length (recorded mends cut) ≤ length cut + 129
+recorded_length mends cut =
+    let same = widened_length (record_added mends cut) mends in
+    let added = added_length mends cut in omega (arith, same, added)
+
+recorded_feeds : (mends : Mends) (cut : List ℕ) → line_feeds (front_in (recorded mends cut)) ≤ line_feeds cut
+recorded_feeds mends cut =
+    let same = ap line_feeds (widened_front (record_added mends cut) mends) in
+    let added = added_feeds mends cut in omega (arith, same, added)
 
 -- ---- in all
 

@@ -1,5 +1,6 @@
 pub mod Drafts
 pub mod Tail
+pub mod Columns
 pub mod EndMark
 pub mod LineEnds
 pub mod NewRecord

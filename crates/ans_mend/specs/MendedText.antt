@@ -1,9 +1,11 @@
 -- What mending says: what was changed, or why there is none.
 use Rattle.std.specs.Prelude.{ℕ, ◌-◌, Bool, true, false, not, ◌&&◌, ◌==◌, nat_lt, nat_le, min, List, [], ◌++◌, take}
+use Rattle.std.specs.Prelude.{slice_index_or}
 use Rattle.std.specs.Prelude.{codes, decimal, Option, None, Some, is_some, if◌then◌else◌}
 use Rattle.std.specs.List.{flat_map}
 use Rattle.ans_model.specs.Text.FaultText.{fault_line}
 use Rattle.ans_model.specs.declared.fault.Cause.{Cause}
+use Rattle.ans_sauce.specs.declared.writing.Reset.{Reset}
 use Rattle.ans_report.specs.Changes.{end_mark_line, reset_line}
 use Rattle.ans_report.specs.Counted.{counted_text}
 use Rattle.ans_report.specs.Meanings.{fault_help}
@@ -70,11 +72,21 @@ record_line (Some given) =
     ++ (counted_text given.width (codes "column")
     ++ (codes ", at " ++ (decimal given.place ++ (replaced_text given.cut ++ codes "\n"))))
 
--- the flag is set, cleared, or stays
-abbrev pub flag_line : Bool → Bool → List ℕ
-flag_line false true = codes "set the non-blink flag\n"
-flag_line true false = codes "cleared the non-blink flag\n"
-flag_line _ _ = []
+-- another width, if one was asked for
+abbrev pub width_line : Option Reset → List ℕ
+width_line None = []
+width_line (Some width) = reset_line (codes "columns ") width
+
+-- the flag is set, cleared, or stays, which is said if a switch for bright backgrounds was removed
+abbrev pub flag_line : Bool → Bool → Bool → List ℕ
+flag_line switched false true = codes "set the non-blink flag\n"
+flag_line switched true false = codes "cleared the non-blink flag\n"
+flag_line switched true true = if switched then codes "left the non-blink flag set\n" else []
+flag_line switched false false = if switched then codes "left the non-blink flag cleared\n" else []
+
+-- a switch for bright backgrounds was removed
+abbrev pub has_switch : Mended → Bool
+has_switch m = is_some (slice_index_or m.edits.told.kinds 0 None)
 
 abbrev pub front_line : Bool → List ℕ
 front_line true = codes "added the safe beginning, 25 bytes\n"
@@ -84,18 +96,18 @@ front_line false = []
 abbrev pub mended_text : Mended → List ℕ
 mended_text m =
     tail_line m.tail
-    ++ (record_line m.given_record
+    ++ (record_line m.given_record ++ (width_line m.width
     ++ (times_line (codes "added ") (codes " carriage return before a line feed")
     (codes " carriage returns before line feeds") m.edits.returns
     ++ (flat_map taken_line m.edits.told.kinds
-    ++ (flag_line m.non_blink.was m.non_blink.is
+    ++ (flag_line (has_switch m) m.non_blink.was m.non_blink.is
     ++ (times_line (codes "removed ") (codes " line end after a full row") (codes " line ends after full rows")
     m.edits.row_ends
     ++ (times_line (codes "removed ") (codes " line end at the end") (codes " line ends at the end") m.edits.last_ends
     ++ (times_line (codes "named the colours of ") (codes " sequence") (codes " sequences") m.edits.named_colours
     ++ (reset_line (codes "lines ") m.lines
     ++ (end_mark_line m.end_mark
-    ++ (front_line m.front ++ reset_line (codes "file size ") m.file_size))))))))))
+    ++ (front_line m.front ++ reset_line (codes "file size ") m.file_size)))))))))))
 
 -- ---- why there is none
 
@@ -167,11 +179,18 @@ helped asked help.Rows = rows_help asked
 abbrev pub help_text : Mends → Cause → List ℕ
 help_text asked cause = helped asked (fault_help cause)
 
--- what may help if the rows look broken: whole rows, or a number that is given all the same
+-- another width: of the record that is added, or of the one that is there
+abbrev pub width_offered : Mends → List ℕ
+width_offered asked =
+    if is_some asked.columns then codes " --columns N with another N"
+    else if is_some asked.add_record then codes " --add-record N with another N"
+    else codes " --columns N"
+
+-- what may help if the rows look broken: whole rows, a number that is given all the same, or another width
 abbrev pub torn_help : Mends → List ℕ
 torn_help asked =
     try_text ++ (offered asked.crlf (codes "--crlf")
-    ++ (offered asked.join_rows (codes "--join-rows") ++ (codes " --lines N" ++ which_text)))
+    ++ (offered asked.join_rows (codes "--join-rows") ++ (codes " --lines N" ++ (width_offered asked ++ which_text))))
 
 -- what may help if no number of lines would do: the least is asked for then, as such or with a record
 abbrev pub no_lines_help : Mends → List ℕ

@@ -18,15 +18,19 @@ use Rattle.ans_players.specs.Situations.{spelled}
 use Rattle.ans_sauce.specs.Found.{record_in}
 use Rattle.ans_sauce.specs.Judged.{IsRecordFault}
 use Rattle.ans_hints.specs.Hints.{are_torn}
+use Rattle.ans_hints.specs.OtherWidths.{AreOtherWidths, has_other_widths}
+use Rattle.ans_hints.specs.declared.other_widths.OtherWidths.{OtherWidths}
 use Rattle.ans_pens.specs.Lines.{IsLeastLines, IsNeverGood}
 use Rattle.ans_model.specs.Screen.Beginning.{mending}
 use Rattle.ans_sauce.specs.Fields.{with_file_size}
+use Rattle.ans_sauce.specs.declared.writing.Reset.{Reset}
 use Rattle.ans_hints.specs.declared.hints.Hints.{Hints}
 use Rattle.ans_pens.specs.declared.times.Times.{Times}
 use Rattle.ans_why.specs.Explained.{AreHintsOf}
+use Rattle.ans_mend.specs.Columns.{columns_set, with_columns}
 use Rattle.ans_mend.specs.EndMark.{end_mark_put, with_end_mark}
 use Rattle.ans_sauce.specs.Contents.{content_in}
-use Rattle.ans_sauce.specs.Fields.{with_lines, with_record}
+use Rattle.ans_sauce.specs.Fields.{with_lines, with_non_blink, with_record}
 use Rattle.ans_mend.specs.LastEnds.{HasFewerEnds, times_at}
 use Rattle.ans_mend.specs.LineEnds.{ArePut, with_line_ends}
 use Rattle.ans_mend.specs.FullRows.{HasFullRows}
@@ -61,8 +65,19 @@ abbrev pub gives_record : Mends → List ℕ → Bool
 gives_record mends cut = is_some mends.add_record && takes_record cut
 
 -- the file with a record of the width that is asked for, where it takes one
+abbrev pub record_added : Mends → List ℕ → List ℕ
+record_added mends cut = option_map_or (λ width. with_new_record width cut) mends.add_record cut
+
+-- the file whose record, its own or the one that is added, states the width that is asked for
+abbrev pub widened : Mends → List ℕ → List ℕ
+widened mends file = option_map_or (λ width. with_columns width file) mends.columns file
+
 abbrev pub recorded : Mends → List ℕ → List ℕ
-recorded mends cut = option_map_or (λ width. with_new_record width cut) mends.add_record cut
+recorded mends cut = widened mends (record_added mends cut)
+
+-- the width that was stated and the one that is, where one is asked for
+abbrev pub width_set : Mends → List ℕ → Option Reset
+width_set mends cut = option_and_then (λ width. columns_set width (record_added mends cut)) mends.columns
 
 -- the record that is put, where one is
 abbrev pub record_put : Mends → List ℕ → Option GivenRecord
@@ -98,9 +113,19 @@ abbrev pub TellsReturns : Mends → List ℕ → Option Times → Type 0
 TellsReturns mends file times = MatchBool mends.crlf (ArePut file times) (times ≡ None)
 
 -- the sequences that go are taken out and reported, if that is asked for
+abbrev pub AreSequencesTaken : Mends → List ℕ → List ℕ → Told → Type 0
+AreSequencesTaken mends file taken told =
+    MatchBool mends.take_out (AreTakenOut file taken told) ((taken ≡ file) × (told ≡ nothing_told))
+
+-- the file with the non-blink flag of its record set, if that is asked for
+abbrev pub iced : Mends → List ℕ → List ℕ
+iced mends file =
+    if mends.ice && has_record file then with_record (with_non_blink true (record_in file)) file else file
+
+-- both: the flag that is asked for counts, whatever a switch says that was taken out
 abbrev pub AreSequencesOut : Mends → List ℕ → List ℕ → Told → Type 0
-AreSequencesOut mends file out told =
-    MatchBool mends.take_out (AreTakenOut file out told) ((out ≡ file) × (told ≡ nothing_told))
+AreSequencesOut mends file out told = (taken : List ℕ) × AreSequencesTaken mends file taken told
+    × (out ≡ iced mends taken)
 
 -- the line ends after full rows are taken out and reported, if that is asked for; the number of lines does not matter
 abbrev pub AreRowsJoined : Mends → Size → List ℕ → List ℕ → Option Times → Type 0
@@ -138,25 +163,32 @@ IsEditedAsStated mends file edited edits = IsEdited mends (stated_size (record_i
 
 -- ---- the lines, by the record and the content of what is left
 
--- the hints of the whole content on this many lines say that its rows are broken, or that they are not
-abbrev pub TellsTorn : Bool → List ℕ → List ℕ → ℕ → Type 0
-TellsTorn torn sauce content lines = (hints : Hints)
-    × AreHintsOf (sized (stated_width sauce) lines) (is_non_blink sauce) content [] hints × (are_torn hints ≡ torn)
+-- how many lines the record states; none, if their number is still to be settled
+abbrev pub lines_before : Bool → List ℕ → ℕ
+lines_before lacks sauce = if lacks then 0 else stated_lines sauce
+
+-- The hints of the whole content on this many lines say that its rows are broken, or it and the record show another
+-- width; or neither.
+abbrev pub TellsTorn : Bool → Bool → List ℕ → List ℕ → ℕ → Type 0
+TellsTorn torn lacks sauce content lines = (hints : Hints)
+    × AreHintsOf (sized (stated_width sauce) lines) (is_non_blink sauce) content [] hints × (widths : OtherWidths)
+    × AreOtherWidths (stated_width sauce) (lines_before lacks sauce) hints content widths
+    × ((are_torn hints || has_other_widths widths) ≡ torn)
 
 -- the least number of lines with which the content passes from the cleared start, up to the most, and whether its rows
 -- are broken on them
-abbrev pub HasLeast : Bool → List ℕ → List ℕ → ℕ → Type 0
-HasLeast torn sauce content lines =
-    (lines ≤ most_lines) × IsLeastLines (stated_width sauce) content lines × TellsTorn torn sauce content lines
+abbrev pub HasLeast : Bool → Bool → List ℕ → List ℕ → ℕ → Type 0
+HasLeast torn lacks sauce content lines = (lines ≤ most_lines) × IsLeastLines (stated_width sauce) content lines
+    × TellsTorn torn lacks sauce content lines
 
 -- the least number is asked for, and no other
 abbrev pub AsksForLeast : Mends → Type 0
 AsksForLeast mends = (mends.lines ≡ None) × IsTrue mends.least_lines
 
 -- The number that is asked for: the one that is given; else the least one, if the rows are not broken.
-abbrev pub IsAskedNumber : Mends → List ℕ → List ℕ → ℕ → Type 0
-IsAskedNumber mends sauce content lines =
-    (mends.lines ≡ Some lines) ⊎ (AsksForLeast mends × HasLeast false sauce content lines)
+abbrev pub IsAskedNumber : Mends → Bool → List ℕ → List ℕ → ℕ → Type 0
+IsAskedNumber mends lacks sauce content lines =
+    (mends.lines ≡ Some lines) ⊎ (AsksForLeast mends × HasLeast false lacks sauce content lines)
 
 -- the least number is asked for, and there is none
 abbrev pub HasNoNumber : Mends → List ℕ → List ℕ → Type 0
@@ -178,7 +210,8 @@ WantsLines lacks sauce content = (lacks ≡ true) ⊎ (¬ PassesAsStated sauce c
 
 -- others are wanted, and the number that is asked for is this one
 abbrev pub TakesLines : Mends → Bool → List ℕ → List ℕ → ℕ → Type 0
-TakesLines mends lacks sauce content lines = WantsLines lacks sauce content × IsAskedNumber mends sauce content lines
+TakesLines mends lacks sauce content lines =
+    WantsLines lacks sauce content × IsAskedNumber mends lacks sauce content lines
 
 -- the file with these lines, where some are taken
 abbrev pub lined : Option ℕ → List ℕ → List ℕ
@@ -224,7 +257,7 @@ abbrev pub end_mark_counted : List ℕ → ℕ
 end_mark_counted file = if file_size (record_in file) == length (content_in file) + 1 then 1 else 0
 
 -- The bytes that are put before it and those of the draft are a file that passes from every start, and shows what the
--- changed content shows from the cleared one. Its record is that of the file except for the lines and the FileSize,
+-- changed content shows from the cleared one. Its record is that of the file except for what is asked for, the lines and the FileSize,
 -- which fits. On the way no file was too long, and each was read.
 pub record IsMended (mends : Mends) (file : List ℕ) (mended : Mended) (draft : List ℕ) : Type 0 where
   pub cut : List ℕ
@@ -250,6 +283,7 @@ pub record IsMended (mends : Mends) (file : List ℕ) (mended : Mended) (draft :
   pub front : IsTrue mended.front ↔ WantsMending asked (stated_size apart.record_bytes) (content_in settled)
   pub tail : mended.tail ≡ times_at (length file - length cut) (length cut)
   pub given_record : mended.given_record ≡ record_put mends cut
+  pub width : mended.width ≡ width_set mends cut
   pub flag_was : mended.non_blink.was ≡ is_non_blink (record_in (opened asked based))
   pub flag_is : mended.non_blink.is ≡ is_non_blink (record_in settled)
   pub lines_were : mended.lines.was ≡ stated_lines (record_in based)
@@ -260,7 +294,7 @@ pub record IsMended (mends : Mends) (file : List ℕ) (mended : Mended) (draft :
 
 -- the rows are broken on the least number; or no lines are stated, and no number does
 abbrev pub IsWithoutNumber : Bool → List ℕ → List ℕ → Unmended → Type 0
-IsWithoutNumber lacks sauce content Torn = (lines : ℕ) × HasLeast true sauce content lines
+IsWithoutNumber lacks sauce content Torn = (lines : ℕ) × HasLeast true lacks sauce content lines
 IsWithoutNumber lacks sauce content NoLines = (lacks ≡ true) × IsNeverGood (stated_width sauce) content most_lines
 IsWithoutNumber lacks sauce content _ = ⊥
 

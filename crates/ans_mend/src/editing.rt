@@ -3,7 +3,7 @@ ghost use Rattle.std.specs.Prelude.{◌≡◌, ◌+◌, ◌≤◌, length, IfOk,
 ghost use Rattle.ans_model.specs.Bytes.{longest_file};
 ghost use Rattle.ans_mend.specs.declared.outcome.Unmended.TheVariants.{TooLong};
 ghost use Rattle.ans_mend.specs.Mending.{AreLastEndsGone, AreNamed, AreRowsJoined, AreSequencesOut, IsEdited};
-ghost use Rattle.ans_mend.specs.Mending.{TellsReturns, returned};
+ghost use Rattle.ans_mend.specs.Mending.{AreSequencesTaken, TellsReturns, iced, returned};
 ghost use Rattle.ans_mend.specs.MendingRoom.{most_added, most_returns};
 ghost use Rattle.ans_mend.specs.MendingSteps.{IsEditedTooLong, IsNamedTooLong};
 ghost use Rattle.ans_mend.specs.NamedColours.{names_room};
@@ -11,6 +11,7 @@ ghost use Rattle.ans_mend.specs.Drafts.{memory_of};
 ghost use Rattle.ans_sauce.specs.Found.{front_in};
 
 use crate::draft::Draft;
+use crate::line_ends::content_of;
 use crate::outcome::{Edits, Unmended};
 use crate::taking_out::Told;
 use ans_model::limits::{MAX_FILE, MAX_LINES};
@@ -33,9 +34,9 @@ fn put_returns(draft: &mut Draft<'_>, mends: &Mends) -> Option<Times>
 }
 
 /// Removes sequences, if that is asked for.
-fn take_out_sequences(draft: &mut Draft<'_>, mends: &Mends) -> Told
+fn take_sequences(draft: &mut Draft<'_>, mends: &Mends) -> Told
     requires { length draft.old.file ≤ longest_file }
-    ensures file { AreSequencesOut mends.now draft.old.file draft.new.file result }
+    ensures file { AreSequencesTaken mends.now draft.old.file draft.new.file result }
     ensures no_longer { length draft.new.file ≤ length draft.old.file }
     ensures memory { memory_of draft.new ≡ memory_of draft.old }
 {
@@ -43,6 +44,32 @@ fn take_out_sequences(draft: &mut Draft<'_>, mends: &Mends) -> Told
         return draft.take_out();
     }
     Told::nothing()
+}
+
+/// Sets the non-blink flag of the record, if that is asked for.
+fn set_ice(draft: &mut Draft<'_>, mends: &Mends)
+    ensures file { draft.new.file ≡ iced mends.now draft.old.file }
+    ensures same_length { length draft.new.file ≡ length draft.old.file }
+    ensures memory { memory_of draft.new ≡ memory_of draft.old }
+{
+    if !mends.ice {
+        return;
+    }
+    if let Some(_content) = content_of(draft.file()) {
+        draft.state_non_blink(true);
+    }
+}
+
+/// Removes sequences and sets the non-blink flag, if that is asked for.
+fn take_out_sequences(draft: &mut Draft<'_>, mends: &Mends) -> Told
+    requires { length draft.old.file ≤ longest_file }
+    ensures file { AreSequencesOut mends.now draft.old.file draft.new.file result }
+    ensures no_longer { length draft.new.file ≤ length draft.old.file }
+    ensures memory { memory_of draft.new ≡ memory_of draft.old }
+{
+    let told = take_sequences(draft, mends);
+    set_ice(draft, mends);
+    told
 }
 
 /// Removes the line ends after full rows, if that is asked for.

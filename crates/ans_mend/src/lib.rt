@@ -5,6 +5,7 @@
 //! every start; what a mended file is, and why there is none, is in `specs/Mending.antt`.
 #![tactic(auto)]
 
+mod columns;
 mod draft;
 mod editing;
 mod end_mark;

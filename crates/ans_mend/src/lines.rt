@@ -5,13 +5,14 @@ ghost use Rattle.ans_sauce.specs.Parts.{content_of, record_of, width_of};
 ghost use Rattle.ans_pens.specs.Lines.{IsNeverGood};
 ghost use Rattle.ans_mend.specs.Drafts.{draft_of};
 ghost use Rattle.ans_mend.specs.Mending.{AreLinesFor, HasLeast, IsReasonOfEdited, IsReasonOfLines, IsWithoutNumber};
-ghost use Rattle.ans_mend.specs.Mending.{KeepsLines, PassesAsStated, TakesLines, WantsLines, asks_for_lines};
+ghost use Rattle.ans_mend.specs.Mending.{KeepsLines, PassesAsStated, TakesLines, TellsTorn, WantsLines, asks_for_lines};
+ghost use Rattle.ans_mend.specs.Mending.{lines_before};
 ghost use Rattle.ans_mend.specs.Mending.{IsRead, lacks_lines, lined, opened};
 
 use crate::draft::Draft;
 use crate::new_record::refusal_of;
 use crate::outcome::Unmended;
-use ans_hints::Hints;
+use ans_hints::{Hints, OtherWidths};
 use ans_model::limits::MAX_LINES;
 use ans_model::mends::Mends;
 use ans_model::size::Size;
@@ -59,13 +60,37 @@ fn wants_lines(parts: &Parts<'_>, lacks: bool) -> bool
     lacks || !is_good(parts.size(), parts.content())
 }
 
+/// How many lines the record states; none, if their number is still to be settled.
+fn lines_before(parts: &Parts<'_>, lacks: bool) -> usize
+    ensures lines { result ≡ lines_before lacks (record_of parts.now) }
+    ensures within { result ≤ most_lines }
+{
+    if lacks { 0 } else { parts.lines() }
+}
+
+/// Whether the rows of a content that passes on this many lines look broken on them, or it shows another width
+/// than the stated one. `lacks` says that the record states no lines.
+fn looks_torn(parts: &Parts<'_>, lacks: bool, lines: u16) -> bool
+    requires length { length (content_of parts.now) ≤ longest_file }
+    requires some { 1 ≤ lines }
+    requires lines { lines ≤ most_lines }
+    ensures { TellsTorn result lacks (record_of parts.now) (content_of parts.now) lines }
+{
+    let content = parts.content();
+    let size = Size::new(parts.width(), lines as usize);
+    let hints = Hints::of(size, parts.sauce().is_non_blink(), content, content.len());
+    let stated = lines_before(parts, lacks);
+    let widths = OtherWidths::of(parts.width(), stated, &hints, content);
+    hints.are_torn() || widths.are_some()
+}
+
 /// The smallest number of lines with which the content passes, if its rows do not look broken on them. None if
 /// it passes with none, and some are stated.
 fn least_wanted(parts: &Parts<'_>, lacks: bool) -> Result<Option<u16>, Unmended>
     requires length { length (content_of parts.now) ≤ longest_file }
     ensures none { IfOk result (λ n. IfNone n ((lacks ≡ false)
         × IsNeverGood (width_of parts.now) (content_of parts.now) most_lines)) }
-    ensures least { IfOk result (λ n. IfSome n (HasLeast false (record_of parts.now) (content_of parts.now))) }
+    ensures least { IfOk result (λ n. IfSome n (HasLeast false lacks (record_of parts.now) (content_of parts.now))) }
     ensures reason { IfErr result (IsWithoutNumber lacks (record_of parts.now) (content_of parts.now)) }
 {
     let content = parts.content();
@@ -76,9 +101,7 @@ fn least_wanted(parts: &Parts<'_>, lacks: bool) -> Result<Option<u16>, Unmended>
             Ok(None)
         };
     };
-    let size = Size::new(parts.width(), lines as usize);
-    let hints = Hints::of(size, parts.sauce().is_non_blink(), content, content.len());
-    if hints.are_torn() {
+    if looks_torn(parts, lacks, lines) {
         return Err(Unmended::Torn);
     }
     Ok(Some(lines))

@@ -2,13 +2,14 @@
 ghost use Rattle.std.specs.Prelude.{◌≡◌};
 ghost use Rattle.std.specs.List.{flat_map};
 ghost use Rattle.ans_mend.specs.MendedText.{all_given, at_text, by_count, flag_line, front_line, has_least};
+ghost use Rattle.ans_mend.specs.MendedText.{has_switch};
 ghost use Rattle.ans_mend.specs.MendedText.{help_text, lines_offered, mended_text, no_lines_help, offered};
 ghost use Rattle.ans_mend.specs.MendedText.{others_text, place_help, quoted_excerpt, record_line};
 ghost use Rattle.ans_mend.specs.MendedText.{replaced_text, rows_help, sequence_help, tail_line};
-ghost use Rattle.ans_mend.specs.MendedText.{taken_line, times_line, torn_help, unmended_text};
+ghost use Rattle.ans_mend.specs.MendedText.{taken_line, times_line, torn_help, unmended_text, width_line, width_offered};
 ghost use Rattle.ans_write.specs.Puts.{Puts};
 
-use crate::outcome::{GivenRecord, Mended, NonBlink, Unmended};
+use crate::outcome::{GivenRecord, Mended, NonBlink, Reset, Unmended};
 use crate::taking_out::{Excerpt, TakenOut};
 use ans_model::fault::Cause;
 use ans_model::mends::Mends;
@@ -128,12 +129,29 @@ fn put_record_line<W: Write>(out: &mut Outbox<'_, W>, given: &Option<GivenRecord
     }
 }
 
-fn put_flag_line<W: Write>(out: &mut Outbox<'_, W>, flag: &NonBlink)
-    ensures { Puts W.contents out.old out.new (flag_line flag.now.was flag.now.is) }
+fn put_width_line<W: Write>(out: &mut Outbox<'_, W>, width: &Option<Reset>)
+    ensures { Puts W.contents out.old out.new (width_line width.now) }
+{
+    if let Some(width) = width {
+        put_reset_line(out, b"columns ", width);
+    }
+}
+
+/// Whether a switch for bright backgrounds was removed.
+fn has_switch(mended: &Mended) -> bool
+    ensures { result ≡ has_switch mended.now }
+{
+    mended.edits.told.kinds[0].is_some()
+}
+
+fn put_flag_line<W: Write>(out: &mut Outbox<'_, W>, switched: bool, flag: &NonBlink)
+    ensures { Puts W.contents out.old out.new (flag_line switched flag.now.was flag.now.is) }
 {
     match (flag.was, flag.is) {
         (false, true) => out.put(b"set the non-blink flag\n"),
         (true, false) => out.put(b"cleared the non-blink flag\n"),
+        (true, true) if switched => out.put(b"left the non-blink flag set\n"),
+        (false, false) if switched => out.put(b"left the non-blink flag cleared\n"),
         _ => {}
     }
 }
@@ -152,6 +170,7 @@ pub fn put_mended<W: Write>(out: &mut Outbox<'_, W>, mended: &Mended)
 {
     put_tail_line(out, &mended.tail);
     put_record_line(out, &mended.given_record);
+    put_width_line(out, &mended.width);
     put_times_line(
         out,
         b"added ",
@@ -160,7 +179,7 @@ pub fn put_mended<W: Write>(out: &mut Outbox<'_, W>, mended: &Mended)
         &mended.edits.returns,
     );
     put_taken_lines(out, &mended.edits.told.kinds);
-    put_flag_line(out, &mended.non_blink);
+    put_flag_line(out, has_switch(mended), &mended.non_blink);
     put_times_line(
         out,
         b"removed ",
@@ -276,6 +295,18 @@ fn put_place_help<W: Write>(out: &mut Outbox<'_, W>, asked: &Mends)
     out.put(WHICH);
 }
 
+fn width_offered(asked: &Mends) -> &'static [u8]
+    ensures { result.now ≡ width_offered asked.now }
+{
+    if asked.columns.is_some() {
+        return b" --columns N with another N";
+    }
+    if asked.add_record.is_some() {
+        return b" --add-record N with another N";
+    }
+    b" --columns N"
+}
+
 fn put_torn_help<W: Write>(out: &mut Outbox<'_, W>, asked: &Mends)
     ensures { Puts W.contents out.old out.new (torn_help asked.now) }
 {
@@ -283,6 +314,7 @@ fn put_torn_help<W: Write>(out: &mut Outbox<'_, W>, asked: &Mends)
     put_offered(out, asked.crlf, b"--crlf");
     put_offered(out, asked.join_rows, b"--join-rows");
     out.put(b" --lines N");
+    out.put(width_offered(asked));
     out.put(WHICH);
 }
 

@@ -1,9 +1,11 @@
 //! A file that is mended.
 ghost use Rattle.std.specs.Prelude.{◌≡◌, ◌⊎◌, ◌+◌, ◌≤◌, ◌||◌, length, IfOk, IfErr, IsErrOf, OnOk};
+ghost use Rattle.std.specs.Prelude.{option_and_then};
 ghost use Rattle.ans_model.specs.Bytes.{longest_file};
 ghost use Rattle.ans_mend.specs.Drafts.{memory_of};
 ghost use Rattle.ans_mend.specs.Mending.{IfNotMended, IsMended, IsReason, IsReasonFor, IsSettled, lacks_lines, opened};
-ghost use Rattle.ans_mend.specs.Mending.{record_put, recorded};
+ghost use Rattle.ans_mend.specs.Mending.{record_added, record_put, recorded, widened, width_set};
+ghost use Rattle.ans_mend.specs.Columns.{columns_set};
 ghost use Rattle.ans_mend.specs.MendingRoom.{LacksRoom, LacksScreenInTheEnd, most_added, most_put};
 ghost use Rattle.ans_mend.specs.MendingSteps.{IsSized, IsTooLong, reading_in};
 ghost use Rattle.ans_mend.specs.declared.outcome.MendError.TheVariants.{Memory};
@@ -22,13 +24,48 @@ use ans_verdict::Screens;
 /// Gives the file a record of the width that is asked for, if it takes one. Returns what was added.
 fn give_record(draft: &mut Draft<'_>, mends: &Mends) -> Option<GivenRecord>
     requires { 129 ≤ draft.old.room }
-    ensures file { draft.new.file ≡ recorded mends.now draft.old.file }
+    ensures file { draft.new.file ≡ record_added mends.now draft.old.file }
     ensures given { result ≡ record_put mends.now draft.old.file }
     ensures memory { memory_of draft.new ≡ memory_of draft.old }
 {
     match mends.add_record {
         Some(width) => draft.give_record(width),
         None => None,
+    }
+}
+
+/// States the width that is asked for in the record. Returns the width that was stated, and this one.
+fn state_columns(draft: &mut Draft<'_>, mends: &Mends) -> Option<Reset>
+    ensures file { draft.new.file ≡ widened mends.now draft.old.file }
+    ensures set { result ≡ option_and_then (λ width. columns_set width draft.old.file) mends.now.columns }
+    ensures memory { memory_of draft.new ≡ memory_of draft.old }
+{
+    match mends.columns {
+        Some(width) => draft.state_columns(width),
+        None => None,
+    }
+}
+
+/// What was done with the record before it is read.
+#[derive(Clone, Copy)]
+struct FirstRecord {
+    given: Option<GivenRecord>,
+    width: Option<Reset>,
+}
+
+/// Gives the file a record if that is asked for and it takes one, and states the width that is asked for.
+fn set_record(draft: &mut Draft<'_>, mends: &Mends) -> FirstRecord
+    requires { 129 ≤ draft.old.room }
+    ensures file { draft.new.file ≡ recorded mends.now draft.old.file }
+    ensures given { result.given ≡ record_put mends.now draft.old.file }
+    ensures width { result.width ≡ width_set mends.now draft.old.file }
+    ensures memory { memory_of draft.new ≡ memory_of draft.old }
+{
+    let given = give_record(draft, mends);
+    let width = state_columns(draft, mends);
+    FirstRecord {
+        given,
+        width,
     }
 }
 
@@ -129,11 +166,11 @@ pub fn mend_on<S: Screens>(
         return Err(MendError::Memory);
     }
     let tail = draft.cut_tail();
-    let given_record = give_record(draft, mends);
+    let record = set_record(draft, mends);
     if draft.file().len() > MAX_FILE {
         return Err(MendError::NotMended(Unmended::TooLong));
     }
-    let asked = asked_where(mends, given_record.is_some());
+    let asked = asked_where(mends, record.given.is_some());
     let settled = settle(draft, &asked)?;
     let judgement = judge(screens, draft.file(), &asked)?;
     let is = judgement.reading;
@@ -145,7 +182,8 @@ pub fn mend_on<S: Screens>(
     )?;
     Ok(Mended {
         tail,
-        given_record,
+        given_record: record.given,
+        width: record.width,
         edits: settled.edits,
         non_blink: NonBlink {
             was: settled.was.non_blink,

@@ -33,6 +33,9 @@ pub struct Mended {
     pub tail: Option<Times>,
     /// The record that was added after the content, if one was.
     pub given_record: Option<GivenRecord>,
+    /// The width that the record stated, and the one that it states now, in columns, if a width was asked
+    /// for.
+    pub width: Option<Reset>,
     pub edits: Edits,
     /// The record's non-blink flag, before and now.
     pub non_blink: NonBlink,
@@ -73,7 +76,7 @@ pub enum Unmended {
     /// It has no record, which is this fault, F1, and none can be added: `SAUCE00` is in it, or more than end marks,
     /// zero bytes and line ends follows its content.
     TakesNoRecord(Fault),
-    /// The smallest number of lines was asked for, and its rows look broken.
+    /// The smallest number of lines was asked for, and its rows look broken, or made for another width.
     Torn,
     /// It states no lines. The smallest number was asked for, and it passes with none up to 8192.
     NoLines,

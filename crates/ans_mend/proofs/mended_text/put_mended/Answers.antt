@@ -5,12 +5,13 @@ pub returns : goal.returns
 returns g c =
     Puts-then c.put_tail_line.ensures
     (Puts-then c.put_record_line.ensures
+    (Puts-then c.put_width_line.ensures
     (Puts-then c.put_times_line.ensures
     (Puts-then c.put_taken_lines.ensures
-    (Puts-then c.put_flag_line.ensures
+    (Puts-then (rw c.has_switch.ensures at c.put_flag_line.ensures)
     (Puts-then c.put_times_line-2.ensures
     (Puts-then c.put_times_line-3.ensures
     (Puts-then c.put_times_line-4.ensures
     (Puts-then c.put_reset_line.ensures
     (Puts-then c.put_end_mark_line.ensures
-    (Puts-then c.put_front_line.ensures c.put_reset_line-2.ensures))))))))))
+    (Puts-then c.put_front_line.ensures c.put_reset_line-2.ensures)))))))))))
