@@ -108,16 +108,16 @@ pub found_is : (before : Before) (bytes : List ℕ) (kind : Unwanted) (rest : Li
 found_is before bytes kind rest e = rw e at (found before bytes)
 
 -- there is none where there are no bytes
-no_form_at : (shown coloured : Bool)
-    → unwanted_form (record { is_shown = shown; is_coloured = coloured }) [] ≡ None
+no_form_at : (shown coloured : Bool) (before : Before)
+    → unwanted_form (record before { is_shown = shown; is_coloured = coloured }) [] ≡ None
 unfolding unwanted_form
-no_form_at true true = refl
-no_form_at true false = refl
-no_form_at false true = refl
-no_form_at false false = refl
+no_form_at true true before = refl
+no_form_at true false before = refl
+no_form_at false true before = refl
+no_form_at false false before = refl
 
 pub no_form_in_nothing : (before : Before) → unwanted_form before [] ≡ None
-no_form_in_nothing before = no_form_at before.is_shown before.is_coloured
+no_form_in_nothing before = no_form_at before.is_shown before.is_coloured before
 
 -- what is found is of its kind, if no key is reassigned there
 pub found_of_kind : (before : Before) (kind : Unwanted) (text rest : List ℕ) → IsTrue (has_form kind)

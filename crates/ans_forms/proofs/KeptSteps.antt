@@ -2,9 +2,8 @@
 use Rattle.std.proofs.Common.{◌≡◌, ℕ, zero, suc, ◌<◌, ◌≤◌, Bool, true, false, ◌&&◌, List, [], ◌∷◌, ◌++◌, length, drop}
 use Rattle.std.proofs.Common.{get_or}
 use Rattle.std.proofs.Common.{refl, sym, ap, ap₂, ◌∙◌, subst, append_assoc, length-append, arith}
-use Rattle.std.specs.Prelude.{Result, Ok, Err}
+use Rattle.std.specs.Prelude.{Option, Result, Ok, Err, if◌then◌else◌, nat_le}
 use Rattle.std.specs.List.{concat}
-use Rattle.std.proofs.lemmas.Bool.{or_right}
 use Rattle.std.proofs.lemmas.List.{append-nil}
 use Rattle.std.proofs.lemmas.List.Folds.{concat-append, list_all-append}
 use Rattle.std.proofs.lemmas.List.Sums.{fold-append}
@@ -23,16 +22,13 @@ use Rattle.ans_forms.proofs.SomeText.{some_text}
 use Rattle.ans_forms.proofs.HereLemmas.{nothing_goes, nothing_stays, refused_stays, stopped_stays}
 use Rattle.ans_forms.specs.Here.{IsGoingHere, IsTokenHere, NoneGoesHere, is_keys}
 use Rattle.ans_forms.specs.Keeping.{AllKept, HasKept, StopsAtFirst}
-use Rattle.ans_forms.specs.Unwanted.{AllStay, BeginsStaying, IsNextGoing, NothingGoes, before_after, before_behind}
+use Rattle.ans_forms.specs.Unwanted.{AllStay, BeginsStaying, IsNextGoing, NothingMore, before_after, before_behind}
 use Rattle.ans_forms.specs.Unwanted.{before_with, stays}
 use Rattle.ans_forms.specs.declared.kinds.Before.{Before}
 use Rattle.ans_forms.specs.declared.kinds.Going.{Going}
 use Rattle.ans_forms.specs.declared.next.Keeping.{Keeping}
 
 -- ---- one token more
-abbrev before_of : Bool → Bool → Before
-before_of shown coloured = record { is_shown = shown; is_coloured = coloured }
-
 all_stay_with : (tokens : List TokenKind) (texts : List (List ℕ)) (t : TokenKind) (text : List ℕ)
     → AllStay tokens texts → SpellsToken t text → stays t ≡ true → AllStay (tokens ++ t ∷ []) (texts ++ text ∷ [])
 all_stay_with tokens texts t text h spelled stay =
@@ -75,14 +71,32 @@ module _ (before : Before) (front : Front) (old : Keeping) (token : Token) (text
 -- a glyph more stays
 glyph_stays : (before : Before) (front : Front) (old new : Keeping) (byte : ℕ) (rest : List ℕ)
     → AllKept before front old → SpellsToken (Glyph byte) (byte ∷ [])
-    → new.before ≡ record { is_shown = true; is_coloured = false }
+    → new.before ≡ before_with old.before (Glyph byte)
     → AllKept before (front_with front (Glyph byte) (byte ∷ []) rest) new
 glyph_stays before front old new byte rest h spelled is = record {
   all_stay = all_stay_with front.tokens front.texts (Glyph byte) (byte ∷ []) h.all_stay spelled refl;
-  before_is = is ∙ sym (ap (λ (shown : Bool). before_of shown false)
-      (or_right (before_after before front.tokens).is_shown true refl))
+  before_is = is ∙ ap (λ (b : Before). before_with b (Glyph byte)) h.before_is
       ∙ sym (fold-append before_with before front.tokens (Glyph byte ∷ []));
 }
+
+-- and after one another is as if there was one
+glyph_again : (b : Before) (byte : ℕ)
+    → before_with (before_with b (Glyph byte)) (Glyph byte) ≡ before_with b (Glyph byte)
+glyph_again b byte = ap with_bright (go (nat_le 0x80 b.attribute))
+  where
+    with_bright : Option Bool → Before
+    with_bright bright = record {
+      is_shown = true;
+      is_coloured = false;
+      attribute = b.attribute;
+      switch = b.switch;
+      bright = bright;
+    }
+
+    go : (high : Bool) → (if high then b.switch else (if high then b.switch else b.bright))
+        ≡ (if high then b.switch else b.bright)
+    go true = refl
+    go false = refl
 
 -- the walker as it was before the first byte of a run, and as it is after each
 abbrev kept_after : Before → Keeping → Keeping → ℕ → Front → Type 0
@@ -90,17 +104,18 @@ kept_after before old new zero front = AllKept before front old
 kept_after before old new (suc k) front = AllKept before front new
 
 stays_each : (before : Before) (old new : Keeping) (offset : ℕ) (run behind : List ℕ)
-    → new.before ≡ record { is_shown = true; is_coloured = false }
+    → ((byte : ℕ) → new.before ≡ before_with old.before (Glyph byte))
     → KeptByBytes (kept_after before old new) offset run behind
 stays_each before old new offset run behind is zero byte front rest next h =
-    glyph_stays before front old new byte rest h next.spelled is
+    glyph_stays before front old new byte rest h next.spelled (is byte)
 stays_each before old new offset run behind is (suc k) byte front rest next h =
-    glyph_stays before front new new byte rest h next.spelled is
+    glyph_stays before front new new byte rest h next.spelled
+    (is byte ∙ sym (ap (λ (b : Before). before_with b (Glyph byte)) (is byte) ∙ glyph_again old.before byte))
 
 -- a run stays
 pub stays_past : (before : Before) (old new : Keeping) (offset : ℕ) (run behind : List ℕ) (front : Front)
     → ((k : ℕ) → k < length run → IsByte (get_or run k 0)) → 0 < length run
-    → new.before ≡ record { is_shown = true; is_coloured = false } → IsRunNext front offset run behind
+    → ((byte : ℕ) → new.before ≡ before_with old.before (Glyph byte)) → IsRunNext front offset run behind
     → AllKept before front old → AllKept before (front_past front run behind) new
 stays_past before old new offset [] behind front bytes some is next h = absurd (omega (arith, some))
 stays_past before old new offset (b ∷ run) behind front bytes some is next h =
@@ -166,15 +181,19 @@ goes_next before here after bytes place going h refused goes is = record {
 
 -- nothing does
 pub goes_nowhere : (before here : Before) (bytes : List ℕ) (place : ℕ) → KeepsUpTo before bytes place here
-    → ¬ BeginsStaying (drop place bytes) → NoneGoesHere here (drop place bytes) → NothingGoes before bytes
+    → ¬ BeginsStaying (drop place bytes) → NoneGoesHere here (drop place bytes)
+    → NothingMore before bytes here
 goes_nowhere before here bytes place h refused none = record {
-  tokens = h.tokens;
-  texts = h.texts;
-  left = drop place bytes;
-  all_stay = h.all_stay;
-  whole = h.whole;
-  refused = refused;
-  none_goes = λ kind text rest e is. none kind text rest e (rw h.here_is is);
+  nothing = record {
+    tokens = h.tokens;
+    texts = h.texts;
+    left = drop place bytes;
+    all_stay = h.all_stay;
+    whole = h.whole;
+    refused = refused;
+    none_goes = λ kind text rest e is. none kind text rest e (rw h.here_is is);
+  };
+  end_is = h.here_is;
 }
 
 -- what a walk over all bytes has been over
@@ -193,7 +212,7 @@ module _ (bytes : List ℕ) (first now : Keeping) (result : Result Bool Fault)
       sym (take-length bytes) ∙ h.whole ∙ ap (λ (v : List ℕ). v ++ left) h.reads.whole
 
   -- ---- up to the end
-  pub none_to_end : result ≡ Ok true → NothingGoes first.before bytes
+  pub none_to_end : result ≡ Ok true → NothingMore first.before bytes now.before
   none_to_end e =
       let h = ended (Ok true) e in
       let whole : bytes ≡ concat h.front.texts ++ [] = whole_of [] true h in
@@ -225,7 +244,7 @@ module _ (bytes : List ℕ) (first now : Keeping) (result : Result Bool Fault)
       refused_there : ¬ BeginsStaying (drop fault.offset bytes)
       refused_there = refused_stays (drop fault.offset bytes) fault.cause kept_to_fault.1
 
-      pub none_at_refusal : NoneGoesHere now.before left → NothingGoes first.before bytes
+      pub none_at_refusal : NoneGoesHere now.before left → NothingMore first.before bytes now.before
       none_at_refusal none =
           goes_nowhere first.before now.before bytes fault.offset kept_to_fault.0 refused_there
           (subst (NoneGoesHere now.before) left_is none)
@@ -273,7 +292,7 @@ module _ (bytes : List ℕ) (first now : Keeping) (result : Result Bool Fault)
       stops_there : ¬ BeginsStaying (drop now.place bytes)
       stops_there = stopped_stays (drop now.place bytes) now.length now.is_keys kept_to_token.1
 
-      pub none_at_stop : NoneGoesHere now.before left → NothingGoes first.before bytes
+      pub none_at_stop : NoneGoesHere now.before left → NothingMore first.before bytes now.before
       none_at_stop none =
           goes_nowhere first.before now.before bytes now.place kept_to_token.0 stops_there
           (subst (NoneGoesHere now.before) left_is none)

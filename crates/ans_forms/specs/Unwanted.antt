@@ -1,6 +1,7 @@
 -- Sequences that are taken out of a drawing, by their bytes and by what comes before them.
 use Rattle.std.specs.Prelude.{◌≡◌, ℕ, Bool, true, false, not, ◌||◌, IsTrue, List, [], ◌∷◌, ◌++◌, fold, length, ◌<◌}
-use Rattle.std.specs.Prelude.{Option, Some, None, if◌then◌else◌}
+use Rattle.std.specs.Prelude.{Option, Some, None, if◌then◌else◌, ◌&&◌, nat_le}
+use Rattle.ans_model.specs.Screen.Attribute.{attribute_after_all}
 use Rattle.std.specs.List.{AllZip, concat, list_all, list_any}
 use Rattle.ans_model.specs.Sequence.TokenKind.{TokenKind, Glyph, Tab, Clear, EraseLine, Colours, Mode, Keys, Ask}
 use Rattle.ans_model.specs.Sequence.Reads.{SpellsToken}
@@ -34,9 +35,30 @@ abbrev pub is_true_colour : Unwanted → Bool
 is_true_colour unwanted.TrueColour = true
 is_true_colour _ = false
 
+-- the token prints cells; a tab prints blanks
+abbrev pub prints : TokenKind → Bool
+prints (Glyph byte) = true
+prints Tab = true
+prints _ = false
+
+-- the attribute after the token
+abbrev pub attribute_with : ℕ → TokenKind → ℕ
+attribute_with attribute (Colours parameters) = attribute_after_all attribute parameters
+attribute_with attribute _ = attribute
+
+-- what the switch for bright backgrounds says at the last printed cell that has bit 7 in its attribute
+abbrev pub bright_with : Before → TokenKind → Option Bool
+bright_with before t = if prints t && nat_le 0x80 before.attribute then before.switch else before.bright
+
 -- with one token more
 abbrev pub before_with : Before → TokenKind → Before
-before_with before t = record { is_shown = before.is_shown || shows t; is_coloured = is_colours t }
+before_with before t = record {
+  is_shown = shows t || before.is_shown;
+  is_coloured = is_colours t;
+  attribute = attribute_with before.attribute t;
+  switch = before.switch;
+  bright = bright_with before t;
+}
 
 -- with these tokens more
 abbrev pub before_after : Before → List TokenKind → Before
@@ -44,7 +66,7 @@ before_after before tokens = fold before_with before tokens
 
 -- with a sequence of this kind that is taken out: a 24-bit colour may be followed by another
 abbrev pub before_behind : Before → Unwanted → Before
-before_behind before kind = record { is_shown = before.is_shown; is_coloured = is_true_colour kind }
+before_behind before kind = record before { is_coloured = is_true_colour kind }
 
 -- ---- what goes
 
@@ -166,3 +188,8 @@ pub record NothingGoes (before : Before) (bytes : List ℕ) : Type 0 where
   pub refused : ¬ BeginsStaying left
   pub none_goes : (kind : Unwanted) (text rest : List ℕ) → left ≡ text ++ rest
       → ¬ IsOfKind (before_after before tokens) kind text rest
+
+-- so it is, and this is what comes before the end, or before what is refused
+pub record NothingMore (before : Before) (bytes : List ℕ) (end : Before) : Type 0 where
+  pub nothing : NothingGoes before bytes
+  pub end_is : end ≡ before_after before nothing.tokens

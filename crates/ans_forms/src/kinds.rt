@@ -1,10 +1,12 @@
 //! What may be taken out of a drawing, and what is taken out.
 
-ghost use Rattle.std.specs.Prelude.{◌≡◌};
+ghost use Rattle.std.specs.Prelude.{◌≡◌, ◌&&◌, ℕ, nat_le, if◌then◌else◌};
+ghost use Rattle.ans_model.specs.Sequence.TokenKind.{Glyph};
 ghost use Rattle.ans_model.specs.Inside.ShownKind.{shown_kind};
 ghost use Rattle.ans_forms.specs.Unwanted.{before_behind, before_with, is_colours, is_true_colour, may_go, shows};
-ghost use Rattle.ans_forms.specs.Unwanted.{stays};
+ghost use Rattle.ans_forms.specs.Unwanted.{attribute_with, prints, stays};
 
+use ans_model::attribute::attribute_after_all;
 use ans_model::kind::Kind;
 
 /// A kind of sequence that is taken out.
@@ -58,6 +60,12 @@ pub struct Before {
     pub is_shown: bool,
     /// Whether a colour comes directly before: `ESC[..m`, or a colour of 24 bits that was taken out.
     pub is_coloured: bool,
+    /// The attribute, in the play from the cleared start.
+    pub attribute: u8,
+    /// What the last switch for bright backgrounds says that was taken out. The caller sets it.
+    pub switch: Option<bool>,
+    /// What the switch said at the last printed cell that has bit 7 in its attribute.
+    pub bright: Option<bool>,
 }
 
 impl Before {
@@ -65,15 +73,45 @@ impl Before {
     pub const NOTHING: Before = Before {
         is_shown: false,
         is_coloured: false,
+        attribute: 0x07,
+        switch: None,
+        bright: None,
     };
+
+    /// What the switch said at the last printed cell that has bit 7, if a cell is printed or not.
+    fn bright_with(self, prints: bool) -> Option<bool>
+        ensures { result ≡ (if prints && nat_le 0x80 self.attribute then self.switch else self.bright) }
+    {
+        if prints && self.attribute >= 0x80 {
+            self.switch
+        } else {
+            self.bright
+        }
+    }
 
     /// With a token more, which is kept.
     pub(crate) fn with(self, kind: &Kind) -> Before
         ensures { result ≡ before_with self (shown_kind kind.now) }
     {
         Before {
-            is_shown: self.is_shown || shows(kind),
+            is_shown: shows(kind) || self.is_shown,
             is_coloured: is_colours(kind),
+            attribute: attribute_with(self.attribute, kind),
+            switch: self.switch,
+            bright: self.bright_with(prints(kind)),
+        }
+    }
+
+    /// With one or more glyphs more.
+    pub(crate) fn with_glyphs(self) -> Before
+        ensures { (byte : ℕ) → result ≡ before_with self (Glyph byte) }
+    {
+        Before {
+            is_shown: true,
+            is_coloured: false,
+            attribute: self.attribute,
+            switch: self.switch,
+            bright: self.bright_with(true),
         }
     }
 
@@ -82,8 +120,8 @@ impl Before {
         ensures { result ≡ before_behind self kind }
     {
         Before {
-            is_shown: self.is_shown,
             is_coloured: kind.is_true_colour(),
+            ..self
         }
     }
 
@@ -117,6 +155,23 @@ fn shows(kind: &Kind) -> bool
         kind,
         Kind::Glyph(_) | Kind::Tab | Kind::Clear | Kind::EraseLine
     )
+}
+
+/// Whether a token prints cells.
+fn prints(kind: &Kind) -> bool
+    ensures { result ≡ prints (shown_kind kind.now) }
+{
+    matches!(kind, Kind::Glyph(_) | Kind::Tab)
+}
+
+/// The attribute after a token.
+fn attribute_with(attribute: u8, kind: &Kind) -> u8
+    ensures { result ≡ attribute_with attribute (shown_kind kind.now) }
+{
+    match kind {
+        Kind::Colours(parameters) => attribute_after_all(attribute, parameters),
+        _ => attribute,
+    }
 }
 
 fn is_colours(kind: &Kind) -> bool

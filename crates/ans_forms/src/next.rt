@@ -7,7 +7,7 @@ ghost use Rattle.ans_model.specs.Inside.ShownKind.{shown_kind};
 ghost use Rattle.ans_model.specs.Sequence.Spelling.{is_quote};
 ghost use Rattle.ans_tokens.specs.Walk.{HasNoReading};
 ghost use Rattle.ans_forms.specs.Here.{IsForm, IsGoingHere, IsTokenHere, NoneGoesHere, ends_plainly, is_keys};
-ghost use Rattle.ans_forms.specs.Unwanted.{IsNextGoing, NothingGoes, unwanted_form};
+ghost use Rattle.ans_forms.specs.Unwanted.{IsNextGoing, NothingMore, unwanted_form};
 
 use crate::kinds::{Before, Going, Unwanted, stays};
 use crate::table::unwanted_form;
@@ -62,10 +62,7 @@ impl Walker for Keeping {
 
     #[inline(always)]
     fn take(&mut self, _run: &[u8], _offset: usize) {
-        self.before = Before {
-            is_shown: true,
-            is_coloured: false,
-        };
+        self.before = self.before.with_glyphs();
     }
 }
 
@@ -132,13 +129,12 @@ fn going_fault(left: &[u8], fault: &Fault, before: Before) -> Option<Going>
 
 /// The next sequence that goes, in bytes that come after what `before` describes. Its place is counted from their
 /// start, and `before` then describes what comes before the byte that follows it. None if nothing goes: up to the end,
-/// or up to what is refused and is none of the kinds, or may not go there; `before` then stays as it was. The bytes
-/// before the sequence are read once, and no memory is needed.
+/// or up to what is refused and is none of the kinds, or may not go there; `before` then describes what comes before
+/// that. The bytes before the sequence are read once, and no memory is needed.
 pub fn next_unwanted(bytes: &[u8], before: &mut Before) -> Option<Going>
     requires { length bytes.now ≤ longest_file }
     ensures some { IfSome result (λ going. IsNextGoing before.old bytes.now going before.new) }
-    ensures none { IfNone result (NothingGoes before.old bytes.now) }
-    ensures unchanged { IfNone result (before.new ≡ before.old) }
+    ensures none { IfNone result (NothingMore before.old bytes.now before.new) }
 {
     let mut keeping = Keeping {
         before: *before,
@@ -146,11 +142,13 @@ pub fn next_unwanted(bytes: &[u8], before: &mut Before) -> Option<Going>
         length: 0,
         is_keys: false,
     };
-    let going = match walk(bytes, bytes.len(), &mut keeping) {
+    let walked = walk(bytes, bytes.len(), &mut keeping);
+    *before = keeping.before;
+    let going = match walked {
         Ok(true) => return None,
         Ok(false) => going_token(bytes.split_at(keeping.place).1, &keeping)?,
         Err(fault) => going_fault(bytes.split_at(fault.offset).1, &fault, keeping.before)?,
     };
-    *before = keeping.before.behind(going.kind);
+    *before = before.behind(going.kind);
     Some(going)
 }
