@@ -16,7 +16,7 @@ use Rattle.ans_forms.specs.declared.kinds.Unwanted.{Unwanted}
 use Rattle.ans_forms.specs.declared.kinds.Unwanted.TheVariants as unwanted
 use Rattle.ans_forms.specs.declared.kinds.TheConstants.Before as before
 use Rattle.ans_mend.specs.TakingOut.{AreTakenOut, CountsWithin, Gone, TakesOut, TakesOutOf, flagged, gone_at, index_of}
-use Rattle.ans_mend.specs.TakingOut.{nothing_told, one_more, told_of, told_with}
+use Rattle.ans_mend.specs.TakingOut.{counted_of, nothing_told, one_more, switched, told_of, told_with}
 use Rattle.ans_mend.specs.declared.taking_out.TakenOut.{TakenOut}
 use Rattle.ans_mend.specs.declared.taking_out.Told.{Told}
 use Rattle.ans_model.specs.File.Refusals.{has_record}
@@ -85,9 +85,9 @@ none_of unwanted.ReassignedKey n = tt
 none_of unwanted.Unfinished n = tt
 
 -- no more than have gone
-pub few_gone : (gone : List Gone) (most : ℕ) → length gone ≤ most → CountsWithin (told_of gone) most
+pub few_gone : (gone : List Gone) (most : ℕ) → length gone ≤ most → CountsWithin (counted_of gone) most
 few_gone gone most le kind =
-    more_within (slice_index_or (told_of gone).kinds (index_of kind) None) (0 + length gone) most (omega (arith, le))
+    more_within (slice_index_or (counted_of gone).kinds (index_of kind) None) (0 + length gone) most (omega (arith, le))
     (few_after nothing_told 0 gone refl (λ k. none_of k 0) kind)
 
 -- ---- a turn of the loop
@@ -148,23 +148,27 @@ module _ (start memory : List ℕ) (count read : ℕ) (within : count ≤ length
       ∙ drop-drop going.length place (take count start)
 
   -- what goes behind it, goes behind all before it
-  pub goes_on : (gone : List Gone) (total : List ℕ) (before_all : Before) (kept new : List ℕ)
-      → new ≡ kept ++ next.kept
-      → ((more : List Gone) (left : List ℕ) → TakesOut old read more (drop read (take count start)) left
-      → TakesOut before_all 0 (gone ++ more) total (kept ++ left))
-      → (more : List Gone) (left : List ℕ) → TakesOut after end more (drop end (take count start)) left
-      → TakesOut before_all 0 ((gone ++ gone_at going.kind place next.text ∷ []) ++ more) total (new ++ left)
-  goes_on gone total before_all kept new is on more left takes =
+  pub goes_on : (now : Before) → now ≡ switched after going.kind next.text
+      → (gone : List Gone) (total : List ℕ) (before_all : Before) (kept new : List ℕ) → new ≡ kept ++ next.kept
+      → ((more : List Gone) (left : List ℕ) (last : Before)
+      → TakesOut old read more (drop read (take count start)) left last
+      → TakesOut before_all 0 (gone ++ more) total (kept ++ left) last)
+      → (more : List Gone) (left : List ℕ) (last : Before)
+      → TakesOut now end more (drop end (take count start)) left last
+      → TakesOut before_all 0 ((gone ++ gone_at going.kind place next.text ∷ []) ++ more) total (new ++ left) last
+  goes_on now now_is gone total before_all kept new is on more left last takes =
       let g : Gone = gone_at going.kind place next.text in
       let first : GoesFirst old (drop read (take count start)) next.kept going.kind next.text next.rest after =
       subst (λ (v : List ℕ). GoesFirst old v next.kept going.kind next.text next.rest after) bytes_are next.first in
       let at_end : end ≡ place + length next.text = ap (λ (n : ℕ). place + n) next.length_is in
-      let rest : TakesOut after (place + length next.text) more next.rest left =
-      subst₂ (λ (n : ℕ) (v : List ℕ). TakesOut after n more v left) at_end (sym rest_there) takes in
-      subst₂ (λ (v : List Gone) (w : List ℕ). TakesOut before_all 0 v total w)
+      let rest_now : TakesOut now (place + length next.text) more next.rest left last =
+      subst₂ (λ (n : ℕ) (v : List ℕ). TakesOut now n more v left last) at_end (sym rest_there) takes in
+      let rest : TakesOut (switched after going.kind next.text) (place + length next.text) more next.rest left last =
+      subst (λ (b : Before). TakesOut b (place + length next.text) more next.rest left last) now_is rest_now in
+      subst₂ (λ (v : List Gone) (w : List ℕ). TakesOut before_all 0 v total w last)
       (sym (append_assoc gone (g ∷ []) more))
       (sym (append_assoc kept next.kept left) ∙ ap (λ (v : List ℕ). v ++ left) (sym is))
-      (on (g ∷ more) (next.kept ++ left) (
+      (on (g ∷ more) (next.kept ++ left) last (
         next.kept,
         next.rest,
         left,
@@ -175,15 +179,16 @@ module _ (start memory : List ℕ) (count read : ℕ) (within : count ≤ length
         rest,
       ))
 
-pub told_more : (gone : List Gone) (g : Gone) → told_with (told_of gone) g ≡ told_of (gone ++ g ∷ [])
+pub told_more : (gone : List Gone) (g : Gone) → told_with (counted_of gone) g ≡ counted_of (gone ++ g ∷ [])
 told_more gone g = sym (fold-append told_with nothing_told gone (g ∷ []))
 
 -- ---- a file
 -- sequences of a content in a memory of which the first bytes are the file
 module _ (memory once file content : List ℕ) (used kept : ℕ) (told : Told) (has : has_record file ≡ true)
     (is : content ≡ content_in file) (within : used ≤ length memory) (are : file ≡ take used memory)
-    (gone : List Gone) (takes : TakesOut before.NOTHING 0 gone (take (length content) memory) (take kept once))
-    (told_is : told ≡ told_of gone) (behind : drop (length content) once ≡ drop (length content) memory)
+    (gone : List Gone) (end : Before)
+    (takes : TakesOut before.NOTHING 0 gone (take (length content) memory) (take kept once) end)
+    (told_is : told ≡ told_of gone end) (behind : drop (length content) once ≡ drop (length content) memory)
     (twice : List ℕ) (moved : twice ≡ take kept once ++ take (used - length content) (drop (length content) once)) where
   twice_is : twice ≡ with_content (take kept once) file
   twice_is = behind_kept memory used file within are once twice kept (rw is at behind) (rw is at moved)
@@ -210,7 +215,8 @@ module _ (memory once file content : List ℕ) (used kept : ℕ) (told : Told) (
       (record {
         gone = gone;
         left = take kept once;
-        takes_out = subst (λ (v : List ℕ). TakesOut before.NOTHING 0 gone v (take kept once))
+        end = end;
+        takes_out = subst (λ (v : List ℕ). TakesOut before.NOTHING 0 gone v (take kept once) end)
             (ap (λ (v : List ℕ). take (length v) memory) is ∙ content_bytes memory used file within are) takes;
         told_is = told_is;
         new_is = new_is ∙ ap (flagged told.bright_backgrounds) twice_is;

@@ -4,7 +4,7 @@ use Rattle.std.specs.Prelude.{fold, set, slice_index, slice_index_or, Option, No
 use Rattle.std.specs.Prelude.{MatchBool, IfSome, ◌≤◌}
 use Rattle.ans_model.specs.File.Refusals.{has_record}
 use Rattle.ans_sauce.specs.Found.{record_in}
-use Rattle.ans_forms.specs.Unwanted.{GoesFirst, NothingGoes}
+use Rattle.ans_forms.specs.Unwanted.{GoesFirst, NothingMore}
 use Rattle.ans_forms.specs.declared.kinds.Before.{Before}
 use Rattle.ans_forms.specs.declared.kinds.TheConstants.Before as before
 use Rattle.ans_forms.specs.declared.kinds.Unwanted.{Unwanted}
@@ -26,13 +26,26 @@ gone_at kind place text = record { kind = kind; place = place; text = text }
 
 -- ---- what is left
 
--- From bytes, the first of which is at an offset after what `before` says, these sequences go, one after the other, and
--- this is left.
-abbrev pub TakesOut : Before → ℕ → List Gone → List ℕ → List ℕ → Type 0
-TakesOut before from [] bytes left = NothingGoes before bytes × (left ≡ bytes)
-TakesOut before from (g ∷ more) bytes left = (kept rest later : List ℕ) × (after : Before)
+-- a switch is on with an `h`
+abbrev pub is_on : List ℕ → Bool
+is_on text = slice_index text 5 == 0x68
+
+-- what a sequence of this kind sets the switch for bright backgrounds to
+abbrev pub switch_of : Option Bool → Unwanted → List ℕ → Option Bool
+switch_of on unwanted.BrightBackgrounds text = Some (is_on text)
+switch_of on _ text = on
+
+-- what comes before the byte that follows such a sequence
+abbrev pub switched : Before → Unwanted → List ℕ → Before
+switched after kind text = record after { switch = switch_of after.switch kind text }
+
+-- From bytes, the first of which is at an offset after what `before` says, these sequences go, one after the other, this
+-- is left, and `end` is what comes before the end of what is read.
+abbrev pub TakesOut : Before → ℕ → List Gone → List ℕ → List ℕ → Before → Type 0
+TakesOut before from [] bytes left end = NothingMore before bytes end × (left ≡ bytes)
+TakesOut before from (g ∷ more) bytes left end = (kept rest later : List ℕ) × (after : Before)
     × GoesFirst before bytes kept g.kind g.text rest after × (g.place ≡ from + length kept) × (left ≡ kept ++ later)
-    × TakesOut after (g.place + length g.text) more rest later
+    × TakesOut (switched after g.kind g.text) (g.place + length g.text) more rest later end
 
 -- ---- what is reported of it
 
@@ -62,32 +75,23 @@ one_more (Some taken) g = record {
   text = taken.text;
 }
 
--- a switch is on with an `h`
-abbrev pub is_on : List ℕ → Bool
-is_on text = slice_index text 5 == 0x68
-
--- what a sequence of this kind sets the switch for bright backgrounds to
-abbrev pub switch_of : Option Bool → Unwanted → List ℕ → Option Bool
-switch_of on unwanted.BrightBackgrounds text = Some (is_on text)
-switch_of on _ text = on
-
--- the last one counts
-abbrev pub switched : Option Bool → Gone → Option Bool
-switched on g = switch_of on g.kind g.text
-
 abbrev pub told_with : Told → Gone → Told
 told_with told g = record {
   kinds = set told.kinds (index_of g.kind)
       (Some (one_more (slice_index_or told.kinds (index_of g.kind) None) g));
-  bright_backgrounds = switched told.bright_backgrounds g;
+  bright_backgrounds = told.bright_backgrounds;
 }
 
 abbrev pub nothing_told : Told
 nothing_told = record { kinds = replicate 9 None; bright_backgrounds = None }
 
--- what is reported of all of them: of each kind how many, where the first is, and its first bytes
-abbrev pub told_of : List Gone → Told
-told_of gone = fold told_with nothing_told gone
+-- of each kind how many, where the first is, and its first bytes
+abbrev pub counted_of : List Gone → Told
+counted_of gone = fold told_with nothing_told gone
+
+-- what is reported of all of them: this, and what the switch said at the last bright cell
+abbrev pub told_of : List Gone → Before → Told
+told_of gone end = record (counted_of gone) { bright_backgrounds = end.bright }
 
 -- there are no more than this many of any kind
 abbrev pub CountsWithin : Told → ℕ → Type 0
@@ -96,7 +100,7 @@ CountsWithin told most =
 
 -- ---- a file
 
--- the file with its non-blink flag set as the switch says
+-- the file with its non-blink flag as the switch said at the last bright cell, if it said something
 abbrev pub flagged : Option Bool → List ℕ → List ℕ
 flagged None file = file
 flagged (Some on) file = with_record (with_non_blink on (record_in file)) file
@@ -105,8 +109,9 @@ flagged (Some on) file = with_record (with_non_blink on (record_in file)) file
 pub record TakesOutOf (file new : List ℕ) (told : Told) : Type 0 where
   pub gone : List Gone
   pub left : List ℕ
-  pub takes_out : TakesOut before.NOTHING 0 gone (content_in file) left
-  pub told_is : told ≡ told_of gone
+  pub end : Before
+  pub takes_out : TakesOut before.NOTHING 0 gone (content_in file) left end
+  pub told_is : told ≡ told_of gone end
   pub new_is : new ≡ flagged told.bright_backgrounds (with_content left file)
 
 abbrev pub AreTakenOut : List ℕ → List ℕ → Told → Type 0

@@ -5,7 +5,8 @@ ghost use Rattle.ans_model.specs.Bytes.{longest_file};
 ghost use Rattle.ans_mend.specs.Drafts.{draft_of, memory_of};
 ghost use Rattle.ans_forms.specs.declared.kinds.TheConstants.Before as before;
 ghost use Rattle.ans_mend.specs.TakingOut.{AreTakenOut, CountsWithin, Gone, TakesOut, excerpt_of, gone_at, index_of};
-ghost use Rattle.ans_mend.specs.TakingOut.{flagged, is_on, nothing_told, one_more, switched, told_of, told_with};
+ghost use Rattle.ans_mend.specs.TakingOut.{flagged, is_on, nothing_told, one_more, switch_of, told_of, told_with};
+ghost use Rattle.ans_forms.specs.declared.kinds.Before.{Before};
 
 use crate::draft::Draft;
 use crate::keeping::keep;
@@ -37,7 +38,8 @@ pub struct TakenOut {
 pub struct Told {
     /// Those of each kind, in the order of the kinds.
     pub kinds: [Option<TakenOut>; 9],
-    /// Whether the last switch for bright backgrounds was on, if there was one.
+    /// Whether the switch for bright backgrounds was on at the last printed cell that has bit 7 in its
+    /// attribute, if there is such a cell and a switch before it.
     pub bright_backgrounds: Option<bool>,
 }
 
@@ -98,8 +100,9 @@ fn is_on(text: &[u8]) -> bool
     matches!(text, [_, _, _, _, _, b'h', ..])
 }
 
-fn switched(on: Option<bool>, kind: Unwanted, text: &[u8]) -> Option<bool>
-    ensures { (place : ℕ) → result ≡ switched on (gone_at kind place text.now) }
+/// What a sequence of this kind sets the switch for bright backgrounds to.
+fn switch_of(on: Option<bool>, kind: Unwanted, text: &[u8]) -> Option<bool>
+    ensures { result ≡ switch_of on kind text.now }
 {
     match kind {
         Unwanted::BrightBackgrounds => Some(is_on(text)),
@@ -126,7 +129,6 @@ impl Told {
         let index = index_of(kind);
         let taken = one_more(self.kinds[index], kind, place, text);
         self.kinds[index] = Some(taken);
-        self.bright_backgrounds = switched(self.bright_backgrounds, kind, text);
     }
 }
 
@@ -144,8 +146,8 @@ fn take_out_sequences(memory: &mut [u8], count: usize) -> BytesLeft
     requires limit { count ≤ longest_file }
     ensures few { result.count ≤ count }
     ensures same_length { length memory.new ≡ length memory.old }
-    ensures left { (gone : List Gone) × TakesOut before.NOTHING 0 gone (take count memory.old)
-        (take result.count memory.new) × (result.told ≡ told_of gone) }
+    ensures left { (gone : List Gone) × (end : Before) × TakesOut before.NOTHING 0 gone (take count memory.old)
+        (take result.count memory.new) end × (result.told ≡ told_of gone end) }
     ensures behind { drop count memory.new ≡ drop count memory.old }
 {
     let mut before = Before::NOTHING;
@@ -156,9 +158,11 @@ fn take_out_sequences(memory: &mut [u8], count: usize) -> BytesLeft
         let place = read + going.place;
         let end = place + going.length;
         told.count(going.kind, place, &memory[place..end]);
+        before.switch = switch_of(before.switch, going.kind, &memory[place..end]);
         kept = keep(memory, kept, read, place);
         read = end;
     }
+    told.bright_backgrounds = before.bright;
     BytesLeft {
         told,
         count: keep(memory, kept, read, count),
@@ -179,8 +183,8 @@ impl<'a> Draft<'a> {
 
     /// Removes sequences from the content of a file that has a record, those that `ans_forms` names, if
     /// they are refused: the content is read token by token up to what is refused, and goes on after it if
-    /// it is one of these. What the last switch for bright backgrounds says becomes the record's non-blink
-    /// flag. Returns what is reported of them; offsets are in bytes from the file's start, as it was before.
+    /// it is one of these. What the last switch for bright backgrounds said at the last printed cell that has
+    /// bit 7 in its attribute becomes the record's non-blink flag. Returns what is reported of them; offsets are in bytes from the file's start, as it was before.
     pub(crate) fn take_out(&mut self) -> Told
         requires { length self.old.file ≤ longest_file }
         ensures file { AreTakenOut self.old.file self.new.file result }

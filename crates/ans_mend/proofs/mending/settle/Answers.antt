@@ -55,7 +55,8 @@ returns-in_err-lines-clause-reason c =
     (ap (λ (r : Reading). r.size) was) (rw c.open_lines-lacks.ensures.draft at c.in_ok-edits.ensures.edits) in
     let reason : IsReasonOfEdited mends (lacks_lines mends cut) c.edit.new.draft.file c.in_err-lines.field-0.0 =
     rw (c.open_lines-lacks.ensures.lacks, c.file-2.ensures) at c.in_err-lines.ensures.reason in
-    let at : c.from_residual-in_err-lines.result ≡ Err c.in_err-lines.field-0.0 = search rules in
+    let at : c.from_residual-in_err-lines.result ≡ Err c.in_err-lines.field-0.0 =
+    search (rules, c.from_residual-in_err-lines.ensures) in
     rw at
     (inr (inr (inl (read, c.edit.new.draft.file, c.in_ok-edits.edits, is_edited, reason))))
 

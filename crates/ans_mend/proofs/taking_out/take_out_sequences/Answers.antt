@@ -1,13 +1,13 @@
 use Rattle.std.proofs.Common.{◌≡◌, ◌+◌, ◌-◌, ◌≤◌, ℕ, List, [], ◌∷◌, ◌++◌, take, drop, ap, ap₂, refl, sym, ◌∙◌, subst}
 use Rattle.std.proofs.Common.{subst₂}
-use Rattle.std.proofs.Common.{arith, append-nil, length-append}
+use Rattle.std.proofs.Common.{arith, append-nil, length-append, Option, Bool}
 use Rattle.std.proofs.lemmas.List.{drop-drop}
 use Rattle.ans_forms.specs.declared.kinds.TheConstants.Before as before
 use Rattle.ans_model.specs.Bytes.{longest_file}
-use Rattle.ans_forms.specs.Unwanted.{IsNextGoing, NothingGoes}
+use Rattle.ans_forms.specs.Unwanted.{IsNextGoing, NothingMore}
 use Rattle.ans_forms.specs.declared.kinds.Before.{Before}
 use Rattle.ans_forms.specs.declared.kinds.Going.{Going}
-use Rattle.ans_mend.specs.TakingOut.{CountsWithin, Gone, TakesOut, gone_at, told_with}
+use Rattle.ans_mend.specs.TakingOut.{CountsWithin, Gone, TakesOut, gone_at, switch_of, told_with}
 use Rattle.ans_mend.specs.declared.taking_out.Told.{Told}
 use Rattle.ans_mend.proofs.RowEndsOut.{window}
 use Rattle.ans_mend.proofs.SequencesOut.{end_within, few_gone, goes_on, kept_there, text_there, told_more}
@@ -46,6 +46,8 @@ sequences-preserved c =
     going
     next) in
     let g : Gone = gone_at going.kind place next.text in
+    let now_is = ap (λ (o : Option Bool). record c.next_unwanted.new.before { switch = o })
+    (c.switch_of-before.ensures ∙ ap (switch_of c.next_unwanted.new.before.switch going.kind) text) in
     let sum = k.count in
     let order = i.order in
     let some = next.some in
@@ -62,7 +64,7 @@ sequences-preserved c =
           ∙ ap₂ (λ (told : Told) (v : List ℕ). told_with told (gone_at going.kind place v)) i.told text
           ∙ told_more i.gone g;
       goes_on = goes_on m0 memory count read c.requires.within i.within i.same_length i.left old
-          c.next_unwanted.new.before going next i.gone (take count m0) before.NOTHING (take c.sequences.kept memory)
+          c.next_unwanted.new.before going next _ now_is i.gone (take count m0) before.NOTHING (take c.sequences.kept memory)
           (take c.keep-kept.result c.keep-kept.new.memory) kept i.goes_on;
     }
 
@@ -75,15 +77,17 @@ returns-clause-left c =
     let i = c.sequences.invariant in
     let same : take (count - read) (drop read memory) ≡ drop read (take count m0) =
     window memory m0 read count i.within c.requires.within i.left in
-    let none : NothingGoes c.sequences.before (drop read (take count m0)) =
-    subst (NothingGoes c.sequences.before) same c.in_default.ensures.none in
+    let end : Before = c.next_unwanted.new.before in
+    let none : NothingMore c.sequences.before (drop read (take count m0)) end =
+    subst (λ (v : List ℕ). NothingMore c.sequences.before v end) same c.in_default.ensures.none in
     let all : TakesOut before.NOTHING 0 (i.gone ++ []) (take count m0)
-    (take c.sequences.kept memory ++ drop read (take count m0)) =
-    i.goes_on [] (drop read (take count m0)) (none, refl) in (
+    (take c.sequences.kept memory ++ drop read (take count m0)) end =
+    i.goes_on [] (drop read (take count m0)) end (none, refl) in (
       i.gone,
-      subst₂ (λ (v : List Gone) (w : List ℕ). TakesOut before.NOTHING 0 v (take count m0) w) (append-nil i.gone)
+      end,
+      subst₂ (λ (v : List Gone) (w : List ℕ). TakesOut before.NOTHING 0 v (take count m0) w end) (append-nil i.gone)
           (sym (c.keep.ensures.kept ∙ ap (λ (v : List ℕ). take c.sequences.kept memory ++ v) same)) all,
-      i.told,
+      ap (λ (t : Told). record t { bright_backgrounds = end.bright }) i.told,
     )
 
 pub returns-clause-behind : goal.returns-clause-behind

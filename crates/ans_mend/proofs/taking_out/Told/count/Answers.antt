@@ -16,6 +16,5 @@ returns c =
     (gone_at c.args.kind c.args.place c.args.text.now) =
     c.one_more-taken.ensures ∙ ap (λ (n : ℕ). one_more (slice_index_or kinds n None)
     (gone_at c.args.kind c.args.place c.args.text.now)) c.index_of-index.ensures in
-    ap₂ (λ (v : List (Option TakenOut)) (b : Option Bool). told v b)
+    ap (λ (v : List (Option TakenOut)). told v c.args.self.now.bright_backgrounds)
     (ap₂ (λ (n : ℕ) (t : TakenOut). set kinds n (Some t)) c.index_of-index.ensures one)
-    (c.switched-self.ensures c.args.place)
