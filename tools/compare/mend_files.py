@@ -19,10 +19,11 @@ from second_why import (
 )
 
 TOP = os.path.join(os.path.dirname(os.path.abspath(__file__)), "..", "..")
-Asked = collections.namedtuple("Asked", "width crlf take_out join_rows least_lines lines name_colours")
+Asked = collections.namedtuple(
+    "Asked", "width crlf take_out join_rows least_lines lines name_colours columns mixed ice record")
 # The beginning up to its clear, and up to its place.
 SAFE, SAFE_AND_PLACED = MENDING[:19], MENDING[:22]
-NONE_ASKED = Asked(None, False, False, False, False, None, False)
+NONE_ASKED = Asked(None, False, False, False, False, None, False, None, False, False, False)
 
 
 # Contents.
@@ -287,7 +288,8 @@ def some_asked(chance, file):
     """Nothing, each flag alone, and some of them together."""
     flags = [
         {"width": a_width(chance, file)}, {"crlf": True}, {"take_out": True}, {"join_rows": True},
-        {"least_lines": True}, {"lines": some_lines(chance)}, {"name_colours": True},
+        {"least_lines": True}, {"lines": some_lines(chance)}, {"name_colours": True}, {"columns": a_width(chance, file)},
+        {"ice": True},
     ]
     asked = [NONE_ASKED] + [NONE_ASKED._replace(**flag) for flag in flags]
     for likely in [0.3, 0.5, 0.5, 0.8]:

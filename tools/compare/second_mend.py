@@ -48,14 +48,14 @@ from pens import MOST_LINES, Pen, first_fault, least_lines, passes, tokens_of
 from second_machine import CONTROLS, REFUSED, Machine, Refused, answer, play, read_sequence
 from second_players import OF_TOKENS, spelled, walk
 from second_why import (
-    MENDING, MOST_COLUMNS, Hints, Rows, body_of, cleared, fault_line, last_record, many, quoted, record_fault,
-    record_of, rows_printed,
+    MENDING, MOST_COLUMNS, Hints, Rows, are_exchanged, body_of, cleared, fault_line, fitting_widths, last_record, many,
+    quoted, record_fault, record_of, rows_printed,
 )
 
 MOST_BYTES = 16777216
 TAIL = b"\x00\x0a\x0d\x1a"
 # Where fields stand in the record, and how many bytes they have.
-FILE_SIZE, LINES, FLAGS = (90, 4), (98, 2), (105, 1)
+FILE_SIZE, COLUMNS, LINES, FLAGS = (90, 4), (96, 2), (98, 2), (105, 1)
 DRAWS = {"glyph", "tab", "clear", "erase"}
 SEQUENCES = [
     ("bright backgrounds", re.compile(rb"\x1b\[\?33[hl]")),
@@ -81,6 +81,8 @@ class Draft:
 
     def __init__(self, content, behind, record, said):
         self.content, self.behind, self.record, self.said = content, behind, record, said
+        # What the switch for bright backgrounds says, if something, and whether the flag is asked for.
+        self.bright, self.is_iced = None, False
 
     def say(self, what, line):
         self.said.append((what, line))
@@ -163,6 +165,16 @@ def with_record(file, width, said):
     return content + b"\x1aSAUCE00" + b" " * 75 + b"0" * 8 + fields + bytes(22)
 
 
+def with_columns(file, columns, said):
+    """The file whose record states so many columns."""
+    if not columns or len(file) < 128 or file[-128:-123] != b"SAUCE":
+        return file
+    stated = record_of(file).width or 80
+    if stated != columns:
+        said.append(("columns", f"columns {columns}, was {stated}"))
+    return file[:-32] + columns.to_bytes(2, "little") + file[-30:]
+
+
 def record_help(file):
     """What may help a file without a record: one, if it takes one."""
     if with_record(file, 80, []) is None:
@@ -236,8 +248,39 @@ def to_take_out(content):
     return taken
 
 
+def switch_at_last_bright(content, taken):
+    """What the switch for bright backgrounds says at the last cell that is printed with bit 7; None if it says nothing."""
+    pen, at, switch, said = Pen(80, MOST_LINES), 0, None, None
+    ends = {begin: (kind, end) for kind, begin, end in taken}
+    while at < len(content):
+        if at in ends:
+            kind, end = ends[at]
+            switch = content[end - 1:end] == b"h" if kind == "bright backgrounds" else switch
+            at = end
+            continue
+        token, after = token_at(content, at)
+        if not after or token[0] in REFUSED:
+            break
+        said = switch if token[0] in ("glyph", "tab") and pen.attribute & 0x80 else said
+        if token[0] == "colours":
+            pen.step(*token)
+        at = after
+    return said
+
+
+def set_flag(draft, taken):
+    """The non-blink flag, as the switch says it or as it is asked for; it is told if a switch was taken out."""
+    flags, switches = draft.field(FLAGS), [kind for kind, _, _ in taken if kind == "bright backgrounds"]
+    is_on = draft.is_iced or (bool(flags & 1) if draft.bright is None else draft.bright)
+    draft.put(FLAGS, flags & 0xFE | is_on)
+    if bool(flags & 1) != is_on:
+        draft.say("flag", "set the non-blink flag" if is_on else "cleared the non-blink flag")
+    elif switches:
+        draft.say("flag left", f"left the non-blink flag {'set' if is_on else 'cleared'}")
+
+
 def take_sequences_out(draft):
-    """Each kind is told by its first sequence. The last switch for bright backgrounds goes into the record."""
+    """Each kind is told by its first sequence. What the switch for bright backgrounds says goes into the record."""
     content, taken = draft.content, to_take_out(draft.content)
     for kind in TAKEN_OUT:
         places = [(begin, end) for its_kind, begin, end in taken if its_kind == kind]
@@ -245,12 +288,9 @@ def take_sequences_out(draft):
             line = f"removed {quoted(content[slice(*places[0])])} at {places[0][0]}"
             more = f", and {len(places) - 1} more like it" if places[1:] else ""
             draft.say(f"removed {kind}", line + more)
-    switches = [content[end - 1:end] for kind, _, end in taken if kind == "bright backgrounds"]
-    flags = draft.field(FLAGS)
-    if switches and flags & 1 != (switches[-1] == b"h"):
-        draft.put(FLAGS, flags ^ 1)
-        draft.say("flag", "cleared the non-blink flag" if flags & 1 else "set the non-blink flag")
+    draft.bright = switch_at_last_bright(content, taken)
     draft.content = without(content, [(begin, end) for _, begin, end in taken])
+    return taken
 
 
 class FullRows(Rows):
@@ -301,6 +341,13 @@ def name_colours(draft):
     draft.say_of_each("named colours", "named the colours of {} sequence(s)", offsets)
 
 
+def looks_torn(content, width, stated, lines):
+    """On so many lines the rows look broken, or those of a drawing for another width."""
+    hints = Hints(content, len(content), width, lines)
+    fits = fitting_widths(content, width, stated, hints.rows, least_lines)
+    return hints.torn or bool(fits) or are_exchanged(width, stated, hints.rows)
+
+
 def settle_lines(draft, least_is_asked, lines):
     """States other lines where those are too few, or where none are stated."""
     stated, width = draft.field(LINES), draft.width()
@@ -308,7 +355,7 @@ def settle_lines(draft, least_is_asked, lines):
         return
     if not lines and least_is_asked:
         lines = least_lines(draft.content, width)
-        if lines and Hints(draft.content, len(draft.content), width, lines).torn:
+        if lines and looks_torn(draft.content, width, stated, lines):
             raise NotMended("the rows look broken")
         if not lines and not stated:
             raise NotMended(f"no number of lines up to {MOST_LINES} would do")
@@ -376,14 +423,15 @@ def mended(file, asked, chance):
     file = without_tail(file, said)
     given = with_record(file, asked.width, said) if asked.width else None
     least_is_asked = asked.least_lines or bool(given) and not asked.lines
-    draft = draft_of(given or file, bool(given or asked.lines or asked.least_lines), said)
+    based = with_columns(given or file, asked.columns, said)
+    draft = draft_of(based, bool(given or asked.lines or asked.least_lines), said)
     draft.file()
+    draft.is_iced = asked.ice
     old_content = draft.content
     if asked.crlf:
         put_returns(draft)
         draft.file()
-    if asked.take_out:
-        take_sequences_out(draft)
+    set_flag(draft, take_sequences_out(draft) if asked.take_out else [])
     if asked.join_rows:
         take_ends_of_full_rows_out(draft)
     if asked.take_out:
@@ -468,10 +516,11 @@ def asked_again(asked, file):
 
 def words_of(asked):
     """The flags, as words."""
-    named = ("crlf", "take_out", "join_rows", "least_lines", "name_colours")
+    named = ("crlf", "take_out", "join_rows", "least_lines", "name_colours", "mixed", "ice", "record")
     flags = [field for field in named if getattr(asked, field)]
     words = ["--" + field.replace("_", "-") for field in flags]
     words += ["--add-record", str(asked.width)] if asked.width else []
+    words += ["--columns", str(asked.columns)] if asked.columns else []
     return words + (["--lines", str(asked.lines)] if asked.lines else [])
 
 

@@ -455,7 +455,7 @@ class Hints:
         self.offsets.update(rows.offsets())
         if 10 * len(self.offsets["dark grey"]) <= len(self.offsets["seen"]):
             self.offsets["dark grey"] = []
-        self.widest, self.empty = rows.widest(), lines - 1 - max(printed)
+        self.widest, self.empty, self.rows = rows.widest(), lines - 1 - max(printed), rows
         straight_down = self.offsets["loose line feed"] and not rows.returns
         self.torn = bool(straight_down or rows.all_end() or self.widest or self.offsets["UTF-8"])
 
@@ -526,6 +526,19 @@ def counted_text(offsets, before, what, advice):
     if len(offsets) == 1:
         return f"{before}1 {what[0]}, at {offsets[0]}{advice[0]}"
     return f"{before}{len(offsets)} {what[1]}, first at {offsets[0]}{advice[1]}"
+
+
+def fitting_widths(content, width, lines, rows, least):
+    """The widths on which a content without line ends needs exactly the stated lines, if it does not on the stated one."""
+    if not lines or rows.line_ends or least(content, width) == lines:
+        return []
+    tried = dict.fromkeys([40, 80, 100, 120, 132, 160, 2 * width, 3 * width])
+    return [other for other in tried if other != width and other <= MOST_COLUMNS and least(content, other) == lines]
+
+
+def are_exchanged(width, lines, rows):
+    """The record may have the columns as lines, and the lines as columns."""
+    return width < 40 and lines in (80, 132, 160) and rows.full > 0
 
 
 def enough_lines(content, width, least, record):
