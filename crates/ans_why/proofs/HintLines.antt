@@ -31,6 +31,22 @@ empty_rows_line_is rows some more =
     (sym (append_assoc (decimal rows) (codes " lines are empty") (codes "\n"))))
 
 pub wider_line_is : (counted columns : List ℕ)
-    → codes "hint: " ++ (counted ++ (codes "; the widest has " ++ (columns ++ codes " columns\n")))
-    ≡ hint_line (counted ++ (codes "; the widest has " ++ (columns ++ codes " columns")))
+    → codes "hint: "
+    ++ (counted
+    ++ (codes "; they need at least " ++ (columns ++ (codes " columns: --columns " ++ (columns ++ codes "\n")))))
+    ≡ hint_line (counted
+    ++ (codes "; they need at least " ++ (columns ++ (codes " columns: --columns " ++ columns))))
 wider_line_is counted columns = simp append_assoc
+
+pub fitting_line_is : (width lines words : List ℕ)
+    → codes "hint: with "
+    ++ (width ++ (codes " columns the " ++ (lines ++ (words ++ (width ++ codes "\n")))))
+    ≡ hint_line (codes "with " ++ (width ++ (codes " columns the " ++ (lines ++ (words ++ width)))))
+fitting_line_is width lines words = simp append_assoc
+
+pub exchanged_line_is : (columns lines : List ℕ)
+    → codes "hint: columns and lines may be exchanged in the record: --columns "
+    ++ (columns ++ (codes " --lines " ++ (lines ++ codes "\n")))
+    ≡ hint_line (codes "columns and lines may be exchanged in the record: --columns "
+    ++ (columns ++ (codes " --lines " ++ lines)))
+exchanged_line_is columns lines = simp append_assoc

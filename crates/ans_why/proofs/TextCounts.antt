@@ -1,10 +1,10 @@
 -- Forms of bytes that are counted one after the other.
 use Rattle.std.proofs.Common.{◌≡◌, ℕ, ◌+◌, ◌-◌, ◌≤◌, List, [], ◌∷◌, length, take, drop, get_or, Option, arith}
-use Rattle.std.proofs.Common.{sym, subst}
+use Rattle.std.proofs.Common.{sym, subst, ap}
 use Rattle.std.proofs.lemmas.List.{take_all}
 use Rattle.ans_pens.specs.Counted.{counted}
 use Rattle.ans_pens.specs.declared.times.Times.{Times}
-use Rattle.ans_why.specs.TextDamage.{AreAdded, AreWithin, Form, capital_latin, counted_on, lost_escape, pair_of_pairs}
+use Rattle.ans_why.specs.TextDamage.{AreAdded, AreWithin, BeginsNone, Form, capital_latin, counted_on, lost_escape, pair_of_pairs}
 use Rattle.ans_why.specs.TextDamage.{return_here, short_escape, shown_escape, times_of, wide_character}
 use Rattle.ans_why.specs.declared.text_damage.Counts.{Counts}
 
@@ -61,3 +61,37 @@ next bytes (first ∷ more) before old new some on within added =
       within = rw here within;
       rest_within = omega (arith, on.rest_within);
     })
+
+-- where no form begins, nothing is added
+nothing_added : (before offset : ℕ) (rest : List ℕ) (counts : Counts) → BeginsNone before rest
+    → AreAdded before rest offset counts counts
+nothing_added before offset rest counts none = record {
+  lost = sym (ap (λ b. counted counts.lost b offset) none.lost);
+  shown = sym (ap (λ b. counted counts.shown b offset) none.shown);
+  short = sym (ap (λ b. counted counts.short b offset) none.short);
+  pairs = sym (ap (λ b. counted counts.pairs b offset) none.pairs);
+  wide = sym (ap (λ b. counted counts.wide b offset) none.wide);
+  latin = sym (ap (λ b. counted counts.latin b offset) none.latin);
+  returns = sym (ap (λ b. counted counts.returns b offset) none.returns);
+}
+
+more_within : (counts : Counts) (most : ℕ) → AreWithin counts most → AreWithin counts (most + 1)
+more_within counts most within = record {
+  lost = omega (arith, within.lost);
+  shown = omega (arith, within.shown);
+  short = omega (arith, within.short);
+  pairs = omega (arith, within.pairs);
+  wide = omega (arith, within.wide);
+  latin = omega (arith, within.latin);
+  returns = omega (arith, within.returns);
+}
+
+pub next_none : (bytes rest : List ℕ) (before : ℕ) (counts : Counts) → 1 ≤ length rest
+    → Counts-on bytes rest before counts
+    → ((more : List ℕ) → BeginsNone before (get_or rest 0 0 ∷ more))
+    → Counts-on bytes (take (length rest - 1) (drop 1 rest)) (get_or rest 0 0) counts
+next_none bytes [] before counts some on none = absurd (omega (arith, some))
+next_none bytes (first ∷ more) before counts some on none =
+    next bytes (first ∷ more) before counts counts some on
+    (more_within counts (length bytes - length (first ∷ more)) on.within)
+    (nothing_added before (length bytes - length (first ∷ more)) (first ∷ more) counts (none more))

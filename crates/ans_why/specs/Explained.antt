@@ -1,6 +1,6 @@
 -- What is said about a file is true.
-use Rattle.std.specs.Prelude.{◌≡◌, ◌≢◌, ◌⊎◌, ℕ, ◌+◌, ◌≤◌, ◌↔◌, Bool, true, IsTrue, List, [], length, take}
-use Rattle.std.specs.Prelude.{drop, Option, Some, None, IfSome, IfNone, MatchOption}
+use Rattle.std.specs.Prelude.{◌≡◌, ◌≢◌, ◌⊎◌, ℕ, ◌+◌, ◌≤◌, ◌↔◌, Bool, true, false, IsTrue, List, [], length, take}
+use Rattle.std.specs.Prelude.{drop, is_some, nat_lt, Option, Some, None, IfSome, IfNone, MatchOption}
 use Rattle.ans_model.specs.Bytes.{longest_file, most_lines}
 use Rattle.ans_model.specs.declared.cell.Position.{Position}
 use Rattle.ans_model.specs.declared.fault.Fault.{Fault}
@@ -28,7 +28,9 @@ use Rattle.ans_pens.specs.Lines.{IsGoodOn, IsLeastLines, IsNeverGood}
 use Rattle.ans_kinds.specs.SaidOfPlayers.{IsSaidOfPlayers}
 use Rattle.ans_pens.specs.Taller.{IsTaller}
 use Rattle.ans_hints.specs.Hints.{AreHints}
+use Rattle.ans_hints.specs.OtherWidths.{AreOtherWidths, has_other_widths}
 use Rattle.ans_hints.specs.declared.hints.Hints.{Hints}
+use Rattle.ans_hints.specs.declared.other_widths.OtherWidths.{OtherWidths}
 use Rattle.ans_why.specs.Blamed.{AreToBlame}
 use Rattle.ans_why.specs.Known.{known_sequence}
 use Rattle.ans_why.specs.OtherFiles.{known_file}
@@ -73,6 +75,11 @@ pub record IsReliance (z : Size) (file_length : ℕ) (content : List ℕ) (r : R
   pub shown : IsShown z none_known content r.fault r.shown
   pub mends : IsTrue r.mends ↔ (file_length + length mending ≤ longest_file)
 
+-- what a record of this size shows of other widths, if that is wanted, and else none
+abbrev pub AreWidths : Bool → Size → Hints → List ℕ → OtherWidths → Type 0
+AreWidths true z hints content widths = AreOtherWidths z.width z.lines hints content widths
+AreWidths false z hints content widths = has_other_widths widths ≡ false
+
 -- a content that passes from the cleared start, and its record
 pub record IsPass (file_length : ℕ) (sauce content : List ℕ) (pass : Pass) : Type 0 where
   pub needs : IsLeast (stated_size sauce) content pass.needs
@@ -82,6 +89,7 @@ pub record IsPass (file_length : ℕ) (sauce content : List ℕ) (pass : Pass) :
   pub relies : IfSome pass.reliance (λ r. (pass.needs ≢ none_known)
       × IsReliance (stated_size sauce) file_length content r)
   pub hints : AreHintsOf (stated_size sauce) (is_non_blink sauce) content [] pass.hints
+  pub widths : AreWidths (nat_lt 0 pass.hints.empty_rows) (stated_size sauce) pass.hints content pass.widths
   pub damage : IsDamage content pass.damage
 
 -- F19 to F21, which may go away on more lines
@@ -125,6 +133,7 @@ pub record IsRefusal (sauce content : List ℕ) (r : Refusal) : Type 0 where
   pub lines : AreLines (stated_width sauce) content r.fault.cause r.lines
   pub known : r.known ≡ known_sequence r.fault.cause (drop r.fault.offset content)
   pub hints : AreRefusalHints sauce content r.fault r.bytes.now r.lines r.hints
+  pub widths : AreWidths (is_some r.lines) (stated_size sauce) r.hints content r.widths
   pub damage : IsDamage content r.damage
 
 -- This many lines are enough for the file, which lacks only that number: its content is good with that many, and with

@@ -39,7 +39,8 @@ abbrev pub wider_line : Option WiderRows → List ℕ
 wider_line None = []
 wider_line (Some rows) =
     hint_line (counted_words row.rows_over rows.times
-    ++ (codes "; the widest has " ++ (decimal rows.columns ++ codes " columns")))
+    ++ (codes "; they need at least "
+    ++ (decimal rows.columns ++ (codes " columns: --columns " ++ decimal rows.columns))))
 
 -- a font that is known for other characters, or not known, by the field that names it
 abbrev pub font_line : List ℕ → List ℕ
@@ -56,12 +57,12 @@ empty_rows_line rows =
     else if rows == 1 then hint_line (codes "the last line is empty")
     else hint_line (codes "the last " ++ (decimal rows ++ codes " lines are empty"))
 
--- the hints of rows
-abbrev pub row_hints : Hints → List ℕ
-row_hints hints =
+-- the hints of rows, of wider ones only these
+abbrev pub row_hints : Hints → Option WiderRows → List ℕ
+row_hints hints wider =
     counted_line row.bare_line_feeds hints.loose_line_feeds
     ++ (counted_line row.ended_rows hints.row_ends.ended
-    ++ (wider_line (wider_rows hints.row_ends) ++ counted_line row.overprints hints.row_ends.overprints))
+    ++ (wider_line wider ++ counted_line row.overprints hints.row_ends.overprints))
 
 -- letters of Latin-1, unless the font in the record's field has them
 abbrev pub latin_told : List ℕ → Option Times → Option Times
@@ -81,12 +82,23 @@ colour_hints hints =
     counted_line row.modern_colours hints.later_colours
     ++ (counted_line row.blinking hints.blinking_glyphs ++ counted_line row.dark_grey (much_dark hints))
 
--- the hints of a content, and that of the font, by the record's field
-abbrev pub hints_text : Hints → List ℕ → List ℕ
-hints_text hints field =
-    row_hints hints
+-- the hints of a content, of wider rows only these, and that of the font, by the record's field
+abbrev pub told_text : Hints → Option WiderRows → List ℕ → List ℕ
+told_text hints wider field =
+    row_hints hints wider
     ++ (foreign_hints hints field
     ++ (colour_hints hints ++ (font_line field ++ empty_rows_line hints.empty_rows)))
+
+-- with all wider rows
+abbrev pub hints_text : Hints → List ℕ → List ℕ
+hints_text hints field = told_text hints (wider_rows hints.row_ends) field
+
+-- Wider rows are told of a content that passes if it does not need all lines that are stated.
+abbrev pub wider_told : Hints → Option WiderRows
+wider_told hints = if hints.empty_rows == 0 then None else wider_rows hints.row_ends
+
+abbrev pub pass_hints_text : Hints → List ℕ → List ℕ
+pass_hints_text hints field = told_text hints (wider_told hints) field
 
 -- the mark of UTF-8
 abbrev pub mark_line : Bool → List ℕ

@@ -9,3 +9,4 @@ pub mod PlayersText
 pub mod Explained
 pub mod WhyText
 pub mod TextDamage
+pub mod WidthsText

@@ -130,3 +130,13 @@ pub record AreCounts (bytes : List ℕ) (counts : Counts) : Type 0 where
   pub wide : counts.wide ≡ times_of wide_character bytes
   pub latin : counts.latin ≡ times_of capital_latin bytes
   pub returns : counts.returns ≡ times_of return_here bytes
+
+-- no form begins with these bytes, after that one
+pub record BeginsNone (before : ℕ) (bytes : List ℕ) : Type 0 where
+  pub lost : lost_escape before bytes ≡ false
+  pub shown : shown_escape before bytes ≡ false
+  pub short : short_escape before bytes ≡ false
+  pub pairs : pair_of_pairs before bytes ≡ false
+  pub wide : wide_character before bytes ≡ false
+  pub latin : capital_latin before bytes ≡ false
+  pub returns : return_here before bytes ≡ false

@@ -24,7 +24,8 @@ use Rattle.ans_hints.specs.Hints.{are_torn}
 use Rattle.ans_hints.specs.declared.hints.Hints.{Hints}
 use Rattle.ans_pens.specs.declared.times.Times.{Times}
 use Rattle.ans_why.specs.HintRows.{wide_characters}
-use Rattle.ans_why.specs.HintsText.{counted_line, damage_lines, hints_text, text_lines}
+use Rattle.ans_why.specs.HintsText.{counted_line, damage_lines, hints_text, pass_hints_text, text_lines}
+use Rattle.ans_why.specs.WidthsText.{widths_lines}
 use Rattle.ans_why.specs.Known.{known_behind_end_mark, known_text}
 use Rattle.ans_why.specs.OtherFiles.{first_known, known_file}
 use Rattle.ans_why.specs.PlayersText.{is_same_class, players_lines, remedy_line}
@@ -185,7 +186,8 @@ pass_lines parts pass =
     ++ (taller_line pass.taller
     ++ (fix_line (is_fixed pass.reliance)
     ++ (damage_lines pass.damage (font_of parts)
-    ++ (hints_text pass.hints (font_of parts) ++ remedy_line pass.players))))))))
+    ++ (pass_hints_text pass.hints (font_of parts)
+    ++ (widths_lines (size_of parts) pass.widths ++ remedy_line pass.players)))))))))
 
 -- Empty rows at the end are not spoken of if not all is played.
 abbrev pub told_hints : Refusal → Hints
@@ -197,7 +199,8 @@ refusal_lines parts r =
     ++ (known_line (first_known r.known (known_file (content_of parts)))
     ++ (named_line (codes "cursor") (place_text r.cursor)
     ++ (damage_lines r.damage (font_of parts)
-    ++ (hints_text (told_hints r) (font_of parts) ++ lines_line r.lines (are_torn r.hints)))))
+    ++ (hints_text (told_hints r) (font_of parts)
+    ++ (widths_lines (size_of parts) r.widths ++ lines_line r.lines (are_torn r.hints))))))
 
 -- the size, and what is odd about the record
 abbrev pub heading_lines : Parts → List ℕ

@@ -16,14 +16,14 @@ ghost use Rattle.ans_model.specs.Verdict.LastFault.{IsDeserved};
 ghost use Rattle.ans_why.specs.Blamed.{AreToBlame};
 ghost use Rattle.ans_why.specs.Explained.{place_of, IsShown, AreHintsOf, IsReliance, IsPass};
 ghost use Rattle.ans_why.specs.Explained.{IsOfReading, AreLines, AreRefusalHints, EndsHints, IsEnough};
-ghost use Rattle.ans_why.specs.Explained.{IsRecordRefusal, IsRefusal};
+ghost use Rattle.ans_why.specs.Explained.{AreWidths, IsRecordRefusal, IsRefusal};
 
 use crate::blamed::bytes_to_blame;
 use crate::known_bytes::known_sequence;
 use crate::other_files::known_file;
 use crate::text_damage::TextDamage;
 use crate::why::{Enough, Pass, Place, RecordRefusal, Refusal, Reliance, Shown};
-use ans_hints::{Hints, Overview};
+use ans_hints::{Hints, OtherWidths, Overview};
 use ans_model::beginning::SAFE_BEGINNING;
 use ans_model::cell::Position;
 use ans_model::fault::{Cause, Fault};
@@ -210,6 +210,18 @@ fn refusal_hints(parts: &Parts<'_>, fault: &Fault, bytes: &[u8], lines: Option<u
     }
 }
 
+/// What a record of this size shows of other widths, if that is wanted.
+fn other_widths(wanted: bool, size: Size, hints: &Hints, content: &[u8]) -> OtherWidths
+    requires { length content.now ≤ longest_file }
+    ensures { AreWidths wanted size hints.now content.now result }
+{
+    if wanted {
+        OtherWidths::of(size.width(), size.lines(), hints, content)
+    } else {
+        OtherWidths::NONE
+    }
+}
+
 impl<'a> Refusal<'a> {
     /// For a content that is refused from the cleared start, with this fault. It takes no memory.
     pub fn of(parts: &Parts<'a>, fault: Fault) -> Refusal<'a>
@@ -222,13 +234,15 @@ impl<'a> Refusal<'a> {
         let bytes = bytes_to_blame(content, size, Start::CLEARED, fault);
         let (cursor, _) = cursors_before(size, Start::CLEARED, content, fault);
         let lines = enough_lines(parts.width(), content, &fault.cause);
+        let hints = refusal_hints(parts, &fault, bytes, lines);
         Refusal {
             fault,
             bytes,
             known: known_sequence(content.split_at(fault.offset).1, &fault.cause),
             cursor: place(size, cursor),
             lines,
-            hints: refusal_hints(parts, &fault, bytes, lines),
+            hints,
+            widths: other_widths(lines.is_some(), size, &hints, content),
             damage: TextDamage::of(content),
         }
     }
@@ -256,6 +270,12 @@ impl<'a> Pass<'a> {
             taller: overview.taller,
             reliance: reliance_of(size, file_length, content, fault),
             hints: overview.hints,
+            widths: other_widths(
+                overview.hints.empty_rows > 0,
+                size,
+                &overview.hints,
+                content,
+            ),
             damage: TextDamage::of(content),
         }
     }

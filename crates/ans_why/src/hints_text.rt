@@ -3,7 +3,8 @@
 ghost use Rattle.std.specs.Prelude.{◌≡◌};
 ghost use Rattle.ans_why.specs.HintsText.{colour_hints, empty_rows_line, font_line, foreign_hints, hints_text};
 ghost use Rattle.ans_why.specs.HintsText.{counted_line, counted_words, latin_told, row_hints, wider_line};
-ghost use Rattle.ans_why.specs.HintsText.{damage_lines, mark_line, text_lines};
+ghost use Rattle.ans_why.specs.HintsText.{damage_lines, mark_line, pass_hints_text, text_lines};
+ghost use Rattle.ans_why.specs.HintsText.{told_text, wider_told};
 ghost use Rattle.ans_why.specs.HintRows.{hint_of, words_of};
 ghost use Rattle.ans_write.specs.Puts.{Puts};
 
@@ -87,17 +88,19 @@ fn put_wider_line<W: Write>(out: &mut Outbox<'_, W>, rows: Option<WiderRows>)
     };
     out.put(b"hint: ");
     put_counted_words(out, ROWS_OVER, rows.times);
-    out.put(b"; the widest has ");
+    out.put(b"; they need at least ");
     out.put_decimal(rows.columns as u64);
-    out.put(b" columns\n");
+    out.put(b" columns: --columns ");
+    out.put_decimal(rows.columns as u64);
+    out.put(b"\n");
 }
 
-fn put_row_hints<W: Write>(out: &mut Outbox<'_, W>, hints: &Hints)
-    ensures { Puts W.contents out.old out.new (row_hints hints.now) }
+fn put_row_hints<W: Write>(out: &mut Outbox<'_, W>, hints: &Hints, wider: Option<WiderRows>)
+    ensures { Puts W.contents out.old out.new (row_hints hints.now wider) }
 {
     put_counted_line(out, &BARE_LINE_FEEDS, hints.loose_line_feeds);
     put_counted_line(out, &ENDED_ROWS, hints.row_ends.ended);
-    put_wider_line(out, hints.row_ends.wider_rows());
+    put_wider_line(out, wider);
     put_counted_line(out, &OVERPRINTS, hints.row_ends.overprints);
 }
 
@@ -129,17 +132,47 @@ fn put_colour_hints<W: Write>(out: &mut Outbox<'_, W>, hints: &Hints)
     put_counted_line(out, &DARK_GREY, hints.much_dark());
 }
 
+/// Puts the lines of hints, of wider rows only these.
+fn put_told_hints<W: Write>(
+    out: &mut Outbox<'_, W>,
+    hints: &Hints,
+    wider: Option<WiderRows>,
+    font_field: &[u8],
+)
+    ensures { Puts W.contents out.old out.new (told_text hints.now wider font_field.now) }
+{
+    put_row_hints(out, hints, wider);
+    put_foreign_hints(out, hints, font_field);
+    put_colour_hints(out, hints);
+    put_font_line(out, font_field);
+    put_empty_rows_line(out, hints.empty_rows);
+}
+
 /// Puts a line for each hint that there is: `hint: `, how many there are, what it is, the offset of the first
 /// in bytes from the content's start, and what to do about it. Two lines have no count: on the font, if the
 /// record's field names one that is not of code page 437, and on empty lines at the end.
 pub fn put_hints<W: Write>(out: &mut Outbox<'_, W>, hints: &Hints, font_field: &[u8])
     ensures { Puts W.contents out.old out.new (hints_text hints.now font_field.now) }
 {
-    put_row_hints(out, hints);
-    put_foreign_hints(out, hints, font_field);
-    put_colour_hints(out, hints);
-    put_font_line(out, font_field);
-    put_empty_rows_line(out, hints.empty_rows);
+    put_told_hints(out, hints, hints.row_ends.wider_rows(), font_field);
+}
+
+/// The rows of a drawing for more columns, if it does not need all lines that are stated.
+fn wider_told(hints: &Hints) -> Option<WiderRows>
+    ensures { result ≡ wider_told hints.now }
+{
+    if hints.empty_rows == 0 {
+        None
+    } else {
+        hints.row_ends.wider_rows()
+    }
+}
+
+/// The same for a content that passes: wider rows are a hint only if lines are empty at the end.
+pub(crate) fn put_pass_hints<W: Write>(out: &mut Outbox<'_, W>, hints: &Hints, font_field: &[u8])
+    ensures { Puts W.contents out.old out.new (pass_hints_text hints.now font_field.now) }
+{
+    put_told_hints(out, hints, wider_told(hints), font_field);
 }
 
 fn put_mark_line<W: Write>(out: &mut Outbox<'_, W>, mark: bool)
@@ -162,8 +195,9 @@ pub(crate) fn put_text_damage<W: Write>(out: &mut Outbox<'_, W>, damage: &TextDa
     put_mark_line(out, damage.mark);
 }
 
-/// The same, and a line on letters of Latin-1 after a capital, unless the record's field names a font that has them.
-pub(crate) fn put_damage<W: Write>(out: &mut Outbox<'_, W>, damage: &TextDamage, font_field: &[u8])
+/// Puts a line for each thing that seems to have happened to a text on its way, and one on letters of Latin-1 after a
+/// capital, unless the record's field names a font that has them.
+pub fn put_damage<W: Write>(out: &mut Outbox<'_, W>, damage: &TextDamage, font_field: &[u8])
     ensures { Puts W.contents out.old out.new (damage_lines damage.now font_field.now) }
 {
     put_text_damage(out, damage);

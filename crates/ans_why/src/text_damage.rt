@@ -1,11 +1,12 @@
 //! Damage on the way of a text, by the forms of its bytes.
 
-ghost use Rattle.std.specs.Prelude.{◌≡◌, ◌≤◌, ◌<◌, ◌+◌, ◌==◌, ℕ, length};
+ghost use Rattle.std.specs.Prelude.{◌≡◌, ◌≤◌, ◌<◌, ◌+◌, ◌==◌, ◌∷◌, ℕ, List, false, length};
 ghost use Rattle.std.specs.List.{list_any};
 ghost use Rattle.ans_model.specs.Bytes.{longest_file};
 ghost use Rattle.ans_pens.specs.Counted.{count_of, counted};
 ghost use Rattle.ans_hints.specs.Conditions.{is_latin_letter, is_small_letter};
-ghost use Rattle.ans_why.specs.TextDamage.{AreAdded, AreCounts, AreWithin, IsDamage, at_least, begins_with_mark};
+ghost use Rattle.ans_why.specs.TextDamage.{AreAdded, AreCounts, AreWithin, BeginsNone, IsDamage};
+ghost use Rattle.ans_why.specs.TextDamage.{at_least, begins_with_mark};
 ghost use Rattle.ans_why.specs.TextDamage.{capital_latin, converted};
 ghost use Rattle.ans_why.specs.TextDamage.{has_other_high, is_pair, lone_returns, lost_escape, lost_told};
 ghost use Rattle.ans_why.specs.TextDamage.{pair_of_pairs, return_here, short_escape, shown_escape, times_of};
@@ -169,6 +170,18 @@ fn is_return(bytes: &[u8]) -> bool
     matches!(bytes, [b'\r', ..])
 }
 
+/// Whether a form may begin with the second of these bytes. Most bytes of a drawing begin none.
+#[inline(always)]
+fn may_begin(before: u8, first: u8) -> bool
+    ensures { result ≡ false → (rest : List ℕ) → BeginsNone before (first ∷ rest) }
+{
+    match first {
+        b'[' => before != 0x1B,
+        b'^' | b'<' | b'\r' | 0x9B | 0xC2 | 0xC3 | 0xE2 => true,
+        _ => is_latin_letter(first) && matches!(before, b'A'..=b'Z'),
+    }
+}
+
 /// How often each form comes.
 fn count_forms(bytes: &[u8]) -> Counts
     requires { length bytes.now ≤ longest_file }
@@ -178,7 +191,9 @@ fn count_forms(bytes: &[u8]) -> Counts
     let mut before = 0;
     let mut rest = bytes;
     'bytes: while let [first, more @ ..] = rest {
-        counts.add(before, rest, bytes.len() - rest.len());
+        if may_begin(before, *first) {
+            counts.add(before, rest, bytes.len() - rest.len());
+        }
         before = *first;
         rest = more;
     }

@@ -2,7 +2,7 @@
 
 use crate::known_bytes::Known;
 use crate::text_damage::TextDamage;
-use ans_hints::Hints;
+use ans_hints::{Hints, OtherWidths};
 use ans_kinds::Players;
 use ans_model::cell::Cell;
 use ans_model::fault::Fault;
@@ -49,6 +49,8 @@ pub struct Pass<'a> {
     /// What it relies on, if it does not pass from every start.
     pub reliance: Option<Reliance<'a>>,
     pub hints: Hints,
+    /// What the record shows of other widths, if lines are empty at the end.
+    pub widths: OtherWidths,
     pub damage: TextDamage,
 }
 
@@ -67,6 +69,8 @@ pub struct Refusal<'a> {
     /// Those of all of the content on that many lines; or if there is no such number, those of its tokens up to
     /// the one to blame.
     pub hints: Hints,
+    /// What the record shows of other widths, if there is such a number of lines.
+    pub widths: OtherWidths,
     /// That of all of the content.
     pub damage: TextDamage,
 }

@@ -15,11 +15,12 @@ ghost use Rattle.ans_why.specs.WhyText.{found_line, pass_lines, refusal_lines, t
 ghost use Rattle.ans_why.specs.WhyText.{file_lines, returns_text, wide_told};
 
 use crate::hint_rows::WIDE_CHARACTERS;
-use crate::hints_text::{put_counted_line, put_damage, put_hints, put_text_damage};
+use crate::hints_text::{put_counted_line, put_damage, put_hints, put_pass_hints, put_text_damage};
 use crate::known_bytes::{Known, known_behind_end_mark};
 use crate::other_files::known_file;
 use crate::players_text::{is_same_class, put_players, put_remedy_line};
 use crate::why::{Enough, Pass, Place, RecordRefusal, Refusal, Reliance, Shown, Why};
+use crate::widths_text::put_widths;
 use ans_hints::Hints;
 use ans_model::cell::Cell;
 use ans_model::fault::Fault;
@@ -186,7 +187,8 @@ fn put_pass<W: Write>(out: &mut Outbox<'_, W>, parts: &Parts<'_>, pass: &Pass<'_
     put_taller_line(out, pass.taller);
     put_fix_line(out, is_fixed(pass.reliance));
     put_damage(out, &pass.damage, parts.sauce().font());
-    put_hints(out, &pass.hints, parts.sauce().font());
+    put_pass_hints(out, &pass.hints, parts.sauce().font());
+    put_widths(out, parts.size(), &pass.widths);
     put_remedy_line(out, &pass.players);
 }
 
@@ -251,6 +253,7 @@ fn put_refused<W: Write>(out: &mut Outbox<'_, W>, parts: &Parts<'_>, refusal: &R
     put_place_line(out, b"cursor", refusal.cursor);
     put_damage(out, &refusal.damage, parts.sauce().font());
     put_hints(out, &told_hints(refusal), parts.sauce().font());
+    put_widths(out, parts.size(), &refusal.widths);
     put_lines_line(out, refusal.lines, &refusal.hints);
 }
 

@@ -1,16 +1,20 @@
 //! Contents with their hints, from bytes to the whole text.
 
-use ans_hints::Hints;
+use ans_hints::{Hints, OtherWidths};
+use ans_kinds::{KindsUsed, Players};
 use ans_model::fault::Cause;
 use ans_model::size::Size;
-use ans_samples::Narrow;
-use ans_sauce::Found;
+use ans_model::start::Start;
+use ans_pens::Times;
+use ans_samples::{Narrow, sample_file};
+use ans_sauce::{Found, Judged, split};
 use ans_why::{
-    Known, Terminal, font_name, has_other_code_page, known_behind_end_mark, known_file,
-    known_found, known_sequence, put_hints,
+    Known, Pass, RecordRefusal, Terminal, TextDamage, Why, font_name, has_other_code_page,
+    known_behind_end_mark, known_file, known_found, known_sequence, put_damage, put_hints, put_why,
 };
 use ans_write::{Outbox, Tried};
 use std::process::Abort;
+use std::test::Fail;
 
 /// A content on a screen of some columns and lines, and the lines of its hints.
 struct Row {
@@ -40,8 +44,8 @@ macro_rules! text {
     };
     (wider $n:tt $at:tt $columns:tt) => {
         concat!(
-            "hint: ", $n, " rows are wider than the screen, first at ", $at, "; the widest has ", $columns,
-            " columns\n"
+            "hint: ", $n, " rows are wider than the screen, first at ", $at, "; they need at least ", $columns,
+            " columns: --columns ", $columns, "\n"
         )
     };
     (over 1 $at:tt) => {
@@ -82,13 +86,13 @@ macro_rules! text {
     };
     (blinks 1 $at:tt) => {
         concat!(
-            "hint: 1 character blinks, at ", $at, "; if it should have a bright background, set the non-blink flag\n"
+            "hint: 1 character blinks, at ", $at, "; if it should have a bright background: --ice\n"
         )
     };
     (blinks $n:tt $at:tt) => {
         concat!(
             "hint: ", $n, " characters blink, first at ", $at,
-            "; if they should have bright backgrounds, set the non-blink flag\n"
+            "; if they should have bright backgrounds: --ice\n"
         )
     };
     (dark 1 $at:tt) => {
@@ -106,15 +110,14 @@ macro_rules! text {
         concat!(
             "hint: 1 sequence uses modern colours (38, 48, 90 to 97, 100 to 107), at ", $at, "\n\
             hint: 1 character blinks, at ", $first,
-            "; if it should have a bright background, set the non-blink flag\n"
+            "; if it should have a bright background: --ice\n"
         )
     };
-    (full $n:tt $at:tt wider $m:tt $first:tt $columns:tt) => {
+    (full 1 $at:tt wider $m:tt $first:tt $columns:tt) => {
         concat!(
-            "hint: ", $n, " full rows are followed by a line end and leave a blank row, first at ", $at,
-            ": --join-rows\n\
-            hint: ", $m, " rows are wider than the screen, first at ", $first, "; the widest has ", $columns,
-            " columns\n"
+            "hint: 1 full row is followed by a line end and leaves a blank row, at ", $at, ": --join-rows\n\
+            hint: ", $m, " rows are wider than the screen, first at ", $first, "; they need at least ", $columns,
+            " columns: --columns ", $columns, "\n"
         )
     };
     (full 1 $at:tt empty 1) => {
@@ -175,23 +178,25 @@ static FULL_ROWS: [Row; 19] = rows! {
     screen(4 x 3, b"abcdefgh\r\nab") => full(1, 8);
 };
 
-/// Three rows of one number of columns, or most of them, run over the edge, none of them twice.
-static WIDER_ROWS: [Row; 14] = rows! {
-    screen(4 x 6, b"abcde\r\nabcde\r\nabcde\r\n") => wider(3, 5, 5);
+/// Four rows or more run over the edge, none of them twice, and they are more than half of all that end.
+static WIDER_ROWS: [Row; 16] = rows! {
+    screen(4 x 8, b"abcde\r\nabcde\r\nabcde\r\nabcde\r\n") => wider(4, 5, 5);
+    screen(4 x 6, b"abcde\r\nabcde\r\nabcde\r\n") => nothing;
     screen(4 x 6, b"abcde\nabcde\nabcde") => loose(2, 5);
-    screen(4 x 6, b"abcde\r\nabcde\r\nabcde") => nothing;
+    screen(4 x 8, b"abcde\r\nabcde\r\nabcde\r\nabcde") => nothing;
     screen(4 x 8, b"abcde\r\nabcdef\r\nabcdef\r\nabcde\r\n") => wider(4, 5, 6);
+    screen(4 x 8, b"abcde\r\nabcdef\r\nabcdefg\r\nabcde\r\n") => wider(4, 5, 7);
     screen(4 x 8, b"abcde\r\nabcdef\r\nabcde\r\n") => empty(2);
     screen(4 x 9, b"abcde\r\nabcde\r\nabcde\r\nabcdefghi\r\n") => nothing;
-    screen(4 x 8, b"abcdefgh\r\nabcdefgh\r\nabcdefgh\r\n")
-        => full(3, 8) wider(3, 8, 8);
-    screen(4 x 6, b"abc\x1b[C\x1b[De\r\nabcde\r\nabcde\r\n") => empty(1);
-    screen(4 x 6, b"\x1b[Cbcde\r\nabcd\x1b[0me\r\nabcde\r\x07\n") => wider(3, 7, 5);
-    screen(4 x 7, b"abcde\x1b[2;2Hb\r\nabcde\r\nabcde\r\n") => empty(1);
+    screen(4 x 9, b"abcdefgh\r\nabcde\r\nabcde\r\nabcde\r\n") => full(1, 8) wider(4, 8, 8);
+    screen(4 x 8, b"abc\x1b[C\x1b[De\r\nabcde\r\nabcde\r\nabcde\r\n") => empty(1);
+    screen(4 x 8, b"\x1b[Cbcde\r\nabcd\x1b[0me\r\nabcde\r\x07\nabcde\r\n") => wider(4, 7, 5);
+    screen(4 x 9, b"abcde\x1b[2;2Hb\r\nabcde\r\nabcde\r\nabcde\r\n") => empty(1);
     screen(4 x 7, b"\x1b[?7labcde\r\nabcde\r\nabcde\r\n") => over(3, 9) empty(4);
-    screen(4 x 7, b"abcd\r\nabcde\r\nabcde\r\n") => full(1, 4) empty(1);
-    screen(4 x 9, b"a\r\na\r\na\r\nabcde\r\nabcde\r\nabcde\r\n") => wider(3, 14, 5);
-    screen(4 x 10, b"a\r\na\r\na\r\na\r\nabcde\r\nabcde\r\nabcde\r\n") => nothing;
+    screen(4 x 9, b"abcd\r\nabcde\r\nabcde\r\nabcde\r\n") => full(1, 4) empty(1);
+    screen(4 x 10, b"a\r\na\r\nabcde\r\nabcde\r\nabcde\r\nabcde\r\n") => wider(4, 11, 5);
+    screen(4 x 8, b"a\r\n\x1b[Aa\r\n\x1b[Aa\r\n\x1b[Aa\r\n\x1b[Aabcde\r\nabcde\r\nabcde\r\nabcde\r\n")
+        => nothing;
 };
 
 static OVERPRINTS: [Row; 8] = rows! {
@@ -348,7 +353,7 @@ fn all_hints_have_an_order(rt: HostRuntime) {
             hint: 1 full row is followed by a line end and leaves a blank row, at 25: --join-rows\n\
             hint: 1 character looks like UTF-8, at 9: convert the text to code page 437\n\
             hint: 1 sequence uses modern colours (38, 48, 90 to 97, 100 to 107), at 3\n\
-            hint: 2 characters blink, first at 16; if they should have bright backgrounds, set the non-blink flag\n\
+            hint: 2 characters blink, first at 16; if they should have bright backgrounds: --ice\n\
             hint: the font IBM VGA 866 is not a code page 437 font; some characters may look different\n\
             hint: the last 3 lines are empty\n",
     );
@@ -438,7 +443,7 @@ fn fonts_have_their_names_and_code_pages(rt: HostRuntime) {
 }
 
 /// Contents on 4 columns and 9 lines, and whether their rows look broken.
-static TORN: [(&[u8], bool); 16] = [
+static TORN: [(&[u8], bool); 17] = [
     (b"ab\ncd", true),
     (b"ab\ncd\r", false),
     (b"\n\nab", false),
@@ -450,7 +455,8 @@ static TORN: [(&[u8], bool); 16] = [
     (b"abcd\r\na", false),
     (b"abcd\r\nabcd\r\nabcd", true),
     (b"abcd\r\nabcd\r\n\x1b[2J", false),
-    (b"abcde\r\nabcde\r\nabcde\r\n", true),
+    (b"abcde\r\nabcde\r\nabcde\r\nabcde\r\n", true),
+    (b"abcde\r\nabcde\r\nabcde\r\n", false),
     (b"abcde\r\nabcde\r\nabcde", false),
     (b"\xe2\x96\x88", true),
     (b"a\xc3\xa9", false),
@@ -691,4 +697,280 @@ fn what_is_known_has_its_name(rt: HostRuntime) {
     assert_eq!(rt; Known::Music.text(), "ANSI music");
     let column = "a sequence of modern terminals: goes to a column; write ESC[row;columnH";
     assert_eq!(rt; Known::Terminal(Terminal::Column).text(), column);
+}
+
+/// A content, the field of the font, and the lines on its way as a text.
+type DamageRow = (&'static [u8], &'static [u8], &'static str);
+
+static DAMAGE: [DamageRow; 32] = [
+    (
+        b"[0m[1mA[2;3H[5C",
+        b"",
+        "hint: 4 sequences have lost their ESC, first at 0: put 1Bh before each [\n",
+    ),
+    (
+        b"\x1b[0m[0m[1;2JA[2;3H[5C",
+        b"",
+        "hint: 4 sequences have lost their ESC, first at 4: put 1Bh before each [\n",
+    ),
+    (b"[0m[1mA[2;3H", b"", ""),
+    (b"\x1b[0m\x1b[1m\x1b[2m\x1b[3m", b"", ""),
+    (b"[m[H[J[C[more[Here", b"", ""),
+    (b"[0K[0K[0K[0K", b"", ""),
+    (
+        b"^[[0mA^[[1;31mB",
+        b"",
+        "hint: 2 sequences have ^[ or <- in place of ESC, first at 0: put 1Bh there\n",
+    ),
+    (
+        b"x^[[0m^[[0m^[[0m^[[0m",
+        b"",
+        "hint: 4 sequences have ^[ or <- in place of ESC, first at 1: put 1Bh there\n",
+    ),
+    (
+        b"<-[0mx<-[1m",
+        b"",
+        "hint: 2 sequences have ^[ or <- in place of ESC, first at 0: put 1Bh there\n",
+    ),
+    (b"^[[0mA", b"", ""),
+    (b"^[0m^[1m<[0m<-", b"", ""),
+    (
+        b"\x9b0mA\x9b1;31mB",
+        b"",
+        "hint: 2 sequences begin with 9Bh, first at 0: write ESC[ in its place\n",
+    ),
+    (b"\x9b0m", b"", ""),
+    (b"\x9bm\x9b0H\x9b1K", b"", ""),
+    (
+        b"A\xc3\x9b\xc2\xb0\xc3\x9b\xc2\xb0\xc3\x9b\xc2\xb0\xc3\x9b\xc2\xb0\xc3\xbf",
+        b"",
+        "hint: 8 characters look like Latin-1 that was made UTF-8, first at 1: \
+            convert the text from UTF-8 to Latin-1\n",
+    ),
+    (
+        b"\xc3\x9b\xc3\x9b\xc3\x9b\xc3\x9b\xc3\x9b\xc3\x9b\xc3\x9b\xc3\x9b",
+        b"",
+        "",
+    ),
+    (
+        b"\xc3\xb4\xc3\xb4\xc3\xb4\xc3\xb4\xc3\xb4\xc3\xb4\xc3\xb4\xc3\xb4\xc3\xb4 \xb3",
+        b"",
+        "",
+    ),
+    (
+        b"\xc3\xb4\xc3\xb4\xc3\xb4\xc3\xb4\xc3\xb4\xc3\xb4\xc3\xb4\xc3\xb4\xc3\xb4\xc3",
+        b"",
+        "",
+    ),
+    (
+        b"caf\xc3\xa9 \xc3\xa9t\xc3\xa9 cr\xc3\xa9\xc3\xa9 \xc3\xa0 o\xc3\xb9 \xc3\xa9l\xc3\xa8ve",
+        b"",
+        "",
+    ),
+    (
+        b"Z\xfcrich",
+        b"",
+        "hint: 1 letter after a capital looks like Latin-1, at 1: convert the text to code page 437\n",
+    ),
+    (
+        b"Z\xfcrich K\xf6ln",
+        b"IBM VGA 850",
+        "hint: 2 letters after a capital look like Latin-1, first at 1: convert the text to code page 437\n",
+    ),
+    (b"Z\xfcrich", b"Amiga Topaz 1", ""),
+    (b"Z\xfcrich", b"IBM VGA 819\0", ""),
+    (b"z\xfcrich", b"", ""),
+    (b"Z\xfcR", b"", ""),
+    (b"Z\xdcr", b"", ""),
+    (
+        b"ab\rcd\ref\rgh\r",
+        b"",
+        "hint: 4 returns come without line feeds, first at 2: put 0Ah after each\n",
+    ),
+    (b"ab\rcd\ref\rgh\r\n", b"", ""),
+    (b"ab\rcd\ref\r", b"", ""),
+    (
+        b"\xef\xbb\xbfHi",
+        b"",
+        "hint: the file begins with EF BB BF, the mark of UTF-8: remove these bytes\n",
+    ),
+    (b" \xef\xbb\xbfHi", b"", ""),
+    (b"\xe2\x96\x88", b"", ""),
+];
+
+#[test]
+fn damage_of_texts_is_told(rt: HostRuntime) {
+    for (content, font, text) in DAMAGE {
+        assert!(rt; content.len() < 100);
+        let damage = TextDamage::of(content);
+        let mut device = Tried::new(Narrow::new(4096));
+        let mut out = Outbox::new(&mut device);
+        put_damage(&mut out, &damage, font);
+        assert!(rt; out.finish().is_ok());
+        assert_eq!(rt; device.inner().held(), text.as_bytes(), "{content:?}");
+    }
+}
+
+#[test]
+fn letters_of_a_latin_font_are_right(rt: HostRuntime) {
+    let text =
+        "hint: the font Amiga Topaz 1 is not a code page 437 font; some characters may look different\n";
+    expect_content(&rt, (9, 1), b"a\xe4b", b"Amiga Topaz 1", text);
+}
+
+/// Asserts the text of `why`.
+fn expect_why(rt: &impl Abort, why: &Why<'_>, text: &str) {
+    let mut device = Tried::new(Narrow::new(4096));
+    let mut out = Outbox::new(&mut device);
+    put_why(&mut out, why);
+    assert!(rt; out.finish().is_ok());
+    assert_eq!(rt; device.inner().held(), text.as_bytes());
+}
+
+/// Files without a record, and what is said after the fault.
+static NO_RECORD: [(&[u8], &str); 6] = [
+    (b"Hi", ""),
+    (
+        b"Hi\x1aSAUCE00 and more",
+        "found: what is left of a record, at 3, 16 bytes\n",
+    ),
+    (b"Hi\x1aSAUCE0", ""),
+    (
+        b"\xe2\x96\x88\xe2\x96\x80\x1a\xe2\x96\x84",
+        "hint: 2 characters look like UTF-8, first at 0: convert the text to code page 437\n",
+    ),
+    (
+        b"\xef\xbb\xbfa\xe2\x94\x80",
+        "hint: the file begins with EF BB BF, the mark of UTF-8: remove these bytes\n\
+            hint: 1 character looks like UTF-8, at 4: convert the text to code page 437\n",
+    ),
+    (
+        b"[0m[1mA[2;3H[5C\x1a",
+        "hint: 4 sequences have lost their ESC, first at 0: put 1Bh before each [\n",
+    ),
+];
+
+#[test]
+fn files_without_a_record_are_explained(rt: HostRuntime) -> Result<(), Fail> {
+    for (file, text) in NO_RECORD {
+        let fault = split(file).err().ok_or("it is accepted")?;
+        let mut device = Tried::new(Narrow::new(4096));
+        let mut out = Outbox::new(&mut device);
+        assert!(rt; file.len() < 200);
+        put_why(&mut out, &Judged::NoContent(RecordRefusal::of(file, fault)));
+        assert!(rt; out.finish().is_ok());
+        let mut whole = String::new(rt.alloc());
+        write!(
+            whole,
+            "verdict: refused\nfault: at {}, F1 no SAUCE record\n{text}",
+            file.len()
+        )?;
+        assert_eq!(rt; device.inner().held(), whole.as_bytes());
+    }
+    Ok(())
+}
+
+/// A record that a transfer as text made longer.
+#[test]
+fn a_grown_record_is_explained(rt: HostRuntime) -> Result<(), Fail> {
+    let mut file = sample_file(rt.alloc(), b"Hi\x1a", &[(98, b"\r\n")])?;
+    file.push(0)?;
+    let fault = split(&file).err().ok_or("it is accepted")?;
+    let said = RecordRefusal::of(&file, fault);
+    let text = "verdict: refused\nfault: at 132, F1 no SAUCE record\n\
+        found: a record at 3, 129 bytes, 1 of them a return that a transfer as text may have put in\n";
+    expect_why(&rt, &Judged::NoContent(said), text);
+    Ok(())
+}
+
+/// On which players a drawing shows its picture, the lines on that, and the last line.
+fn players_rows(times: Times) -> [(Players, &'static str, &'static str); 3] {
+    let mut used = KindsUsed::NONE;
+    used.times[0] = Some(times);
+    [
+        (Players::Any(Start::ANY), "all\n", ""),
+        (
+            Players::InNamedColours(Start::ANY, times),
+            "own-colours\nplayers differ: own-colours, once, at 0\n",
+            "everywhere: anscheck mend --name-colours\n",
+        ),
+        (
+            Players::Agreeing(used),
+            "wrap-at-once\nplayers differ: wrap-at-once, once, at 0\n",
+            "everywhere: anscheck redraw\n",
+        ),
+    ]
+}
+
+/// What is said of a content that passes from every start on all players and relies on nothing.
+fn easy_pass(players: Players, hints: Hints) -> Pass<'static> {
+    Pass {
+        needs: Start::ANY,
+        players,
+        taller: false,
+        reliance: None,
+        hints,
+        widths: OtherWidths::NONE,
+        damage: TextDamage::of(b"Hi"),
+    }
+}
+
+#[test]
+fn what_players_show_everywhere_has_its_command(rt: HostRuntime) -> Result<(), Fail> {
+    let file = sample_file(rt.alloc(), b"Hi\x1a", &[])?;
+    for (players, before, after) in players_rows(Times { count: 1, first: 0 }) {
+        let pass = easy_pass(players, Hints::of(Size::new(2, 1), false, b"Hi", 2));
+        let text = format!(in rt.alloc();
+            "size: 2 x 1\nverdict: pass\nneeds: nothing\nplayers: {before}{after}"
+        )?;
+        expect_why(&rt, &Judged::Passes(split(&file)?, pass), &text);
+    }
+    Ok(())
+}
+
+/// Four rows over the edge are a hint for a drawing that passes only if lines are empty at the end.
+#[test]
+fn wider_rows_of_a_pass_are_told_with_empty_lines(rt: HostRuntime) -> Result<(), Fail> {
+    let content = b"abcde\r\nabcde\r\nabcde\r\nabcde\r\n";
+    let file = sample_file(rt.alloc(), b"Hi\x1a", &[])?;
+    let rows = [
+        (8, ""),
+        (
+            9,
+            "hint: 4 rows are wider than the screen, first at 5; they need at least 5 columns: --columns 5\n\
+                hint: the last line is empty\n",
+        ),
+    ];
+    for (lines, told) in rows {
+        let hints = Hints::of(Size::new(4, lines), false, content, content.len());
+        let pass = easy_pass(Players::Any(Start::ANY), hints);
+        let text = format!(in rt.alloc();
+            "size: 2 x 1\nverdict: pass\nneeds: nothing\nplayers: all\n{told}"
+        )?;
+        expect_why(&rt, &Judged::Passes(split(&file)?, pass), &text);
+    }
+    Ok(())
+}
+
+/// The lines on other widths, of a record that states 2 columns and 1 line.
+#[test]
+fn other_widths_have_their_lines(rt: HostRuntime) -> Result<(), Fail> {
+    let file = sample_file(rt.alloc(), b"Hi\x1a", &[(98, b"\x19")])?;
+    let mut widths = OtherWidths::NONE;
+    widths.fitting[1] = Some(80);
+    widths.fitting[5] = Some(160);
+    widths.exchanged = true;
+    let pass = Pass {
+        widths,
+        ..easy_pass(
+            Players::Any(Start::ANY),
+            Hints::of(Size::new(2, 1), false, b"Hi", 2),
+        )
+    };
+    let text = "size: 2 x 25\nverdict: pass\nneeds: nothing\nplayers: all\n\
+        hint: with 80 columns the 25 stated lines come out: --columns 80\n\
+        hint: with 160 columns the 25 stated lines come out: --columns 160\n\
+        hint: columns and lines may be exchanged in the record: --columns 25 --lines 2\n";
+    expect_why(&rt, &Judged::Passes(split(&file)?, pass), text);
+    Ok(())
 }

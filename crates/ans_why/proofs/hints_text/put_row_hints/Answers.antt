@@ -4,4 +4,4 @@ use Rattle.ans_why.proofs.hints_text.put_row_hints.Goals as goal
 pub returns : goal.returns
 returns g c =
     Puts-then c.put_counted_line.ensures (Puts-then c.put_counted_line-2.ensures
-    (Puts-then (rw c.wider_rows.ensures at c.put_wider_line.ensures) c.put_counted_line-3.ensures))
+    (Puts-then c.put_wider_line.ensures c.put_counted_line-3.ensures))

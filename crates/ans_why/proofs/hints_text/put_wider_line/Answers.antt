@@ -10,4 +10,5 @@ returns g c =
     Puts-same (wider_line_is (counted_words rows_over c.in-Some.rows.times) (decimal c.in-Some.rows.columns)
     ∙ sym (ap wider_line c.in-Some.is))
     (Puts-then c.put.ensures (Puts-then c.put_counted_words.ensures (Puts-then c.put-2.ensures
-    (Puts-then c.put_decimal.ensures c.put-3.ensures))))
+    (Puts-then c.put_decimal.ensures (Puts-then c.put-3.ensures
+    (Puts-then c.put_decimal-2.ensures c.put-4.ensures))))))

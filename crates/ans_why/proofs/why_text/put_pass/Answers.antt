@@ -21,4 +21,5 @@ returns g c =
     (Puts-then c.put_taller_line.ensures
     (Puts-then (rw fixed at c.put_fix_line.ensures)
     (Puts-then (rw font at c.put_damage.ensures)
-    (Puts-then (rw font-2 at c.put_hints.ensures) c.put_remedy_line.ensures))))))))
+    (Puts-then (rw font-2 at c.put_pass_hints.ensures)
+    (Puts-then (rw c.size.ensures at c.put_widths.ensures) c.put_remedy_line.ensures)))))))))

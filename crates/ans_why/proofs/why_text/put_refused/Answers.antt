@@ -18,4 +18,4 @@ returns g c =
     (Puts-then c.put_place_line.ensures
     (Puts-then (rw font at c.put_damage.ensures)
     (Puts-then (Puts-same (ap₂ hints_text c.told_hints.ensures font-2) c.put_hints.ensures)
-    c.put_lines_line.ensures))))
+    (Puts-then (rw c.size.ensures at c.put_widths.ensures) c.put_lines_line.ensures)))))

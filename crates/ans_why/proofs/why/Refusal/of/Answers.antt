@@ -20,6 +20,7 @@ returns c =
       lines = rw (c.width.ensures.width, c.content-content.ensures) at c.enough_lines-lines.ensures;
       known = c.known_sequence.ensures ∙ ap (known_sequence c.args.fault.cause)
           (c.split_at.ensures.back ∙ ap (drop c.args.fault.offset) c.content-content.ensures);
-      hints = c.refusal_hints.ensures;
+      hints = c.refusal_hints-hints.ensures;
+      widths = rw (c.is_some.ensures, c.content-content.ensures, c.size-size.ensures) at c.other_widths.ensures;
       damage = rw c.content-content.ensures at c.of.ensures;
     }
