@@ -1,4 +1,5 @@
 use Rattle.std.proofs.Common.{◌≡◌, inl, inr, ℕ, ◌<◌, Err, List, length, ◌∙◌, rules, sym, subst, ap}
+use Rattle.std.proofs.lemmas.Result.{err_from_is_err_and}
 use Rattle.ans_model.specs.Bytes.{longest_file}
 use Rattle.ans_model.specs.Screen.State.{Size}
 use Rattle.ans_mend.specs.Mending.{HasRecordFault, IsEdited, IsEditedAsStated, IsRead, IsReasonOfEdited, IsSettled}
@@ -55,9 +56,9 @@ returns-in_err-lines-clause-reason c =
     (ap (λ (r : Reading). r.size) was) (rw c.open_lines-lacks.ensures.draft at c.in_ok-edits.ensures.edits) in
     let reason : IsReasonOfEdited mends (lacks_lines mends cut) c.edit.new.draft.file c.in_err-lines.field-0.0 =
     rw (c.open_lines-lacks.ensures.lacks, c.file-2.ensures) at c.in_err-lines.ensures.reason in
-    let at : c.from_residual-in_err-lines.result ≡ Err c.in_err-lines.field-0.0 =
-    search (rules, c.from_residual-in_err-lines.ensures) in
-    rw at
+    let (e, at, same) = err_from_is_err_and c.from_residual-in_err-lines.result
+    c.from_residual-in_err-lines.ensures.1 in
+    rw (at, same)
     (inr (inr (inl (read, c.edit.new.draft.file, c.in_ok-edits.edits, is_edited, reason))))
 
 pub take_lines-requires : goal.take_lines-requires
