@@ -37,6 +37,7 @@ import sys
 
 sys.dont_write_bytecode = True
 
+import pens
 from second_machine import (
     FAULTS, PARTS, Machine, Refused, a_content, a_piece, answer, fault_in, known_parts, needs_answer, play,
     printed_of, read, read_sequence, starts, unknown_cell,
@@ -62,7 +63,7 @@ COUNTED_HINTS = [
                       "full rows are followed by a line end and leave a blank row"),
      (": --join-rows", ": --join-rows")),
     ("wider row", "", ("row is wider than the screen", "rows are wider than the screen"),
-     ("; the widest has {widest} columns", "; the widest has {widest} columns")),
+     ("; they need at least {widest} columns: --columns {widest}",) * 2),
     ("overprint", "wrap is off, and ", ("character overprints the last column", "characters overprint the last column"),
      ("", "")),
     ("UTF-8", "", ("character looks like UTF-8", "characters look like UTF-8"), (CONVERT, CONVERT)),
@@ -459,8 +460,11 @@ class Hints:
         straight_down = self.offsets["loose line feed"] and not rows.returns
         self.torn = bool(straight_down or rows.all_end() or self.widest or self.offsets["UTF-8"])
 
-    def lines(self, record, all_is_played):
-        """The lines of the hints, and that of the font."""
+    def lines(self, record, all_is_played, passes=False):
+        """The lines of the hints, and that of the font. Of a drawing that passes with its last lines empty, too, wider
+        rows are told."""
+        if passes and self.empty == 0:
+            self.offsets["wider row"] = []
         if record.flags & 1:
             self.offsets["blinking"] = []
         if has_latin_font(record):
@@ -541,10 +545,21 @@ def are_exchanged(width, lines, rows):
     return width < 40 and lines in (80, 132, 160) and rows.full > 0
 
 
+def width_lines(content, width, lines, rows, least):
+    """The lines on other widths, where the stated lines do not come out."""
+    fits = fitting_widths(content, width, lines, rows, least)
+    come = "1 stated line comes" if lines == 1 else f"{lines} stated lines come"
+    said = [f"hint: with {other} columns the {come} out: --columns {other}" for other in fits]
+    if are_exchanged(width, lines, rows):
+        said.append(f"hint: columns and lines may be exchanged in the record: --columns {lines} --lines {width}")
+    return said
+
+
 def enough_lines(content, width, least, record):
     """The hints of all of the content on so many lines, and the line that says how many."""
     hints = Hints(content, len(content), width, least)
-    return hints.lines(record, True) + [f"lines: {least}" + BROKEN * hints.torn]
+    widths = width_lines(content, width, record.lines, hints.rows, pens.least_lines)
+    return hints.lines(record, True) + widths + [f"lines: {least}" + BROKEN * (hints.torn or bool(widths))]
 
 
 # The record.
@@ -720,7 +735,10 @@ def why(chance, file):
     needs = needs_answer(chance, content, width, lines)
     said = pass_lines(chance, content, width, lines, needs, picture)
     said += damage_told(content, record)
-    return heading + said + Hints(content, len(content), width, lines).lines(record, True), 0
+    hints = Hints(content, len(content), width, lines)
+    said += hints.lines(record, True, passes=True)
+    said += width_lines(content, width, lines, hints.rows, pens.least_lines) if hints.empty > 0 else []
+    return heading + said, 0
 
 
 # Contents.
