@@ -39,10 +39,10 @@ MOST_STEPS = 6
 
 
 class Picture:
-    """Rows of glyphs, each with an attribute; a row ends where its last glyph is."""
+    """Rows of glyphs, each with an attribute; a row ends where its last glyph is. `ice` says if backgrounds are bright."""
 
     def __init__(self, chance, width=80, lines=None):
-        self.chance, self.width = chance, width
+        self.chance, self.width, self.ice = chance, width, False
         self.rows = [self.row() for _ in range(lines or chance.randrange(18, 25))]
 
     def row(self):
@@ -103,11 +103,6 @@ def way(what, by_hand=None, width=80, lines=None):
         WAYS.append((what, spoil, by_hand, width, lines))
         return spoil
     return add
-
-
-def kept(what, **fields):
-    """A way that changes the file and not its content."""
-    return way(what, **fields)
 
 
 def edited(what, edit, by_hand=None):
@@ -192,7 +187,7 @@ def line_end_after(p):
     return file_of(p, content_of(p)) + CRLF
 
 
-@way("a record that a transfer made longer", by_hand=r"what is left of a record")
+@way("a record that a transfer made longer", by_hand=r"a transfer as text may have put in")
 def grown_record(p):
     content = content_of(p)
     return content + MARK + record(80, len(p.rows), len(content), font=b"IBM\nVGA").replace(b"\n", CRLF)
@@ -292,11 +287,13 @@ for what, piece in [
 
 @way("bright backgrounds, switched on and off")
 def switched(p):
+    p.ice = True
     return file_of(p, b"\x1b[?33h" + content_of(p, blink=b";5") + b"\x1b[?33l")
 
 
 @way("bright backgrounds without their flag")
 def without_flag(p):
+    p.ice = True
     return file_of(p, content_of(p, blink=b";5"))
 
 
@@ -350,7 +347,6 @@ def arrow(p):
     content = bytearray(content_of(p))
     at = content.rindex(b" ")
     content[at] = 0x1A
-    p.rows = p.rows
     return file_of(p, bytes(content))
 
 
@@ -373,6 +369,8 @@ def rows_shown(program, file):
 def shows(program, file, picture):
     """Whether the drawing shows the glyphs of the picture from every start, with empty lines below it or none."""
     shown, meant = rows_shown(program, file), picture.glyphs()
+    if bool(file[-23] & 1) != picture.ice:
+        return False
     return shown is not None and shown[:len(meant)] == meant and not any(shown[len(meant):])
 
 
