@@ -57,8 +57,9 @@ GROUPS = [
         ans_kinds/SaidOfPlayers""".split(), False),
     Group("`why`", """
         ans_model/Screen/Beginning ans_kinds/Mend ans_pens/Evidence ans_pens/Lines ans_pens/Taller ans_hints/Places
-        ans_hints/Conditions ans_hints/Rows ans_pens/Counted ans_hints/RowEnds ans_hints/Hints ans_forms/Pieces
-        ans_sauce/Found ans_sauce/WithoutLines ans_why/Blamed ans_why/TerminalLetters ans_why/Known ans_why/OtherFiles
+        ans_hints/Conditions ans_hints/Rows ans_pens/Counted ans_hints/RowEnds ans_hints/Hints ans_hints/OtherWidths
+        ans_forms/Pieces ans_sauce/Found ans_sauce/WithoutLines ans_why/Blamed ans_why/TerminalLetters ans_why/Known
+        ans_why/OtherFiles
         ans_why/Explained ans_report/Counted ans_report/Quoted ans_report/FaultTold ans_why/Fonts ans_why/HintRows
         ans_why/HintsText ans_why/PlayersText ans_why/WhyText ans_check/WhyRows""".split()),
     Group("`table`", """
