@@ -8,7 +8,8 @@ use Rattle.ans_model.specs.Screen.State.{Size, sized}
 use Rattle.ans_pens.specs.declared.times.Times.{Times}
 use Rattle.ans_sauce.specs.Found.{front_in}
 use Rattle.ans_mend.specs.FullRows.{HasFullRows}
-use Rattle.ans_mend.specs.LineEnds.{line_feeds, with_line_ends}
+use Rattle.ans_mend.specs.LineEnds.{bare_feeds, line_feeds, with_line_ends}
+use Rattle.ans_mend.proofs.Returns.{bare_few}
 use Rattle.ans_mend.specs.NamedColours.{HasNamedColours, IsTooLongNamed, names_room}
 use Rattle.ans_sauce.specs.Contents.{content_in}
 use Rattle.ans_mend.specs.declared.outcome.Unmended.{Unmended}
@@ -24,18 +25,19 @@ use Rattle.ans_mend.proofs.MendRoomLemmas.{content_in_feeds, line_ends_length, r
 
 -- where returns are put, there is room for them
 pub returns_fit : (mends : Mends) (file : List ℕ) (room : ℕ) → mends.crlf ≡ true
-    → most_returns mends (front_in file) ≤ room → line_feeds (content_in file) ≤ room
+    → most_returns mends (front_in file) ≤ room → bare_feeds 0 (content_in file) ≤ room
 returns_fit mends file room asked fits =
     let most : line_feeds (front_in file) ≤ room = rw asked at fits in
     let few = content_in_feeds file in
-    omega (arith, most, few)
+    let bare = bare_few 0 (content_in file) in
+    omega (arith, most, few, bare)
 
 -- and the file is longer by no more than its line feeds
-pub longer_by_returns : (mends : Mends) (file new : List ℕ) → mends.crlf ≡ true → new ≡ with_line_ends file
+pub longer_by_returns : (mends : Mends) (file new : List ℕ) → mends.crlf ≡ true → new ≡ with_line_ends mends.mixed file
     → length new ≤ length file + most_returns mends (front_in file)
 longer_by_returns mends file new asked is =
     rw asked (subst (λ (v : List ℕ). length v ≤ length file + line_feeds (front_in file)) (sym is)
-    (line_ends_length file))
+    (line_ends_length mends.mixed file))
 
 pub rows_joined : (mends : Mends) (z : Size) (file joined : List ℕ) (times : Option Times) → mends.join_rows ≡ true
     → HasFullRows (sized z.width most_lines) file joined times → AreRowsJoined mends z file joined times

@@ -13,7 +13,8 @@ use Rattle.ans_model.specs.File.Refusals.{block_size, has_record}
 use Rattle.ans_sauce.specs.Found.{body_in, front_in, record_in}
 use Rattle.ans_sauce.specs.Contents.{content_in, with_content}
 use Rattle.ans_sauce.proofs.RecordLemmas.{front_before, front_shorter, recorded_long}
-use Rattle.ans_mend.specs.LineEnds.{is_line_feed, line_feeds, byte_returned as returned_byte, wants_returns}
+use Rattle.ans_mend.specs.LineEnds.{is_line_feed, line_feeds, wants_returns}
+use Rattle.ans_mend.proofs.Returns.{bare_few, returns_length}
 use Rattle.ans_mend.specs.LineEnds.{with_line_ends}
 use Rattle.ans_mend.specs.LineEnds.{with_returns}
 use Rattle.ans_mend.specs.NewRecord.{new_record, takes_record, with_new_record}
@@ -71,33 +72,21 @@ returns_few mends bytes = go mends.crlf
     go true = feeds_few bytes
     go false = omega arith
 
-returns_length : (bytes : List ℕ) → length (with_returns bytes) ≡ length bytes + line_feeds bytes
-returns_length [] = refl
-returns_length (b ∷ bytes) =
-    let more = length-append (returned_byte b) (with_returns bytes) in
-    let feeds = sum_by-cons (λ (v : ℕ). if is_line_feed v then 1 else 0) b bytes in
-    let rest = returns_length bytes in
-    let one = byte_length (is_line_feed b) in
-    omega (arith, more, feeds, rest, one)
+pub line_ends_length : (mixed : Bool) (file : List ℕ)
+    → length (with_line_ends mixed file) ≤ length file + line_feeds (front_in file)
+line_ends_length mixed file = go (has_record file && wants_returns mixed (content_in file))
   where
-    byte_length : (feed : Bool)
-        → length (if feed then 0x0D ∷ b ∷ [] else b ∷ []) ≡ 1 + (if feed then 1 else 0)
-    byte_length true = refl
-    byte_length false = refl
-
-pub line_ends_length : (file : List ℕ) → length (with_line_ends file) ≤ length file + line_feeds (front_in file)
-line_ends_length file = go (has_record file && wants_returns (content_in file))
-  where
-    go : (wants : Bool) → length (if wants then with_content (with_returns (content_in file)) file else file)
+    go : (wants : Bool) → length (if wants then with_content (with_returns 0 (content_in file)) file else file)
         ≤ length file + line_feeds (front_in file)
     go false = omega arith
     go true =
-        let all = length-append (with_returns (content_in file)) (drop (length (content_in file)) file) in
+        let all = length-append (with_returns 0 (content_in file)) (drop (length (content_in file)) file) in
         let behind = length-drop (length (content_in file)) file in
-        let grown = returns_length (content_in file) in
+        let grown = returns_length 0 (content_in file) in
+        let bare = bare_few 0 (content_in file) in
         let few = content_in_feeds file in
         let short = content_in_short file in
-        omega (arith, all, behind, grown, few, short)
+        omega (arith, all, behind, grown, bare, few, short)
 
 new_record_length : (width : ℕ) → length (new_record width) ≡ 128
 new_record_length width = refl

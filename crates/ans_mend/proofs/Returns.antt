@@ -1,44 +1,58 @@
 -- A turn of the loop that closes the gap.
 use Rattle.std.proofs.Common.{◌≡◌, ℕ, ◌+◌, ◌≤◌, ◌<◌, Bool, true, false, List, [], ◌∷◌, ◌++◌, length, take}
-use Rattle.std.proofs.Common.{drop, refl, sym, ap, ap₂, ◌∙◌, arith, slice_index_or}
-use Rattle.std.specs.Prelude.{if◌then◌else◌}
-use Rattle.std.proofs.lemmas.List.{get_or-drop, get_or-take, length-drop, length-take-le, take_more, drop-drop}
-use Rattle.std.proofs.lemmas.List.{append-nil}
-use Rattle.std.proofs.lemmas.List.Sums.{count_by_more_no, count_by_more_yes, sum_by-take-le}
-use Rattle.std.proofs.lemmas.Grind.{flat_map-append}
-use Rattle.ans_mend.specs.LineEnds.{is_line_feed, line_feeds, byte_returned, with_returns}
+use Rattle.std.proofs.Common.{drop, refl, sym, ap, ap₂, ◌∙◌, arith, slice_index_or, append_assoc}
+use Rattle.std.specs.Prelude.{if◌then◌else◌, ◌&&◌, not}
+use Rattle.std.proofs.lemmas.List.{append-nil, drop_all, drop-drop, drop_more, get_or-drop, get_or-take, length-append}
+use Rattle.std.proofs.lemmas.List.{length-drop, length-take-le}
+use Rattle.std.proofs.lemmas.List.Sums.{sum_by-cons}
+use Rattle.ans_mend.specs.LineEnds.{bare_feeds, byte_returned, is_line_feed, is_return, line_feeds, needs_return}
+use Rattle.ans_mend.specs.LineEnds.{with_returns}
 use Rattle.ans_mend.proofs.MovedUp.{filled_front, moved, moved_content}
 
--- one byte more
-feeds_more : (xs : List ℕ) (i : ℕ) → i < length xs
-    → line_feeds (take (i + 1) xs) + 1 ≡ line_feeds (take i xs) + length (byte_returned (slice_index_or xs i 0))
-feeds_more xs i within = go (is_line_feed (slice_index_or xs i 0)) refl
+-- ---- what is still to come
+pub returns_length : (last : ℕ) (bytes : List ℕ)
+    → length (with_returns last bytes) ≡ length bytes + bare_feeds last bytes
+returns_length last [] = refl
+returns_length last (b ∷ bytes) =
+    let more = length-append (byte_returned last b) (with_returns b bytes) in
+    let rest = returns_length b bytes in
+    let one = byte_length (needs_return last b) in
+    omega (arith, more, rest, one)
   where
-    go : (feed : Bool) → is_line_feed (slice_index_or xs i 0) ≡ feed
-        → line_feeds (take (i + 1) xs) + 1
-        ≡ line_feeds (take i xs) + length (if feed then 0x0D ∷ slice_index_or xs i 0 ∷ []
-        else slice_index_or xs i 0 ∷ [])
-    go true is = let more = count_by_more_yes is_line_feed xs i 0 within is in omega (arith, more)
-    go false is = let more = count_by_more_no is_line_feed xs i 0 within is in omega (arith, more)
+    byte_length : (needs : Bool) → length (if needs then 0x0D ∷ b ∷ [] else b ∷ []) ≡ 1 + (if needs then 1 else 0)
+    byte_length true = refl
+    byte_length false = refl
 
-returns_more : (xs : List ℕ) (i : ℕ) → i < length xs
-    → with_returns (take (i + 1) xs) ≡ with_returns (take i xs) ++ byte_returned (slice_index_or xs i 0)
-returns_more xs i within =
-    ap with_returns (take_more xs i 0 within)
-    ∙ flat_map-append byte_returned (take i xs) (slice_index_or xs i 0 ∷ [])
-    ∙ ap (λ (v : List ℕ). with_returns (take i xs) ++ v) (append-nil (byte_returned (slice_index_or xs i 0)))
+-- no more need one than there are
+pub bare_few : (last : ℕ) (bytes : List ℕ) → bare_feeds last bytes ≤ line_feeds bytes
+bare_few last [] = omega arith
+bare_few last (b ∷ bytes) =
+    let feeds = sum_by-cons (λ (v : ℕ). if is_line_feed v then 1 else 0) b bytes in
+    let rest = bare_few b bytes in
+    let one = fewer (is_line_feed b) (is_return last) in
+    omega (arith, feeds, rest, one)
+  where
+    fewer : (feed returned : Bool) → (if feed && not returned then 1 else 0) ≤ (if feed then 1 else 0)
+    fewer true true = omega arith
+    fewer true false = omega arith
+    fewer false returned = omega arith
 
-module _ (start memory : List ℕ) (gap count index written : ℕ) (more : index < count)
-    (within : gap + count ≤ length start) (room : line_feeds (take count (drop gap start)) ≤ gap)
+module _ (start memory : List ℕ) (gap count index written last : ℕ) (more : index < count)
+    (within : gap + count ≤ length start) (room : bare_feeds 0 (take count (drop gap start)) ≤ gap)
     (same_length : length memory ≡ length start)
-    (place : written ≡ index + line_feeds (take index (take count (drop gap start))))
-    (done : take written memory ≡ with_returns (take index (take count (drop gap start))))
+    (place : written + length (with_returns last (drop index (take count (drop gap start))))
+    ≡ length (with_returns 0 (take count (drop gap start))))
+    (done : take written memory ++ with_returns last (drop index (take count (drop gap start)))
+    ≡ with_returns 0 (take count (drop gap start)))
     (left : drop (gap + index) memory ≡ drop (gap + index) start) where
   abbrev content : List ℕ
   content = take count (drop gap start)
 
   abbrev byte : ℕ
   byte = slice_index_or memory (gap + index) 0
+
+  abbrev rest : List ℕ
+  rest = drop (index + 1) content
 
   content_length : length content ≡ count
   content_length = length-take-le count (drop gap start) (rw (length-drop gap start) (omega (arith, within)))
@@ -50,60 +64,88 @@ module _ (start memory : List ℕ) (gap count index written : ℕ) (more : index
       ∙ ap (λ (v : ℕ). slice_index_or start v 0) (omega arith) ∙ sym (get_or-drop gap start index 0)
       ∙ sym (get_or-take count (drop gap start) index 0 more)
 
-  feeds_within : (n : ℕ) → line_feeds (take n content) ≤ gap
-  feeds_within n =
-      let front = sum_by-take-le (λ (b : ℕ). if is_line_feed b then 1 else 0) content n in omega (arith, front, room)
+  comes_next : drop index content ≡ byte ∷ rest
+  comes_next =
+      drop_more content index 0 (omega (arith, more, content_length))
+      ∙ ap (λ (b : ℕ). b ∷ rest) (sym same_byte)
 
-  pub has_room : written + length (byte_returned byte) ≤ length memory
-  has_room =
-      let feeds = feeds_more content index (omega (arith, more, content_length)) in
-      let limit = feeds_within (index + 1) in
-      rw same_byte (omega (arith, feeds, limit, place, within, same_length, more))
+  -- where the byte is written there is room, and what is still to come is not reached
+  reached : written + length (byte_returned last byte) ≤ gap + (index + 1)
+  reached =
+      let all = place in
+      let next = ap (λ (v : List ℕ). length (with_returns last v)) comes_next
+      ∙ length-append (byte_returned last byte) (with_returns byte rest) in
+      let whole = returns_length 0 content in
+      let behind = returns_length byte rest in
+      let rest_long = length-drop (index + 1) content in
+      omega (arith, all, next, whole, behind, rest_long, content_length, room, more)
 
-  module _ (result : ℕ) (new : List ℕ) (counted : result ≡ written + length (byte_returned byte))
-      (new_length : length new ≡ length memory) (wrote : take result new ≡ take written memory ++ byte_returned byte)
+  pub has_room : written + length (byte_returned last byte) ≤ length memory
+  has_room = let r = reached in omega (arith, r, within, same_length, more)
+
+  module _ (result : ℕ) (new : List ℕ) (counted : result ≡ written + length (byte_returned last byte))
+      (new_length : length new ≡ length memory)
+      (wrote : take result new ≡ take written memory ++ byte_returned last byte)
       (behind : (at : ℕ) → result ≤ at → drop at new ≡ drop at memory) where
-    pub next_place : result ≡ index + 1 + line_feeds (take (index + 1) content)
+    pub next_place : result + length (with_returns byte rest) ≡ length (with_returns 0 content)
     next_place =
-        let feeds = feeds_more content index (omega (arith, more, content_length)) in
-        let long : result ≡ written + length (byte_returned (slice_index_or content index 0)) =
-        counted ∙ ap (λ (b : ℕ). written + length (byte_returned b)) same_byte in
-        omega (arith, feeds, long, place)
+        let all = place in
+        let next = ap (λ (v : List ℕ). length (with_returns last v)) comes_next
+        ∙ length-append (byte_returned last byte) (with_returns byte rest) in
+        omega (arith, all, next, counted)
 
-    pub next_done : take result new ≡ with_returns (take (index + 1) content)
+    pub next_done : take result new ++ with_returns byte rest ≡ with_returns 0 content
     next_done =
-        wrote ∙ ap₂ (λ (v : List ℕ) (b : ℕ). v ++ byte_returned b) done same_byte
-        ∙ sym (returns_more content index (omega (arith, more, content_length)))
+        ap (λ (v : List ℕ). v ++ with_returns byte rest) wrote
+        ∙ append_assoc (take written memory) (byte_returned last byte) (with_returns byte rest)
+        ∙ ap (λ (v : List ℕ). take written memory ++ with_returns last v) (sym comes_next) ∙ done
 
     pub next_left : drop (gap + (index + 1)) new ≡ drop (gap + (index + 1)) start
     next_left =
-        let limit = feeds_within (index + 1) in
-        let at = next_place in
-        behind (gap + (index + 1)) (omega (arith, at, limit)) ∙ one_less memory ∙ ap (drop 1) left
+        let r = reached in
+        behind (gap + (index + 1)) (omega (arith, counted, r)) ∙ one_less memory ∙ ap (drop 1) left
         ∙ sym (one_less start)
       where
         one_less : (xs : List ℕ) → drop (gap + (index + 1)) xs ≡ drop 1 (drop (gap + index) xs)
         one_less xs = ap (λ (v : ℕ). drop v xs) (omega arith) ∙ sym (drop-drop 1 (gap + index) xs)
 
+-- all is written
+pub all_written : (start memory : List ℕ) (gap count written last : ℕ) → gap + count ≤ length start
+    → written + length (with_returns last (drop count (take count (drop gap start))))
+    ≡ length (with_returns 0 (take count (drop gap start)))
+    → take written memory ++ with_returns last (drop count (take count (drop gap start)))
+    ≡ with_returns 0 (take count (drop gap start))
+    → take (count + bare_feeds 0 (take count (drop gap start))) memory ≡ with_returns 0 (take count (drop gap start))
+all_written start memory gap count written last within place done =
+    let content : List ℕ = take count (drop gap start) in
+    let content_long : length content ≡ count =
+    length-take-le count (drop gap start) (rw (length-drop gap start) (omega (arith, within))) in
+    let none : drop count content ≡ [] = drop_all count content (omega (arith, content_long)) in
+    let nothing : with_returns last (drop count content) ≡ [] = ap (with_returns last) none in
+    let none_long = ap length nothing in
+    let whole = returns_length 0 content in
+    ap (λ (n : ℕ). take n memory) (omega (arith, place, none_long, whole, content_long))
+    ∙ sym (append-nil (take written memory)) ∙ ap (λ (v : List ℕ). take written memory ++ v) (sym nothing) ∙ done
+
 -- ---- the whole
 
 module _ (memory : List ℕ) (used count gap : ℕ) (room : used + gap ≤ length memory) (within : count ≤ used)
-    (feeds : gap ≡ line_feeds (take count memory)) where
+    (feeds : gap ≡ bare_feeds 0 (take count memory)) where
   abbrev there : List ℕ
   there = moved memory used count gap room within
 
   same : take count (drop gap there) ≡ take count memory
   same = moved_content memory used count gap room within
 
-  pub moved_feeds : line_feeds (take count (drop gap there)) ≤ gap
-  moved_feeds = let found = ap line_feeds same in omega (arith, feeds, found)
+  pub moved_feeds : bare_feeds 0 (take count (drop gap there)) ≤ gap
+  moved_feeds = let found = ap (bare_feeds 0) same in omega (arith, feeds, found)
 
   pub returned_front : (new : List ℕ)
-      → take (count + line_feeds (take count (drop gap there))) new ≡ with_returns (take count (drop gap there))
+      → take (count + bare_feeds 0 (take count (drop gap there))) new ≡ with_returns 0 (take count (drop gap there))
       → drop (gap + count) new ≡ drop (gap + count) there
-      → take (used + gap) new ≡ with_returns (take count memory) ++ drop count (take used memory)
+      → take (used + gap) new ≡ with_returns 0 (take count memory) ++ drop count (take used memory)
   returned_front new written left =
-      let found = ap line_feeds same in
-      let first : gap + count ≡ count + line_feeds (take count (drop gap there)) = omega (arith, feeds, found) in
-      filled_front memory used count gap room within new (with_returns (take count memory))
-      (ap (λ (v : ℕ). take v new) first ∙ written ∙ ap with_returns same) left
+      let found = ap (bare_feeds 0) same in
+      let first : gap + count ≡ count + bare_feeds 0 (take count (drop gap there)) = omega (arith, feeds, found) in
+      filled_front memory used count gap room within new (with_returns 0 (take count memory))
+      (ap (λ (v : ℕ). take v new) first ∙ written ∙ ap (with_returns 0) same) left

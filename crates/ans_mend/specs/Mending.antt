@@ -104,13 +104,13 @@ abbrev pub opened : Mends → List ℕ → List ℕ
 opened mends file =
     if lacks_lines mends file then with_record (with_lines (first_lines mends) (record_in file)) file else file
 
--- with a return before each line feed, where that is asked for and wanted
+-- with a return before each line feed that needs one, where that is asked for and wanted
 abbrev pub returned : Mends → List ℕ → List ℕ
-returned mends file = if mends.crlf then with_line_ends file else file
+returned mends file = if mends.crlf then with_line_ends mends.mixed file else file
 
 -- the returns that were put into it are reported
 abbrev pub TellsReturns : Mends → List ℕ → Option Times → Type 0
-TellsReturns mends file times = MatchBool mends.crlf (ArePut file times) (times ≡ None)
+TellsReturns mends file times = MatchBool mends.crlf (ArePut mends.mixed file times) (times ≡ None)
 
 -- the sequences that go are taken out and reported, if that is asked for
 abbrev pub AreSequencesTaken : Mends → List ℕ → List ℕ → Told → Type 0

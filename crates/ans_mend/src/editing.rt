@@ -28,7 +28,7 @@ fn put_returns(draft: &mut Draft<'_>, mends: &Mends) -> Option<Times>
     ensures memory { memory_of draft.new ≡ memory_of draft.old }
 {
     if mends.crlf {
-        return draft.put_returns();
+        return draft.put_returns(mends.mixed);
     }
     None
 }
