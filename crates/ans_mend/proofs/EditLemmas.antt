@@ -40,9 +40,9 @@ longer_by_returns mends file new asked is =
     (line_ends_length mends.mixed file))
 
 pub rows_joined : (mends : Mends) (z : Size) (file joined : List ℕ) (times : Option Times) → mends.join_rows ≡ true
-    → HasFullRows (sized z.width most_lines) file joined times → AreRowsJoined mends z file joined times
+    → HasFullRows mends.mixed (sized z.width most_lines) file joined times → AreRowsJoined mends z file joined times
 rows_joined mends z file joined times asked rows =
-    subst (λ (b : Bool). MatchBool b (HasFullRows (sized z.width most_lines) file joined times)
+    subst (λ (b : Bool). MatchBool b (HasFullRows mends.mixed (sized z.width most_lines) file joined times)
     ((joined ≡ file) × (times ≡ None))) (sym asked) rows
 
 pub colours_named : (mends : Mends) (file new : List ℕ) (times : Option Times) → mends.name_colours ≡ true

@@ -1,8 +1,9 @@
 -- Line ends after full rows, which take a row of their own where the full row has wrapped.
-use Rattle.std.specs.Prelude.{◌≡◌, ◌⊎◌, ℕ, true, List, fold, Option, None, unwrap_or, MatchBool}
+use Rattle.std.specs.Prelude.{◌≡◌, ◌⊎◌, ℕ, Bool, true, false, List, fold, Option, None, unwrap_or, MatchBool}
 use Rattle.ans_model.specs.File.Refusals.{has_record}
 use Rattle.ans_model.specs.Screen.State.{Size}
 use Rattle.ans_model.specs.Sequence.TokenKind.{TokenKind}
+use Rattle.ans_model.specs.Sequence.Reads.{ReadsAs}
 use Rattle.ans_pens.specs.Counted.{counted}
 use Rattle.ans_hints.specs.FullRowEnds.{EndsFullRows, full_row_ends, without_ends}
 use Rattle.ans_hints.specs.declared.full_row_ends.FullRowEnd.{FullRowEnd}
@@ -17,24 +18,29 @@ first_byte e = unwrap_or e.return_at e.line_feed
 abbrev pub times_with : Option Times → List FullRowEnd → Option Times
 times_with times ends = fold (λ (t : Option Times) (e : FullRowEnd). counted t true (first_byte e)) times ends
 
+-- The line ends after the full rows of a content that is read so may be taken out: every full row that something is
+-- printed after has one, and there are at least two of these; or only some have, and that is to be mended too.
+abbrev pub MayGo : Bool → Size → List ℕ → List TokenKind → List (List ℕ) → Type 0
+MayGo false z content tokens texts = EndsFullRows z content tokens texts
+MayGo true z content tokens texts = ReadsAs content tokens texts
+
 -- the line ends after the full rows of a content are taken out, this many times
-pub record TakesRowEnds (z : Size) (content left : List ℕ) (times : Option Times) : Type 0 where
+pub record TakesRowEnds (mixed : Bool) (z : Size) (content left : List ℕ) (times : Option Times) : Type 0 where
   pub tokens : List TokenKind
   pub texts : List (List ℕ)
-  pub ended : EndsFullRows z content tokens texts
+  pub may_go : MayGo mixed z content tokens texts
   pub left_is : left ≡ without_ends 0 (full_row_ends z tokens texts) content
   pub times_are : times ≡ times_with None (full_row_ends z tokens texts)
 
--- they are, if every full row that something is printed after has a line end after it, and there are at least two of
--- these; and else nothing is
-abbrev pub AreRowEndsOut : Size → List ℕ → List ℕ → Option Times → Type 0
-AreRowEndsOut z content left times =
-    TakesRowEnds z content left times
-    ⊎ (((tokens : List TokenKind) (texts : List (List ℕ)) → ¬ EndsFullRows z content tokens texts)
+-- they are, if they may be; and else nothing is
+abbrev pub AreRowEndsOut : Bool → Size → List ℕ → List ℕ → Option Times → Type 0
+AreRowEndsOut mixed z content left times =
+    TakesRowEnds mixed z content left times
+    ⊎ (((tokens : List TokenKind) (texts : List (List ℕ)) → ¬ MayGo mixed z content tokens texts)
     × (left ≡ content) × (times ≡ None))
 
 -- the same of the content of a file that has a record
-abbrev pub HasFullRows : Size → List ℕ → List ℕ → Option Times → Type 0
-HasFullRows z file new times = MatchBool (has_record file)
-    ((left : List ℕ) × AreRowEndsOut z (content_in file) left times × (new ≡ with_content left file))
+abbrev pub HasFullRows : Bool → Size → List ℕ → List ℕ → Option Times → Type 0
+HasFullRows mixed z file new times = MatchBool (has_record file)
+    ((left : List ℕ) × AreRowEndsOut mixed z (content_in file) left times × (new ≡ with_content left file))
     ((new ≡ file) × (times ≡ None))

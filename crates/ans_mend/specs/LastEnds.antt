@@ -1,4 +1,4 @@
--- Line ends at the very end of a content that are taken out.
+-- Line ends and bytes 00h at the very end of a content that are taken out.
 use Rattle.std.specs.Prelude.{◌≡◌, ◌⊎◌, ℕ, ◌+◌, ◌-◌, ◌<◌, ◌≤◌, Bool, false, ◌&&◌, ◌||◌, ◌==◌, List, [], ◌∷◌, length}
 use Rattle.std.specs.Prelude.{take, drop, Option, None, Some, IsTrue, MatchBool, slice_index, if◌then◌else◌}
 use Rattle.std.specs.List.{list_all}
@@ -9,15 +9,16 @@ use Rattle.ans_model.specs.Verdict.Good.{IsGood}
 use Rattle.ans_pens.specs.declared.times.Times.{Times}
 use Rattle.ans_sauce.specs.Contents.{content_in, with_content}
 
--- a line feed or a return
+-- a line feed, a return, or a byte 00h, with which a block may be filled up
 abbrev pub is_line_end : ℕ → Bool
-is_line_end b = b == 0x0A || b == 0x0D
+is_line_end b = b == 0x0A || b == 0x0D || b == 0x00
 
 -- a return is before the offset, and its line feed after it
 abbrev pub splits_line_end : List ℕ → ℕ → Bool
 splits_line_end bytes at = slice_index bytes (at - 1) == 0x0D && slice_index bytes at == 0x0A
 
--- This many of the first bytes stay. What goes is line feeds and returns, and no return stays if its line feed goes.
+-- This many of the first bytes stay. What goes is line feeds, returns and bytes 00h, and no return stays if its line
+-- feed goes.
 pub record LeavesOutEnds (bytes : List ℕ) (count : ℕ) : Type 0 where
   pub within : count ≤ length bytes
   pub ends : IsTrue (list_all is_line_end (drop count bytes))

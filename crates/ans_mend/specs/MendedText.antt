@@ -103,7 +103,8 @@ mended_text m =
     ++ (flag_line (has_switch m) m.non_blink.was m.non_blink.is
     ++ (times_line (codes "removed ") (codes " line end after a full row") (codes " line ends after full rows")
     m.edits.row_ends
-    ++ (times_line (codes "removed ") (codes " line end at the end") (codes " line ends at the end") m.edits.last_ends
+    ++ (times_line (codes "removed ") (codes " line end or byte 00h at the end")
+    (codes " line ends or bytes 00h at the end") m.edits.last_ends
     ++ (times_line (codes "named the colours of ") (codes " sequence") (codes " sequences") m.edits.named_colours
     ++ (reset_line (codes "lines ") m.lines
     ++ (end_mark_line m.end_mark

@@ -130,7 +130,7 @@ AreSequencesOut mends file out told = (taken : List ℕ) × AreSequencesTaken me
 -- the line ends after full rows are taken out and reported, if that is asked for; the number of lines does not matter
 abbrev pub AreRowsJoined : Mends → Size → List ℕ → List ℕ → Option Times → Type 0
 AreRowsJoined mends z file joined times =
-    MatchBool mends.join_rows (HasFullRows (sized z.width most_lines) file joined times)
+    MatchBool mends.join_rows (HasFullRows mends.mixed (sized z.width most_lines) file joined times)
     ((joined ≡ file) × (times ≡ None))
 
 -- As few line ends at the very end are taken out, and reported, as must go for the content to pass from the cleared

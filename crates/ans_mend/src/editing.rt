@@ -80,7 +80,7 @@ fn join_rows(draft: &mut Draft<'_>, mends: &Mends, size: Size) -> Option<Times>
     ensures memory { memory_of draft.new ≡ memory_of draft.old }
 {
     if mends.join_rows {
-        return draft.take_out_row_ends(Size::new(size.width(), MAX_LINES));
+        return draft.take_out_row_ends(Size::new(size.width(), MAX_LINES), mends.mixed);
     }
     None
 }

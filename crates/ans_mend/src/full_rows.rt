@@ -1,16 +1,18 @@
 //! Line ends after full rows that are removed.
 
-ghost use Rattle.std.specs.Prelude.{◌≡◌, ◌+◌, ◌-◌, ◌≤◌, ◌<◌, ◌++◌, ℕ, List, length, take, drop, true};
+ghost use Rattle.std.specs.Prelude.{◌≡◌, ◌+◌, ◌-◌, ◌≤◌, ◌<◌, ◌++◌, ℕ, List, length, take, drop, true, false};
 ghost use Rattle.ans_model.specs.Bytes.{longest_file};
 ghost use Rattle.ans_pens.specs.Counted.{count_of, counted};
 ghost use Rattle.ans_hints.specs.FullRowEnds.{AreEndsOver, StandsBetween, bytes_of, without, without_ends};
 ghost use Rattle.ans_hints.specs.declared.full_row_ends.FullRowEnd.{FullRowEnd};
 ghost use Rattle.ans_mend.specs.Drafts.{memory_of};
-ghost use Rattle.ans_mend.specs.FullRows.{HasFullRows, first_byte, times_with};
+ghost use Rattle.ans_mend.specs.FullRows.{HasFullRows, MayGo, first_byte, times_with};
+ghost use Rattle.ans_model.specs.Sequence.TokenKind.{TokenKind};
 
 use crate::draft::Draft;
 use crate::keeping::keep;
 use crate::line_ends::content_of;
+use crate::reading::is_read;
 use ans_hints::{FullRowEnd, RowPlay, ends_full_rows};
 use ans_model::size::Size;
 use ans_pens::Times;
@@ -93,21 +95,37 @@ fn take_out_ends(memory: &mut [u8], count: usize, mut rows: RowPlay) -> RowsLeft
     }
 }
 
+/// Whether the line ends after full rows may be removed: one follows every full row that something is printed
+/// after, and there are two of these; or they are `mixed`, and the content is read.
+fn may_go(size: Size, content: &[u8], mixed: bool) -> bool
+    requires { length content.now ≤ longest_file }
+    ensures may { result ≡ true
+        → (tokens : List TokenKind) × (texts : List (List ℕ)) × MayGo mixed size content.now tokens texts }
+    ensures other { result ≡ false
+        → (tokens : List TokenKind) (texts : List (List ℕ)) → ¬ MayGo mixed size content.now tokens texts }
+{
+    if mixed {
+        return is_read(content);
+    }
+    ends_full_rows(size, content)
+}
+
 impl<'a> Draft<'a> {
     /// Removes the line ends after full rows from the content of a file that has a record, in the play
     /// from the cleared start on a screen of this size: if a line end follows every full row that
     /// something is printed after, and there are two of these. After a full row the cursor is in the
-    /// next row already, so a line end there makes an empty one. Returns how many line ends, and the offset of
-    /// the first, in bytes from the file's start.
-    pub(crate) fn take_out_row_ends(&mut self, size: Size) -> Option<Times>
+    /// next row already, so a line end there makes an empty one. If the rows are `mixed`, those line ends are
+    /// removed that are there. Returns how many line ends, and the offset of the first, in bytes from the file's
+    /// start.
+    pub(crate) fn take_out_row_ends(&mut self, size: Size, mixed: bool) -> Option<Times>
         requires { length self.old.file ≤ longest_file }
-        ensures file { HasFullRows size self.old.file self.new.file result }
+        ensures file { HasFullRows mixed size self.old.file self.new.file result }
         ensures no_longer { length self.new.file ≤ length self.old.file }
         ensures memory { memory_of self.new ≡ memory_of self.old }
     {
         let content = content_of(self.file())?;
         let count = content.len();
-        if !ends_full_rows(size, content) {
+        if !may_go(size, content, mixed) {
             return None;
         }
         let left = take_out_ends(self.memory, count, RowPlay::new(size));

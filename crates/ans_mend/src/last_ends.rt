@@ -1,4 +1,4 @@
-//! Line ends at the very end of a content that are removed.
+//! Line ends and bytes 00h at the very end of a content that are removed.
 
 ghost use Rattle.std.specs.Prelude.{◌≡◌, ℕ, ◌<◌, ◌≤◌, true, false, IfNone, IfSome, length, drop};
 ghost use Rattle.std.specs.List.{list_all};
@@ -16,7 +16,7 @@ use ans_pens::{Times, is_good};
 fn is_line_end(byte: u8) -> bool
     ensures { result ≡ is_line_end byte }
 {
-    byte == b'\n' || byte == b'\r'
+    matches!(byte, b'\n' | b'\r' | 0)
 }
 
 /// Whether a return is before the offset and its line feed after it.
@@ -26,7 +26,7 @@ fn splits_line_end(bytes: &[u8], at: usize) -> bool
     at > 0 && at < bytes.len() && bytes[at - 1] == b'\r' && bytes[at] == b'\n'
 }
 
-/// How many bytes come before the line feeds and returns at the end.
+/// How many bytes come before the line feeds, returns and bytes 00h at the end.
 fn count_before_ends(bytes: &[u8]) -> usize
     ensures within { result ≤ length bytes.now }
     ensures ends { list_all is_line_end (drop result bytes.now) ≡ true }
@@ -39,8 +39,8 @@ fn count_before_ends(bytes: &[u8]) -> usize
     count
 }
 
-/// How many of the first bytes at most pass from the cleared start, if enough of them do and only line feeds and
-/// returns follow these.
+/// How many of the first bytes at most pass from the cleared start, if enough of them do and only line feeds,
+/// returns and bytes 00h follow these.
 fn most_passing(size: Size, bytes: &[u8], enough: usize) -> usize
     requires length { length bytes.now ≤ longest_file }
     requires within { enough ≤ length bytes.now }
@@ -64,8 +64,8 @@ fn most_passing(size: Size, bytes: &[u8], enough: usize) -> usize
     passing
 }
 
-/// How many bytes of a content are left if as few line ends at its very end go as must for it to pass from
-/// the cleared start. None if it does not pass, however many go. It takes no memory.
+/// How many bytes of a content are left if as few line ends and bytes 00h at its very end go as must for it to
+/// pass from the cleared start. None if it does not pass, however many go. It takes no memory.
 pub fn count_passing(size: Size, content: &[u8]) -> Option<usize>
     requires { length content.now ≤ longest_file }
     ensures some { IfSome result (LeavesMost size content.now) }
@@ -85,8 +85,7 @@ pub fn count_passing(size: Size, content: &[u8]) -> Option<usize>
     Some(count)
 }
 
-/// How many line ends the bytes are, if they are only line feeds and returns: a return and a line
-/// feed are one.
+/// How many line ends and bytes 00h the bytes are, if they are only these: a return and a line feed are one.
 pub fn count_line_ends(bytes: &[u8]) -> usize
     ensures count { result ≡ line_ends bytes.now }
     ensures within { result ≤ length bytes.now }
@@ -121,7 +120,7 @@ fn ends_behind(content: &[u8], left: usize) -> Option<Times>
 }
 
 impl<'a> Draft<'a> {
-    /// Removes as few line ends at the very end of the content of a file that has a record as must go for
+    /// Removes as few line ends and bytes 00h at the very end of the content of a file that has a record as must go for
     /// it to pass from the cleared start on a screen of this size, if it then does. Returns how many, and
     /// the offset of the first, in bytes from the file's start.
     pub(crate) fn take_out_last_ends(&mut self, size: Size) -> Option<Times>

@@ -24,6 +24,7 @@ mod names;
 mod naming;
 mod new_record;
 mod outcome;
+mod reading;
 mod room;
 mod tail;
 mod taking_out;

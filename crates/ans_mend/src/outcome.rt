@@ -19,7 +19,7 @@ pub struct Edits {
     pub told: Told,
     /// How many line ends after full rows were removed, and where the first began.
     pub row_ends: Option<Times>,
-    /// How many line ends at the very end were removed, and where the first began.
+    /// How many line ends and bytes 00h at the very end were removed, and where the first began.
     pub last_ends: Option<Times>,
     /// How many colour sequences got names of colours, and where the first was.
     pub named_colours: Option<Times>,
