@@ -4,8 +4,8 @@ use Rattle.std.proofs.Common.{sym, subst, ap}
 use Rattle.std.proofs.lemmas.List.{take_all}
 use Rattle.ans_pens.specs.Counted.{counted}
 use Rattle.ans_pens.specs.declared.times.Times.{Times}
-use Rattle.ans_why.specs.TextDamage.{AreAdded, AreWithin, BeginsNone, Form, capital_latin, counted_on, lost_escape, pair_of_pairs}
-use Rattle.ans_why.specs.TextDamage.{return_here, short_escape, shown_escape, times_of, wide_character}
+use Rattle.ans_why.specs.TextDamage.{AreAdded, AreWithin, BeginsNone, Form, capital_latin, counted_on, lost_escape}
+use Rattle.ans_why.specs.TextDamage.{pair_of_pairs, return_here, short_escape, shown_escape, times_of, wide_character}
 use Rattle.ans_why.specs.declared.text_damage.Counts.{Counts}
 
 -- those of the rest are still to be counted

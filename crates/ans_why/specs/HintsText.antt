@@ -93,7 +93,7 @@ told_text hints wider field =
 abbrev pub hints_text : Hints → List ℕ → List ℕ
 hints_text hints field = told_text hints (wider_rows hints.row_ends) field
 
--- Wider rows are told of a content that passes if it does not need all lines that are stated.
+-- Wider rows are reported of a content that passes if it does not need all lines that are stated.
 abbrev pub wider_told : Hints → Option WiderRows
 wider_told hints = if hints.empty_rows == 0 then None else wider_rows hints.row_ends
 

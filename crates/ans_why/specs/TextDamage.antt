@@ -1,4 +1,4 @@
--- Damage on the way of a text: forms of bytes, how often each comes, and from how many on it is told.
+-- Damage on the way of a text: forms of bytes, how often each comes, and from how many on it is reported.
 use Rattle.std.specs.Prelude.{◌≡◌, ◌≤◌, ℕ, ◌+◌, Bool, false, ◌&&◌, ◌||◌, ◌==◌, not, nat_eq, nat_le, List, [], ◌∷◌}
 use Rattle.std.specs.Prelude.{Option, None, is_some, slice_index, if◌then◌else◌}
 use Rattle.std.specs.Int.{is_in_range}
@@ -84,7 +84,7 @@ lone_returns bytes =
 abbrev pub begins_with_mark : List ℕ → Bool
 begins_with_mark bytes = starts_with nat_eq bytes (0xEF ∷ 0xBB ∷ 0xBF ∷ [])
 
--- what is told of a content
+-- what is reported of a content
 pub record IsDamage (bytes : List ℕ) (damage : TextDamage) : Type 0 where
   pub lost : damage.lost_escapes ≡ at_least 4 (times_of lost_escape bytes)
   pub shown : damage.shown_escapes ≡ at_least 2 (times_of shown_escape bytes)
@@ -95,7 +95,7 @@ pub record IsDamage (bytes : List ℕ) (damage : TextDamage) : Type 0 where
   pub returns : damage.returns ≡ lone_returns bytes
   pub mark : damage.mark ≡ begins_with_mark bytes
 
--- Where ESC became two characters it is not told as lost too.
+-- If ESC became two characters it is not reported as lost too.
 abbrev pub lost_told : TextDamage → Option Times
 lost_told damage = if is_some damage.shown_escapes then None else damage.lost_escapes
 

@@ -150,7 +150,7 @@ abbrev pub enough_lines : Option Enough → List ℕ
 enough_lines None = []
 enough_lines (Some e) = hints_text e.hints e.font.now ++ lines_line (Some e.lines) (are_torn e.hints)
 
--- characters of UTF-8 in three bytes, unless the hints tell them
+-- characters of UTF-8 in three bytes, unless the hints report them
 abbrev pub wide_told : RecordRefusal → Option Times
 wide_told said = if is_some said.enough then None else said.damage.wide_characters
 

@@ -5,10 +5,11 @@
 //! [`put_why`] puts the text in an outbox. [`bytes_to_blame`] gives the bytes at which a content fails.
 //! [`known_sequence`], [`known_behind_end_mark`] and [`known_found`] recognise what artists and their programs write,
 //! and [`known_file`] other kinds of file.
-//! [`put_hints`] puts the lines of the hints, and [`put_damage`] those of [`TextDamage`]. [`font_name`] reads a font's name in the record's field, and
-//! [`has_other_code_page`] says whether its code page is another one than 437. What is said is true by
-//! `specs/Explained.antt`; the text is in `specs/WhyText.antt`, `specs/PlayersText.antt` and `specs/HintsText.antt`,
-//! and what the hints say in `specs/HintRows.antt`. The damage of texts is in `specs/TextDamage.antt`.
+//! [`put_hints`] puts the lines of the hints, and [`put_damage`] those of [`TextDamage`]: what seems to have happened
+//! to a text on its way. [`font_name`] reads a font's name in the record's field, and [`has_other_code_page`] says
+//! whether its code page is another one than 437. What is said is true by `specs/Explained.antt`; the text is in
+//! `specs/WhyText.antt`, `specs/PlayersText.antt`, `specs/HintsText.antt` and `specs/WidthsText.antt`, what the hints
+//! say in `specs/HintRows.antt`, and what is damage in `specs/TextDamage.antt`.
 #![tactic(auto)]
 
 mod blamed;

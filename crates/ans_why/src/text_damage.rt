@@ -55,7 +55,8 @@ pub struct TextDamage {
     pub shown_escapes: Option<Times>,
     /// Sequences with 9Bh in place of ESC and `[`, at least 2.
     pub short_escapes: Option<Times>,
-    /// Characters of Latin-1 in UTF-8, each followed by another, at least 8, in a content without other bytes above 7Fh.
+    /// Characters of Latin-1 in UTF-8, each followed by another, at least 8, in a content without other bytes
+    /// above 7Fh.
     pub converted: Option<Times>,
     /// Characters of UTF-8 in three bytes: blocks, boxes and arrows.
     pub wide_characters: Option<Times>,

@@ -388,7 +388,7 @@ fn put_enough<W: Write>(out: &mut Outbox<'_, W>, enough: Option<Enough<'_>>)
     put_lines_line(out, Some(enough.lines), &enough.hints);
 }
 
-/// Characters of UTF-8 in three bytes, unless the hints tell them.
+/// Characters of UTF-8 in three bytes, unless the hints report them.
 fn wide_told(said: &RecordRefusal<'_>) -> Option<Times>
     ensures { result ≡ wide_told said.now }
 {
