@@ -47,9 +47,9 @@ PARTS = (
     ("The record", "F1", """
 The record is the last 128 bytes of the file. Its faults are looked for in this order, and if it has one, the content
 is not looked at. Most drawing programs write it again when they save the drawing. `mend --columns N` sets the width,
-`--lines N` the lines if too few are stated, and `--ice` the flag for bright backgrounds (iCE colours) in place of blink.
-No command sets the texts. In a hex editor, or by these lines, a field is set on a copy, at its offset: for F2 to F7 the
-number after `at`, else the file's size, less 128, plus [that in the record](PROFILE.md#the-file). This sets two
+`--lines N` the lines if too few are stated, and `--ice` the flag for bright backgrounds (iCE colours) in place of
+blink. No command sets the texts. In a hex editor, or by these lines, a field is set on a copy, at its offset: for F2 to
+F7 the number after `at`, else the file's size, less 128, plus [that in the record](PROFILE.md#the-file). This sets two
 bytes to 25 and 0, the low byte first, in octal digits.
 
 ```text

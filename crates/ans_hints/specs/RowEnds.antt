@@ -169,8 +169,8 @@ nothing_written z = record { row = first_row; ends = no_row_ends z.width }
 abbrev pub are_all_ended : RowEnds → Bool
 are_all_ended ends = nat_le 2 (count_of ends.ended_before) && count_of ends.ended_before == ends.full_before
 
--- Four rows run over the edge and then end, none of them twice over it, and they are more than half of all that end. How
--- wide each is does not matter: the blanks at the end of a row may be trimmed.
+-- Four rows run over the edge and then end, none of them twice over it, and they are more than half of all that end.
+-- How wide each is does not matter: the blanks at the end of a row may be trimmed.
 abbrev pub are_wider : RowEnds → ℕ → Bool
 are_wider ends count =
     nat_le 4 count && nat_le ends.over.widest (2 * ends.width) && nat_lt ends.line_ends (2 * count)

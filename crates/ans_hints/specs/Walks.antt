@@ -8,8 +8,8 @@ use Rattle.ans_model.specs.Screen.StartClass.{cleared}
 use Rattle.ans_pens.specs.Pens.{further, pen_of, StandsOn}
 use Rattle.ans_tokens.specs.Walk.{Front}
 use Rattle.ans_hints.specs.Conditions.{loose_line_feed, wide_character, two_byte_letter, latin_letter, board_code}
-use Rattle.ans_hints.specs.Conditions.{later_colours, off_switches, blinking_glyph, dark_glyph, is_seen, seen_glyph, prints}
-use Rattle.ans_hints.specs.Conditions.{sets_column}
+use Rattle.ans_hints.specs.Conditions.{later_colours, off_switches, blinking_glyph, dark_glyph, is_seen, seen_glyph}
+use Rattle.ans_hints.specs.Conditions.{prints, sets_column}
 use Rattle.ans_hints.specs.Places.{places_before, times_of}
 use Rattle.ans_pens.specs.declared.times.Times.{Times}
 use Rattle.ans_hints.specs.RowEnds.{CountsRows, is_stuck, nothing_written, printed_in, row_ends_with, row_with}

@@ -14,7 +14,9 @@ least_if width lines content true some good less = (
 least_if width lines content false some good less = (
   λ e. record {
     enough = good;
-    fewer = λ n lt is. absurd (true≢false (sym (less.1 (good_from_on width n (lines - 1) content (omega (arith, lt)) is))));
+    fewer = λ n lt is.
+        let more = good_from_on width n (lines - 1) content (omega (arith, lt)) is in
+        absurd (true≢false (sym (less.1 more)));
   },
   λ least. refl,
 )
