@@ -117,15 +117,15 @@ two_byte_letter z s _ rest = false
 
 -- A small letter of Latin-1: a, o and u with two dots, e with a grave and an acute accent and with a circumflex, n with
 -- a tilde, o with the three accents. In code page 437 their bytes are capital Greek letters and signs, which are seldom
--- between small letters. Others are left out: theirs are small Greek letters, or signs that are used there on purpose.
+-- between letters. Others are left out: theirs are small Greek letters, or signs that are used there on purpose.
 abbrev pub is_latin_letter : ℕ → Bool
 is_latin_letter b =
     b == 0xE4 || is_in_range 0xE8 0xEA b || is_in_range 0xF1 0xF4 b || b == 0xF6 || b == 0xFC
 
--- a small letter, followed by such a one and a small letter
+-- a letter, followed by such a one and a small letter
 abbrev pub latin_letter : Condition
 latin_letter z s (Glyph byte) rest =
-    is_small_letter byte && is_latin_letter (slice_index rest 0) && is_small_letter (slice_index rest 1)
+    is_letter byte && is_latin_letter (slice_index rest 0) && is_small_letter (slice_index rest 1)
 latin_letter z s _ rest = false
 
 -- a decimal digit, and a hexadecimal one with a capital letter

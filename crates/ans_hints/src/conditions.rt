@@ -96,7 +96,7 @@ pub(crate) fn has_later_colour(numbers: &[u8]) -> bool
     numbers.iter().any(|number| is_later_colour(*number))
 }
 
-pub(crate) fn is_small_letter(byte: u8) -> bool
+fn is_small_letter(byte: u8) -> bool
     ensures { result ≡ is_small_letter byte }
 {
     matches!(byte, b'a'..=b'z')

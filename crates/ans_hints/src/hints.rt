@@ -25,7 +25,7 @@ pub struct Hints {
     pub wide_characters: Option<Times>,
     /// Letters of Latin-1 in two bytes of UTF-8, after a letter.
     pub two_byte_letters: Option<Times>,
-    /// The letters ä è é ê ñ ò ó ô ö ü of Latin-1 in one byte, between small letters.
+    /// The letters ä è é ê ñ ò ó ô ö ü of Latin-1 in one byte, after a letter and before a small one.
     pub latin_letters: Option<Times>,
     /// Colour codes of programs for bulletin boards, `|07` and `@X1F`, that are printed.
     pub board_codes: Option<Times>,

@@ -21,7 +21,7 @@ ghost use Rattle.ans_tokens.specs.Walk.{no_front};
 use crate::conditions::{
     begins_with_latin_letter, begins_with_pipe_number, begins_with_two_byte_letter,
     begins_with_wide, begins_with_x_number, has_later_colour, has_modern, has_off_switch,
-    is_letter, is_seen, is_small_letter, may_be_foreign,
+    is_letter, is_seen, may_be_foreign,
 };
 use crate::hints::Hints;
 use crate::row::Row;
@@ -121,7 +121,7 @@ impl Walk {
             two_byte_letters = counted self.old.hints.two_byte_letters
                 (is_letter byte && begins_with_two_byte_letter behind.now) (offset + 1);
             latin_letters = counted self.old.hints.latin_letters
-                (is_small_letter byte && is_latin_letter (slice_index behind.now 0)
+                (is_letter byte && is_latin_letter (slice_index behind.now 0)
                 && is_small_letter (slice_index behind.now 1)) (offset + 1);
             board_codes = counted self.old.hints.board_codes
                 ((byte == 0x7C && begins_with_pipe_number behind.now)
@@ -130,7 +130,7 @@ impl Walk {
         } }
     {
         let is_two_bytes = is_letter(byte) && begins_with_two_byte_letter(behind);
-        let is_latin = is_small_letter(byte) && begins_with_latin_letter(behind);
+        let is_latin = is_letter(byte) && begins_with_latin_letter(behind);
         let is_code = (byte == b'|' && begins_with_pipe_number(behind))
             || (byte == b'@' && begins_with_x_number(behind));
         count(&mut self.hints.two_byte_letters, is_two_bytes, offset + 1);
@@ -149,7 +149,7 @@ impl Walk {
             two_byte_letters = counted self.old.hints.two_byte_letters
                 (is_letter byte && begins_with_two_byte_letter behind.now) (offset + 1);
             latin_letters = counted self.old.hints.latin_letters
-                (is_small_letter byte && is_latin_letter (slice_index behind.now 0)
+                (is_letter byte && is_latin_letter (slice_index behind.now 0)
                 && is_small_letter (slice_index behind.now 1)) (offset + 1);
             board_codes = counted self.old.hints.board_codes
                 ((byte == 0x7C && begins_with_pipe_number behind.now)
