@@ -344,7 +344,7 @@ def name_colours(draft):
 def looks_torn(content, width, stated, lines):
     """On so many lines the rows look broken, or those of a drawing for another width."""
     hints = Hints(content, len(content), width, lines)
-    fits = fitting_widths(content, width, stated, hints.rows, least_lines)
+    fits = fitting_widths(content, width, stated, hints, least_lines)
     return hints.torn or bool(fits) or are_exchanged(width, stated, hints.rows)
 
 

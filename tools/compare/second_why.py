@@ -532,12 +532,14 @@ def counted_text(offsets, before, what, advice):
     return f"{before}{len(offsets)} {what[1]}, first at {offsets[0]}{advice[1]}"
 
 
-def fitting_widths(content, width, lines, rows, least):
-    """The widths on which a content without line ends needs exactly the stated lines, if it does not on the stated one."""
-    if not lines or rows.line_ends or least(content, width) == lines:
+def fitting_widths(content, width, lines, hints, least):
+    """The widths on which a content without line ends needs exactly the stated lines, if it does not on the stated one:
+    narrower ones if it leaves lines empty, and else wider ones."""
+    if not lines or hints.rows.line_ends or hints.empty <= 0 and least(content, width) == lines:
         return []
     tried = dict.fromkeys([40, 80, 100, 120, 132, 160, 2 * width, 3 * width])
-    return [other for other in tried if other != width and other <= MOST_COLUMNS and least(content, other) == lines]
+    on_side = [other for other in tried if (other < width if hints.empty > 0 else width < other <= MOST_COLUMNS)]
+    return [other for other in on_side if other <= MOST_COLUMNS and least(content, other) == lines]
 
 
 def are_exchanged(width, lines, rows):
@@ -545,12 +547,12 @@ def are_exchanged(width, lines, rows):
     return width < 40 and lines in (80, 132, 160) and rows.full > 0
 
 
-def width_lines(content, width, lines, rows, least):
+def width_lines(content, width, lines, hints, least):
     """The lines on other widths, where the stated lines do not come out."""
-    fits = fitting_widths(content, width, lines, rows, least)
+    fits = fitting_widths(content, width, lines, hints, least)
     come = "1 stated line comes" if lines == 1 else f"{lines} stated lines come"
     said = [f"hint: with {other} columns the {come} out: --columns {other}" for other in fits]
-    if are_exchanged(width, lines, rows):
+    if are_exchanged(width, lines, hints.rows):
         said.append(f"hint: columns and lines may be exchanged in the record: --columns {lines} --lines {width}")
     return said
 
@@ -558,7 +560,7 @@ def width_lines(content, width, lines, rows, least):
 def enough_lines(content, width, least, record):
     """The hints of all of the content on so many lines, and the line that says how many."""
     hints = Hints(content, len(content), width, least)
-    widths = width_lines(content, width, record.lines, hints.rows, pens.least_lines)
+    widths = width_lines(content, width, record.lines, hints, pens.least_lines)
     return hints.lines(record, True) + widths + [f"lines: {least}" + BROKEN * (hints.torn or bool(widths))]
 
 
@@ -737,7 +739,7 @@ def why(chance, file):
     said += damage_told(content, record)
     hints = Hints(content, len(content), width, lines)
     said += hints.lines(record, True, passes=True)
-    said += width_lines(content, width, lines, hints.rows, pens.least_lines) if hints.empty > 0 else []
+    said += width_lines(content, width, lines, hints, pens.least_lines) if hints.empty > 0 else []
     return heading + said, 0
 
 

@@ -3,6 +3,7 @@
 use ans_hints::{Hints, OtherWidths};
 use ans_model::limits::MAX_LINES;
 use ans_model::size::Size;
+use ans_pens::least_lines;
 use std::process::Abort;
 
 /// A content, the width on which it is played, and the rows of a drawing for more columns: how many run over the
@@ -143,7 +144,9 @@ static STATED: [Stated; 22] = stated! {
 /// What a content shows of other widths, where this width and these lines are stated.
 fn other_widths(rt: &impl Abort, width: usize, lines: usize, content: &[u8]) -> OtherWidths {
     assert!(rt; 1 <= width && width <= 1024 && lines <= 8192 && content.len() < 1000);
-    let hints = hints_of(rt, width, content);
+    let needed = least_lines(width, content).map_or(MAX_LINES, usize::from);
+    let size = Size::new(width, needed.max(lines));
+    let hints = Hints::of(size, false, content, content.len());
     OtherWidths::of(width, lines, &hints, content)
 }
 
