@@ -33,6 +33,7 @@ use Rattle.ans_sauce.specs.Judged.{is_pass}
 use Rattle.ans_sauce.specs.declared.judged.Judged.TheVariants.{NoContent, Refused, Passes}
 use Rattle.ans_why.specs.Explained.{IsTrueOf, Why}
 use Rattle.ans_why.specs.declared.known_bytes.Known.{Known}
+use Rattle.ans_why.specs.declared.text_damage.TextDamage.{TextDamage}
 use Rattle.ans_why.specs.declared.why.Enough.{Enough}
 use Rattle.ans_why.specs.declared.why.Pass.{Pass}
 use Rattle.ans_why.specs.declared.why.Place.{Place}
@@ -145,10 +146,15 @@ abbrev pub known_found : Found → Option Known
 known_found (found.AfterEndMark bytes holds_record) = known_behind_end_mark holds_record bytes.now
 known_found _ = None
 
+-- Beside what seems to have happened to a text nothing is said of letters of UTF-8, if it is to be converted otherwise.
+abbrev pub hints_beside : TextDamage → Hints → Hints
+hints_beside damage hints = if is_some damage.converted then record hints { two_byte_letters = None } else hints
+
 -- the hints and the number of lines of a file that states none
-abbrev pub enough_lines : Option Enough → List ℕ
-enough_lines None = []
-enough_lines (Some e) = hints_text e.hints e.font.now ++ lines_line (Some e.lines) (are_torn e.hints)
+abbrev pub enough_lines : TextDamage → Option Enough → List ℕ
+enough_lines damage None = []
+enough_lines damage (Some e) =
+    hints_text (hints_beside damage e.hints) e.font.now ++ lines_line (Some e.lines) (are_torn e.hints)
 
 -- characters of UTF-8 in three bytes, unless the hints report them
 abbrev pub wide_told : RecordRefusal → Option Times
@@ -186,7 +192,7 @@ pass_lines parts pass =
     ++ (taller_line pass.taller
     ++ (fix_line (is_fixed pass.reliance)
     ++ (damage_lines pass.damage (font_of parts)
-    ++ (pass_hints_text pass.hints (font_of parts)
+    ++ (pass_hints_text (hints_beside pass.damage pass.hints) (font_of parts)
     ++ (widths_lines (size_of parts) pass.widths ++ remedy_line pass.players)))))))))
 
 -- Empty rows at the end are not spoken of if not all is played.
@@ -199,7 +205,7 @@ refusal_lines parts r =
     ++ (known_line (first_known r.known (known_file (content_of parts)))
     ++ (named_line (codes "cursor") (place_text r.cursor)
     ++ (damage_lines r.damage (font_of parts)
-    ++ (hints_text (told_hints r) (font_of parts)
+    ++ (hints_text (hints_beside r.damage (told_hints r)) (font_of parts)
     ++ (widths_lines (size_of parts) r.widths ++ lines_line r.lines (are_torn r.hints))))))
 
 -- the size, and what is odd about the record
@@ -212,7 +218,7 @@ why_text (NoContent said) =
     fault_lines said.fault []
     ++ (found_line said.found
     ++ (known_line (first_known said.other (known_found said.found))
-    ++ (file_lines said ++ enough_lines said.enough)))
+    ++ (file_lines said ++ enough_lines said.damage said.enough)))
 why_text (Refused parts refusal) = heading_lines parts ++ refusal_lines parts refusal
 why_text (Passes parts pass) = heading_lines parts ++ pass_lines parts pass
 

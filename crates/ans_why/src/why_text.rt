@@ -12,13 +12,14 @@ ghost use Rattle.ans_why.specs.WhyText.{after_end_mark_text, enough_lines, headi
 ghost use Rattle.ans_hints.specs.Hints.{are_torn};
 ghost use Rattle.ans_why.specs.OtherFiles.{first_known, known_file};
 ghost use Rattle.ans_why.specs.WhyText.{found_line, pass_lines, refusal_lines, told_hints, torn_text, why_text};
-ghost use Rattle.ans_why.specs.WhyText.{file_lines, returns_text, wide_told};
+ghost use Rattle.ans_why.specs.WhyText.{file_lines, hints_beside, returns_text, wide_told};
 
 use crate::hint_rows::WIDE_CHARACTERS;
 use crate::hints_text::{put_counted_line, put_damage, put_hints, put_pass_hints, put_text_damage};
 use crate::known_bytes::{Known, known_behind_end_mark};
 use crate::other_files::known_file;
 use crate::players_text::{is_same_class, put_players, put_remedy_line};
+use crate::text_damage::TextDamage;
 use crate::why::{Enough, Pass, Place, RecordRefusal, Refusal, Reliance, Shown, Why};
 use crate::widths_text::put_widths;
 use ans_hints::Hints;
@@ -174,6 +175,19 @@ fn put_fix_line<W: Write>(out: &mut Outbox<'_, W>, fixed: bool)
     }
 }
 
+/// The hints beside what seems to have happened to a text: not on letters of UTF-8, if it is to be converted otherwise.
+fn hints_beside(damage: &TextDamage, hints: Hints) -> Hints
+    ensures { result ≡ hints_beside damage.now hints }
+{
+    match damage.converted {
+        Some(_) => Hints {
+            two_byte_letters: None,
+            ..hints
+        },
+        None => hints,
+    }
+}
+
 fn put_pass<W: Write>(out: &mut Outbox<'_, W>, parts: &Parts<'_>, pass: &Pass<'_>)
     ensures { Puts W.contents out.old out.new (pass_lines parts.now pass.now) }
 {
@@ -187,7 +201,11 @@ fn put_pass<W: Write>(out: &mut Outbox<'_, W>, parts: &Parts<'_>, pass: &Pass<'_
     put_taller_line(out, pass.taller);
     put_fix_line(out, is_fixed(pass.reliance));
     put_damage(out, &pass.damage, parts.sauce().font());
-    put_pass_hints(out, &pass.hints, parts.sauce().font());
+    put_pass_hints(
+        out,
+        &hints_beside(&pass.damage, pass.hints),
+        parts.sauce().font(),
+    );
     put_widths(out, parts.size(), &pass.widths);
     put_remedy_line(out, &pass.players);
 }
@@ -252,7 +270,11 @@ fn put_refused<W: Write>(out: &mut Outbox<'_, W>, parts: &Parts<'_>, refusal: &R
     put_known_line(out, first_known(refusal.known, known_file(parts.content())));
     put_place_line(out, b"cursor", refusal.cursor);
     put_damage(out, &refusal.damage, parts.sauce().font());
-    put_hints(out, &told_hints(refusal), parts.sauce().font());
+    put_hints(
+        out,
+        &hints_beside(&refusal.damage, told_hints(refusal)),
+        parts.sauce().font(),
+    );
     put_widths(out, parts.size(), &refusal.widths);
     put_lines_line(out, refusal.lines, &refusal.hints);
 }
@@ -378,13 +400,13 @@ pub fn known_found(found: &Found<'_>) -> Option<Known>
     }
 }
 
-fn put_enough<W: Write>(out: &mut Outbox<'_, W>, enough: Option<Enough<'_>>)
-    ensures { Puts W.contents out.old out.new (enough_lines enough.entry) }
+fn put_enough<W: Write>(out: &mut Outbox<'_, W>, damage: &TextDamage, enough: Option<Enough<'_>>)
+    ensures { Puts W.contents out.old out.new (enough_lines damage.now enough.entry) }
 {
     let Some(enough) = enough else {
         return;
     };
-    put_hints(out, &enough.hints, enough.font);
+    put_hints(out, &hints_beside(damage, enough.hints), enough.font);
     put_lines_line(out, Some(enough.lines), &enough.hints);
 }
 
@@ -413,7 +435,7 @@ fn put_record_refusal<W: Write>(out: &mut Outbox<'_, W>, said: &RecordRefusal<'_
     put_found(out, &said.found);
     put_known_line(out, first_known(said.other, known_found(&said.found)));
     put_file_damage(out, said);
-    put_enough(out, said.enough);
+    put_enough(out, &said.damage, said.enough);
 }
 
 /// Puts the size and what is odd about the record.

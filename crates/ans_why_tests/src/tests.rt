@@ -974,3 +974,21 @@ fn other_widths_have_their_lines(rt: HostRuntime) -> Result<(), Fail> {
     expect_why(&rt, &Judged::Passes(split(&file)?, pass), text);
     Ok(())
 }
+
+/// Where a text is to be converted to Latin-1, its letters of UTF-8 are no hint.
+#[test]
+fn converted_text_has_one_hint(rt: HostRuntime) -> Result<(), Fail> {
+    let content = b"Hi\xc3\x9b\xc3\x9b\xc3\x9b\xc3\x9b\xc3\x9b\xc3\x9b\xc3\x9b\xc3\x9b\xc3\x9b";
+    let hints = Hints::of(Size::new(40, 1), false, content, content.len());
+    assert!(rt; hints.two_byte_letters == Some(Times { count: 1, first: 2 }));
+    let file = sample_file(rt.alloc(), b"Hi\x1a", &[])?;
+    let pass = Pass {
+        damage: TextDamage::of(content),
+        ..easy_pass(Players::Any(Start::ANY), hints)
+    };
+    let text = "size: 2 x 1\nverdict: pass\nneeds: nothing\nplayers: all\n\
+        hint: 8 characters look like Latin-1 that was made UTF-8, first at 2: \
+        convert the text from UTF-8 to Latin-1\n";
+    expect_why(&rt, &Judged::Passes(split(&file)?, pass), text);
+    Ok(())
+}

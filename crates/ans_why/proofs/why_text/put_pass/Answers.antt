@@ -1,6 +1,7 @@
-use Rattle.std.proofs.Common.{rules, ◌≡◌, ◌∙◌, ap}
+use Rattle.std.proofs.Common.{rules, ◌≡◌, ◌∙◌, ap, ap₂}
 use Rattle.ans_sauce.specs.Parts.{content_of}
 use Rattle.ans_write.proofs.PutsLemmas.{Puts-same, Puts-then}
+use Rattle.ans_why.specs.HintsText.{pass_hints_text}
 use Rattle.ans_why.specs.OtherFiles.{known_file}
 use Rattle.ans_why.specs.WhyText.{font_of, is_fixed, known_line, verdict_words}
 use Rattle.ans_why.proofs.why_text.put_pass.Goals as goal
@@ -21,5 +22,5 @@ returns g c =
     (Puts-then c.put_taller_line.ensures
     (Puts-then (rw fixed at c.put_fix_line.ensures)
     (Puts-then (rw font at c.put_damage.ensures)
-    (Puts-then (rw font-2 at c.put_pass_hints.ensures)
+    (Puts-then (Puts-same (ap₂ pass_hints_text c.hints_beside.ensures font-2) c.put_pass_hints.ensures)
     (Puts-then (rw c.size.ensures at c.put_widths.ensures) c.put_remedy_line.ensures)))))))))

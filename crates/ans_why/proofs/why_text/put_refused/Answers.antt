@@ -3,7 +3,7 @@ use Rattle.ans_sauce.specs.Parts.{content_of}
 use Rattle.ans_write.proofs.PutsLemmas.{Puts-same, Puts-then}
 use Rattle.ans_why.specs.HintsText.{hints_text}
 use Rattle.ans_why.specs.OtherFiles.{first_known, known_file}
-use Rattle.ans_why.specs.WhyText.{font_of, known_line}
+use Rattle.ans_why.specs.WhyText.{font_of, hints_beside, known_line}
 use Rattle.ans_why.proofs.why_text.put_refused.Goals as goal
 
 pub returns : goal.returns
@@ -13,9 +13,11 @@ returns g c =
     let of_file : c.known_file.result ≡ known_file (content_of c.args.parts.now) =
     c.known_file.ensures ∙ ap known_file c.content.ensures in
     let known = c.first_known.ensures ∙ ap (first_known c.args.refusal.now.known) of_file in
+    let refusal = c.args.refusal.now in
+    let hints = c.hints_beside.ensures ∙ ap (hints_beside refusal.damage) c.told_hints.ensures in
     Puts-then c.put_fault_lines.ensures
     (Puts-then (Puts-same (ap known_line known) c.put_known_line.ensures)
     (Puts-then c.put_place_line.ensures
     (Puts-then (rw font at c.put_damage.ensures)
-    (Puts-then (Puts-same (ap₂ hints_text c.told_hints.ensures font-2) c.put_hints.ensures)
+    (Puts-then (Puts-same (ap₂ hints_text hints font-2) c.put_hints.ensures)
     (Puts-then (rw c.size.ensures at c.put_widths.ensures) c.put_lines_line.ensures)))))
