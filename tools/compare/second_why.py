@@ -58,10 +58,10 @@ CONVERT = ": convert the text to code page 437"
 # one thing and of more.
 COUNTED_HINTS = [
     ("loose line feed", "", ("bare line feed makes a staircase", "bare line feeds make a staircase"),
-     (": --crlf", ": --crlf")),
+     (": --crlf{some_bare}",) * 2),
     ("full row", "", ("full row is followed by a line end and leaves a blank row",
                       "full rows are followed by a line end and leave a blank row"),
-     (": --join-rows", ": --join-rows")),
+     (": --join-rows{some_ended}",) * 2),
     ("wider row", "", ("row is wider than the screen", "rows are wider than the screen"),
      ("; they need at least {widest} columns: --columns {widest}",) * 2),
     ("overprint", "wrap is off, and ", ("character overprints the last column", "characters overprint the last column"),
@@ -90,15 +90,14 @@ DAMAGE = {
     "returns": (("return comes without a line feed", "returns come without line feeds"),
                 (": put 0Ah after it", ": put 0Ah after each")),
     "mark": None,
-    "capital": (("letter after a capital looks like Latin-1", "letters after a capital look like Latin-1"),
-                (CONVERT, CONVERT)),
     "wide": (("character looks like UTF-8", "characters look like UTF-8"), (CONVERT, CONVERT)),
 }
 NUMBERS = rb"[0-9][0-9;]*"
-LOST_ESCAPE = re.compile(rb"(?<!\x1b)\[" + NUMBERS + rb"[mHCJ]")
+LOST_ESCAPE = re.compile(rb"\[" + NUMBERS + rb"[mHCJ]")
 SHOWN_ESCAPE = re.compile(rb"(?:\^\[|<-)\[" + NUMBERS + rb"m")
 SHORT_ESCAPE = re.compile(rb"\x9b" + NUMBERS + rb"m")
 PAIR_OF_PAIRS = re.compile(rb"(?=(?:[\xc2\xc3][\x80-\xbf]){2})")
+ROW_MOVE = re.compile(rb"\x1b\[[0-9;]*[HfAB]")
 WIDE_CHARACTER = re.compile(rb"\xe2[\x80-\xaf][\x80-\xbf]")
 MARK_LINE = "hint: the file begins with EF BB BF, the mark of UTF-8: remove these bytes"
 BROKEN = ", but the rows look broken"
@@ -106,8 +105,7 @@ BROKEN = ", but the rows look broken"
 UNSEEN, DARK_GREY = {0x00, 0x20, 0xFF}, 0x08
 LATIN_LETTERS = "äèéêñòóôöü".encode("latin-1")
 LETTER_IN_UTF8 = re.compile(rb"[A-Za-z]\xc3(?:[\x80-\x96\x98-\xaf]|[\xb0-\xb6\xb8-\xbf](?=[A-Za-z]))")
-LETTER_IN_LATIN1 = re.compile(rb"[a-z][" + LATIN_LETTERS + rb"][a-z]")
-CAPITAL_LATIN = re.compile(rb"(?<=[A-Z])[" + LATIN_LETTERS + rb"](?=[a-z])")
+LETTER_IN_LATIN1 = re.compile(rb"[A-Za-z][" + LATIN_LETTERS + rb"][a-z]")
 BOARD_CODE = re.compile(rb"\|(?:[01][0-9]|2[0-3])[A-Za-z]|@X[0-9A-F]{2}")
 KNOWN_FORMS = {
     "ANSI music": re.compile(rb"\x1b\[[MN|][A-Za-z0-9#+\-.<> ]{0,250}\x0e"),
@@ -457,6 +455,7 @@ class Hints:
         if 10 * len(self.offsets["dark grey"]) <= len(self.offsets["seen"]):
             self.offsets["dark grey"] = []
         self.widest, self.empty, self.rows = rows.widest(), lines - 1 - max(printed), rows
+        self.is_converted = bool(damage_of(content)["converted"])
         straight_down = self.offsets["loose line feed"] and not rows.returns
         self.torn = bool(straight_down or rows.all_end() or self.widest or self.offsets["UTF-8"])
 
@@ -469,8 +468,12 @@ class Hints:
             self.offsets["blinking"] = []
         if has_latin_font(record):
             self.offsets["letter in Latin-1"] = []
+        if self.is_converted:
+            self.offsets["letter in UTF-8"] = []
         said = [
-            "hint: " + counted_text(self.offsets[key], before, what, advice).format(widest=self.widest)
+            "hint: " + counted_text(self.offsets[key], before, what, advice).format(
+                widest=self.widest, some_bare=" --mixed" * self.rows.returns,
+                some_ended=" --mixed" * (not self.rows.all_end()))
             for key, before, what, advice in COUNTED_HINTS if self.offsets[key]
         ]
         name = font_name(record)
@@ -497,14 +500,16 @@ def damage_of(content):
     def at(form):
         return [found.start() for found in form.finditer(content)]
     many_pairs, returns = at(PAIR_OF_PAIRS), [place for place, byte in enumerate(content) if byte == 0x0D]
-    found = {"lost": at(LOST_ESCAPE), "shown": at(SHOWN_ESCAPE), "short": at(SHORT_ESCAPE), "capital": at(CAPITAL_LATIN)}
-    found["wide"] = at(WIDE_CHARACTER)
+    found = {"lost": at(LOST_ESCAPE), "shown": at(SHOWN_ESCAPE), "short": at(SHORT_ESCAPE), "wide": at(WIDE_CHARACTER)}
+    if b"\x1b" in content:
+        found.update(lost=[], shown=[], short=[])
     found["lost"] = [] if len(found["lost"]) < 4 or len(found["shown"]) > 1 else found["lost"]
     for kind in ("shown", "short"):
         found[kind] = found[kind] if len(found[kind]) > 1 else []
     others = re.sub(rb"[\xc2\xc3][\x80-\xbf]", b"", content)
     found["converted"] = [] if len(many_pairs) < 8 or any(byte > 0x7F for byte in others) else many_pairs
-    found["returns"] = [] if len(returns) < 4 or b"\n" in content else returns
+    moves = returns and ROW_MOVE.search(content, returns[0])
+    found["returns"] = [] if len(returns) < 4 or b"\n" in content or moves else returns
     return found
 
 
@@ -519,10 +524,9 @@ def damage_lines(content, kinds):
     return said
 
 
-def damage_told(content, record):
+def damage_told(content):
     """Those of a content with its record."""
-    return damage_lines(content, [kind for kind in DAMAGE if kind != "wide" and not (
-        kind == "capital" and has_latin_font(record))])
+    return damage_lines(content, [kind for kind in DAMAGE if kind != "wide"])
 
 
 def counted_text(offsets, before, what, advice):
@@ -694,7 +698,7 @@ def refusal_lines(chance, content, width, lines, record):
     said = ["verdict: refused", "fault: " + fault_told(offset, number, blamed=blamed)]
     said += is_line(known or known_file(content))
     said.append("cursor: " + place_text(machine))
-    said += damage_told(content, record)
+    said += damage_told(content)
     least = least_lines(chance, content, width) if 19 <= number <= 21 else None
     if least:
         return said + enough_lines(content, width, least, record)
@@ -706,7 +710,7 @@ def record_lines(chance, file, offset, number, found):
     """The lines of a file whose record or layout is refused."""
     said = ["verdict: refused", "fault: " + fault_told(offset, number)] + ([f"found: {found}"] if found else [])
     known = known_file(file)
-    damage = [kind for kind in DAMAGE if kind != "capital"]
+    damage = list(DAMAGE)
     whole = damage_lines(file.partition(b"\x1a")[0], damage)
     if number not in (5, 8):
         return said + is_line(known) + whole
@@ -736,7 +740,7 @@ def why(chance, file):
         return heading + refusal_lines(chance, content, width, lines, record), 1
     needs = needs_answer(chance, content, width, lines)
     said = pass_lines(chance, content, width, lines, needs, picture)
-    said += damage_told(content, record)
+    said += damage_told(content)
     hints = Hints(content, len(content), width, lines)
     said += hints.lines(record, True, passes=True)
     said += width_lines(content, width, lines, hints, pens.least_lines) if hints.empty > 0 else []

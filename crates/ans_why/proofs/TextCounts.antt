@@ -1,97 +1,98 @@
--- Forms of bytes that are counted one after the other.
-use Rattle.std.proofs.Common.{◌≡◌, ℕ, ◌+◌, ◌-◌, ◌≤◌, List, [], ◌∷◌, length, take, drop, get_or, Option, arith}
-use Rattle.std.proofs.Common.{sym, subst, ap}
+-- Forms of bytes that are counted one after the other, and bytes that are searched for.
+use Rattle.std.proofs.Common.{◌≡◌, ◌∙◌, ◌≢◌, ℕ, ◌+◌, ◌-◌, ◌<◌, ◌≤◌, Bool, true, false, ◌||◌, ◌&&◌, List, [], ◌∷◌}
+use Rattle.std.proofs.Common.{length, take, drop, get_or, slice_index, Option, None, Some, arith, sym, subst, ap, refl}
+use Rattle.std.proofs.Common.{suc, true≢false}
+use Rattle.std.specs.Prelude.{nat_le, if◌then◌else◌}
 use Rattle.std.proofs.lemmas.List.{take_all}
-use Rattle.ans_pens.specs.Counted.{counted}
+use Rattle.std.specs.List.{list_any}
+use Rattle.std.specs.Option.{is_some}
+use Rattle.std.proofs.lemmas.Bool.Decides.{nat_tests}
+use Rattle.std.proofs.lemmas.List.Folds.{list_any_at}
+use Rattle.memchr.specs.Find.{IsFirstByte, is_byte, is_byte2}
+use Rattle.ans_pens.specs.Counted.{count_of, counted}
 use Rattle.ans_pens.specs.declared.times.Times.{Times}
-use Rattle.ans_why.specs.TextDamage.{AreAdded, AreWithin, BeginsNone, Form, capital_latin, counted_on, lost_escape}
-use Rattle.ans_why.specs.TextDamage.{pair_of_pairs, return_here, short_escape, shown_escape, times_of, wide_character}
-use Rattle.ans_why.specs.declared.text_damage.Counts.{Counts}
+use Rattle.ans_why.specs.TextDamage.{Form, at_least, comes_in, converted, counted_on, is_pair, other_high}
+use Rattle.ans_why.specs.TextDamage.{pair_of_pairs, times_of, wide_character, wide_characters}
 
 -- those of the rest are still to be counted
-pub record Counts-on (bytes rest : List ℕ) (before : ℕ) (counts : Counts) : Type 0 where
-  pub lost : counted_on lost_escape counts.lost before (length bytes - length rest) rest ≡ times_of lost_escape bytes
-  pub shown : counted_on shown_escape counts.shown before (length bytes - length rest) rest
-      ≡ times_of shown_escape bytes
-  pub short : counted_on short_escape counts.short before (length bytes - length rest) rest
-      ≡ times_of short_escape bytes
-  pub pairs : counted_on pair_of_pairs counts.pairs before (length bytes - length rest) rest
-      ≡ times_of pair_of_pairs bytes
-  pub wide : counted_on wide_character counts.wide before (length bytes - length rest) rest
-      ≡ times_of wide_character bytes
-  pub latin : counted_on capital_latin counts.latin before (length bytes - length rest) rest
-      ≡ times_of capital_latin bytes
-  pub returns : counted_on return_here counts.returns before (length bytes - length rest) rest
-      ≡ times_of return_here bytes
-  pub within : AreWithin counts (length bytes - length rest)
+pub record Counts-on (form : Form) (bytes rest : List ℕ) (before : ℕ) (times : Option Times) : Type 0 where
+  pub counts : counted_on form times before (length bytes - length rest) rest ≡ times_of form bytes
+  pub within : count_of times ≤ length bytes - length rest
   pub rest_within : length rest ≤ length bytes
 
--- one form, with one byte more
-step : (form : Form) (old new whole : Option Times) (before offset first : ℕ) (more : List ℕ)
-    → counted_on form old before offset (first ∷ more) ≡ whole
-    → new ≡ counted old (form before (first ∷ more)) offset
-    → counted_on form new first (offset + 1) more ≡ whole
-step form old new whole before offset first more on added = rw added on
-
--- all of them
-pub next : (bytes rest : List ℕ) (before : ℕ) (old new : Counts) → 1 ≤ length rest → Counts-on bytes rest before old
-    → AreWithin new (length bytes - length rest + 1) → AreAdded before rest (length bytes - length rest) old new
-    → Counts-on bytes (take (length rest - 1) (drop 1 rest)) (get_or rest 0 0) new
-next bytes [] before old new some on within added = absurd (omega (arith, some))
-next bytes (first ∷ more) before old new some on within added =
+pub next : (form : Form) (bytes rest : List ℕ) (before : ℕ) (old new : Option Times) → 1 ≤ length rest
+    → Counts-on form bytes rest before old
+    → new ≡ counted old (form before rest) (length bytes - length rest)
+    → count_of new ≤ length bytes - length rest + 1
+    → Counts-on form bytes (take (length rest - 1) (drop 1 rest)) (get_or rest 0 0) new
+next form bytes [] before old new some on added within = absurd (omega (arith, some))
+next form bytes (first ∷ more) before old new some on added within =
     let offset : ℕ = length bytes - length (first ∷ more) in
     let here : length bytes - length more ≡ offset + 1 = omega (arith, on.rest_within) in
     let all : take (length (first ∷ more) - 1) more ≡ more =
     take_all (length (first ∷ more) - 1) more (omega arith) in
-    subst (λ (v : List ℕ). Counts-on bytes v first new) (sym all) (record {
-      lost = rw here (step lost_escape old.lost new.lost (times_of lost_escape bytes) before offset first more on.lost
-          added.lost);
-      shown = rw here (step shown_escape old.shown new.shown (times_of shown_escape bytes) before offset first more
-          on.shown added.shown);
-      short = rw here (step short_escape old.short new.short (times_of short_escape bytes) before offset first more
-          on.short added.short);
-      pairs = rw here (step pair_of_pairs old.pairs new.pairs (times_of pair_of_pairs bytes) before offset first more
-          on.pairs added.pairs);
-      wide = rw here (step wide_character old.wide new.wide (times_of wide_character bytes) before offset first more
-          on.wide added.wide);
-      latin = rw here (step capital_latin old.latin new.latin (times_of capital_latin bytes) before offset first more
-          on.latin added.latin);
-      returns = rw here (step return_here old.returns new.returns (times_of return_here bytes) before offset first more
-          on.returns added.returns);
+    subst (λ (v : List ℕ). Counts-on form bytes v first new) (sym all) (record {
+      counts = rw here (rw added on.counts);
       within = rw here within;
       rest_within = omega (arith, on.rest_within);
     })
 
--- where no form begins, nothing is added
-nothing_added : (before offset : ℕ) (rest : List ℕ) (counts : Counts) → BeginsNone before rest
-    → AreAdded before rest offset counts counts
-nothing_added before offset rest counts none = record {
-  lost = sym (ap (λ b. counted counts.lost b offset) none.lost);
-  shown = sym (ap (λ b. counted counts.shown b offset) none.shown);
-  short = sym (ap (λ b. counted counts.short b offset) none.short);
-  pairs = sym (ap (λ b. counted counts.pairs b offset) none.pairs);
-  wide = sym (ap (λ b. counted counts.wide b offset) none.wide);
-  latin = sym (ap (λ b. counted counts.latin b offset) none.latin);
-  returns = sym (ap (λ b. counted counts.returns b offset) none.returns);
-}
+-- ---- bytes that are searched for
+none_passes : (b : Bool) → (b ≡ true → ⊥) → b ≡ false
+none_passes true h = absurd (h refl)
+none_passes false h = refl
 
-more_within : (counts : Counts) (most : ℕ) → AreWithin counts most → AreWithin counts (most + 1)
-more_within counts most within = record {
-  lost = omega (arith, within.lost);
-  shown = omega (arith, within.shown);
-  short = omega (arith, within.short);
-  pairs = omega (arith, within.pairs);
-  wide = omega (arith, within.wide);
-  latin = omega (arith, within.latin);
-  returns = omega (arith, within.returns);
-}
+none_any : (p : ℕ → Bool) (xs : List ℕ) → ((k : ℕ) → k < length xs → ¬ (p (slice_index xs k) ≡ true))
+    → list_any p xs ≡ false
+none_any p [] h = refl
+none_any p (x ∷ xs) h =
+    rw (none_passes (p x) (h 0 (omega arith))) (none_any p xs (λ k lt. h (suc k) (omega (arith, lt))))
 
-pub next_none : (bytes rest : List ℕ) (before : ℕ) (counts : Counts) → 1 ≤ length rest
-    → Counts-on bytes rest before counts
-    → ((more : List ℕ) → BeginsNone before (get_or rest 0 0 ∷ more))
-    → Counts-on bytes (take (length rest - 1) (drop 1 rest)) (get_or rest 0 0) counts
-next_none bytes [] before counts some on none = absurd (omega (arith, some))
-next_none bytes (first ∷ more) before counts some on none =
-    next bytes (first ∷ more) before counts counts some on
-    (more_within counts (length bytes - length (first ∷ more)) on.within)
-    (nothing_added before (length bytes - length (first ∷ more)) (first ∷ more) counts (none more))
+-- a search finds a byte if and only if there is one
+pub any_found : (p : ℕ → Bool) (xs : List ℕ) (r : Option ℕ) → IsFirstByte p xs r → is_some r ≡ list_any p xs
+any_found p xs (Some k) h = sym (list_any_at p xs k 0 h.0.high h.1)
+any_found p xs None h = sym (none_any p xs (λ k lt. h k (omega arith) lt))
+
+-- a form that never begins is not counted
+pub none_counted : (form : Form) (p : ℕ → Bool)
+    → ((before b : ℕ) (more : List ℕ) → p b ≡ false → form before (b ∷ more) ≡ false)
+    → (bytes : List ℕ) (before offset : ℕ) → ((k : ℕ) → k < length bytes → ¬ (p (slice_index bytes k) ≡ true))
+    → counted_on form None before offset bytes ≡ None
+none_counted form p never [] before offset h = refl
+none_counted form p never (b ∷ bytes) before offset h =
+    rw (never before b bytes (none_passes (p b) (h 0 (omega arith))))
+    (none_counted form p never bytes b (offset + 1) (λ k lt. h (suc k) (omega (arith, lt))))
+
+no_pair : (b second : ℕ) → is_byte2 0xC2 0xC3 b ≡ false → is_pair b second ≡ false
+no_pair b second h = grind (arith, nat_tests)
+
+-- without the first byte of a pair there are none
+pub no_pairs : (before b : ℕ) (more : List ℕ) → is_byte2 0xC2 0xC3 b ≡ false → pair_of_pairs before (b ∷ more) ≡ false
+no_pairs before b more h = rw (no_pair b (slice_index more 0) h) refl
+
+pub no_wide : (before b : ℕ) (more : List ℕ) → is_byte 0xE2 b ≡ false → wide_character before (b ∷ more) ≡ false
+no_wide before b more h = rw h refl
+
+nat_le-false : (n : ℕ) → 1 ≤ n → nat_le n 0 ≡ false
+nat_le-false n h = grind (arith, nat_tests)
+
+none_of_them : (b : Bool) (least : ℕ) (times : Option Times) → 1 ≤ least → times ≡ None
+    → None ≡ (if b then None else at_least least times)
+none_of_them true least times some none = refl
+none_of_them false least times some none = rw none (few least some)
+  where
+    few : (n : ℕ) → 1 ≤ n → None ≡ at_least n None
+    few n some = rw (nat_le-false n some) refl
+
+pub no_pairs_there : (bytes : List ℕ) (r : Option ℕ) → IsFirstByte (is_byte2 0xC2 0xC3) bytes r → is_some r ≡ false
+    → None ≡ converted bytes
+no_pairs_there bytes (Some k) h e = absurd (true≢false e)
+no_pairs_there bytes None h e =
+    none_of_them (comes_in other_high 0x00 bytes) 8 (times_of pair_of_pairs bytes) (omega arith)
+    (none_counted pair_of_pairs (is_byte2 0xC2 0xC3) no_pairs bytes 0 0 (λ k lt. h k (omega arith) lt))
+
+pub no_wide_there : (bytes : List ℕ) (r : Option ℕ) → IsFirstByte (is_byte 0xE2) bytes r → is_some r ≡ false
+    → None ≡ wide_characters bytes
+no_wide_there bytes (Some k) h e = absurd (true≢false e)
+no_wide_there bytes None h e =
+    sym (none_counted wide_character (is_byte 0xE2) no_wide bytes 0 0 (λ k lt. h k (omega arith) lt))

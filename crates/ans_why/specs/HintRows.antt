@@ -1,5 +1,5 @@
 -- What is said in the hints that are counted.
-use Rattle.std.specs.Prelude.{ℕ, ◌==◌, List, [], codes, if◌then◌else◌}
+use Rattle.std.specs.Prelude.{ℕ, ◌==◌, List, [], codes, if◌then◌else◌, Bool, ◌++◌}
 use Rattle.ans_why.specs.declared.hint_rows.HintRow.{HintRow}
 use Rattle.ans_why.specs.declared.hint_rows.Wording.{Wording}
 
@@ -57,15 +57,20 @@ seen_as_black = record {
 abbrev hint : List ℕ → List ℕ → Words → Hint
 hint one more advice = record { before = []; what = record { one = one; more = more }; advice = advice }
 
-abbrev pub bare_line_feeds : Hint
-bare_line_feeds =
-    hint (codes "bare line feed makes a staircase") (codes "bare line feeds make a staircase")
-    (always (codes ": --crlf"))
+-- the flag, or both if only some need it
+abbrev pub mixed_advice : Bool → List ℕ → Words
+mixed_advice mixed flag = always (if mixed then flag ++ codes " --mixed" else flag)
 
-abbrev pub ended_rows : Hint
-ended_rows =
+abbrev pub bare_line_feeds : Bool → Hint
+bare_line_feeds mixed =
+    hint (codes "bare line feed makes a staircase") (codes "bare line feeds make a staircase")
+    (mixed_advice mixed (codes ": --crlf"))
+
+abbrev pub ended_rows : Bool → Hint
+ended_rows mixed =
     hint (codes "full row is followed by a line end and leaves a blank row")
-    (codes "full rows are followed by a line end and leave a blank row") (always (codes ": --join-rows"))
+    (codes "full rows are followed by a line end and leave a blank row")
+    (mixed_advice mixed (codes ": --join-rows"))
 
 abbrev pub rows_over : Words
 rows_over = record { one = codes "row is wider than the screen"; more = codes "rows are wider than the screen" }
@@ -131,7 +136,3 @@ abbrev pub lone_returns : Hint
 lone_returns =
     hint (codes "return comes without a line feed") (codes "returns come without line feeds")
     (record { one = codes ": put 0Ah after it"; more = codes ": put 0Ah after each" })
-
-abbrev pub capital_latin : Hint
-capital_latin =
-    hint (codes "letter after a capital looks like Latin-1") (codes "letters after a capital look like Latin-1") convert

@@ -1,5 +1,5 @@
 -- The lines of hints.
-use Rattle.std.specs.Prelude.{ℕ, ◌==◌, Bool, true, false, List, [], ◌++◌, codes, decimal, Option, None, Some}
+use Rattle.std.specs.Prelude.{ℕ, ◌==◌, Bool, true, false, not, List, [], ◌++◌, codes, decimal, Option, None, Some}
 use Rattle.std.specs.Prelude.{if◌then◌else◌}
 use Rattle.ans_model.specs.Text.Characters.{shown_bytes}
 use Rattle.ans_model.specs.Text.FaultText.{line_of}
@@ -7,7 +7,7 @@ use Rattle.ans_why.specs.Fonts.{font_name, has_other_code_page, is_latin_font}
 use Rattle.ans_why.specs.HintRows.{Hint, Words, words_for}
 use Rattle.ans_why.specs.HintRows as row
 use Rattle.ans_hints.specs.Hints.{much_dark}
-use Rattle.ans_hints.specs.RowEnds.{wider_rows}
+use Rattle.ans_hints.specs.RowEnds.{are_all_ended, wider_rows}
 use Rattle.ans_hints.specs.declared.hints.Hints.{Hints}
 use Rattle.ans_hints.specs.declared.row_ends.WiderRows.{WiderRows}
 use Rattle.ans_pens.specs.declared.times.Times.{Times}
@@ -60,8 +60,8 @@ empty_rows_line rows =
 -- the hints of rows, of wider ones only these
 abbrev pub row_hints : Hints → Option WiderRows → List ℕ
 row_hints hints wider =
-    counted_line row.bare_line_feeds hints.loose_line_feeds
-    ++ (counted_line row.ended_rows hints.row_ends.ended
+    counted_line (row.bare_line_feeds hints.row_ends.returns) hints.loose_line_feeds
+    ++ (counted_line (row.ended_rows (not (are_all_ended hints.row_ends))) hints.row_ends.ended
     ++ (wider_line wider ++ counted_line row.overprints hints.row_ends.overprints))
 
 -- letters of Latin-1, unless the font in the record's field has them
@@ -105,7 +105,7 @@ abbrev pub mark_line : Bool → List ℕ
 mark_line true = hint_line (codes "the file begins with EF BB BF, the mark of UTF-8: remove these bytes")
 mark_line false = []
 
--- what seems to have happened to a text on its way, except for letters
+-- what seems to have happened to a text on its way
 abbrev pub text_lines : TextDamage → List ℕ
 text_lines damage =
     counted_line row.lost_escapes (lost_told damage)
@@ -113,8 +113,3 @@ text_lines damage =
     ++ (counted_line row.short_escapes damage.short_escapes
     ++ (counted_line row.converted damage.converted
     ++ (counted_line row.lone_returns damage.returns ++ mark_line damage.mark))))
-
--- and letters, by the record's field of the font
-abbrev pub damage_lines : TextDamage → List ℕ → List ℕ
-damage_lines damage field =
-    text_lines damage ++ counted_line row.capital_latin (latin_told field damage.capital_latin)

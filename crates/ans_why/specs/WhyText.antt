@@ -21,10 +21,12 @@ pub use Rattle.ans_report.specs.Counted.{counted_text}
 use Rattle.ans_report.specs.FaultTold.{fault_told}
 pub use Rattle.ans_report.specs.Quoted.{quoted, quoted_byte}
 use Rattle.ans_hints.specs.Hints.{are_torn}
+use Rattle.ans_hints.specs.OtherWidths.{has_other_widths}
+use Rattle.std.specs.Prelude.{◌||◌}
 use Rattle.ans_hints.specs.declared.hints.Hints.{Hints}
 use Rattle.ans_pens.specs.declared.times.Times.{Times}
 use Rattle.ans_why.specs.HintRows.{wide_characters}
-use Rattle.ans_why.specs.HintsText.{counted_line, damage_lines, hints_text, pass_hints_text, text_lines}
+use Rattle.ans_why.specs.HintsText.{counted_line, hints_text, pass_hints_text, text_lines}
 use Rattle.ans_why.specs.WidthsText.{widths_lines}
 use Rattle.ans_why.specs.Known.{known_behind_end_mark, known_text}
 use Rattle.ans_why.specs.OtherFiles.{first_known, known_file}
@@ -156,6 +158,10 @@ enough_lines damage None = []
 enough_lines damage (Some e) =
     hints_text (hints_beside damage e.hints) e.font.now ++ lines_line (Some e.lines) (are_torn e.hints)
 
+-- the rows look broken, or like those of a drawing for another width
+abbrev pub looks_torn : Refusal → Bool
+looks_torn r = are_torn r.hints || has_other_widths r.widths
+
 -- characters of UTF-8 in three bytes, unless the hints report them
 abbrev pub wide_told : RecordRefusal → Option Times
 wide_told said = if is_some said.enough then None else said.damage.wide_characters
@@ -191,7 +197,7 @@ pass_lines parts pass =
     ++ (players_lines pass.needs pass.players
     ++ (taller_line pass.taller
     ++ (fix_line (is_fixed pass.reliance)
-    ++ (damage_lines pass.damage (font_of parts)
+    ++ (text_lines pass.damage
     ++ (pass_hints_text (hints_beside pass.damage pass.hints) (font_of parts)
     ++ (widths_lines (size_of parts) pass.widths ++ remedy_line pass.players)))))))))
 
@@ -204,9 +210,9 @@ refusal_lines parts r =
     fault_lines r.fault r.bytes.now
     ++ (known_line (first_known r.known (known_file (content_of parts)))
     ++ (named_line (codes "cursor") (place_text r.cursor)
-    ++ (damage_lines r.damage (font_of parts)
+    ++ (text_lines r.damage
     ++ (hints_text (hints_beside r.damage (told_hints r)) (font_of parts)
-    ++ (widths_lines (size_of parts) r.widths ++ lines_line r.lines (are_torn r.hints))))))
+    ++ (widths_lines (size_of parts) r.widths ++ lines_line r.lines (looks_torn r))))))
 
 -- the size, and what is odd about the record
 abbrev pub heading_lines : Parts → List ℕ

@@ -1,7 +1,7 @@
 //! What is said in the hints that are counted: a row for each, in their order.
 
 ghost use Rattle.std.specs.Prelude.{◌≡◌};
-ghost use Rattle.ans_why.specs.HintRows.{words_for, words_of};
+ghost use Rattle.ans_why.specs.HintRows.{bare_line_feeds, ended_rows, hint_of, words_for, words_of};
 
 /// A text for one thing, and a text for more of them.
 #[derive(Clone, Copy)]
@@ -20,6 +20,7 @@ impl Wording {
 }
 
 /// What a hint says: what comes before the number of times and after it, and the advice after the offset.
+#[derive(Clone, Copy)]
 pub(crate) struct HintRow {
     pub(crate) before: &'static [u8],
     pub(crate) what: Wording,
@@ -37,31 +38,55 @@ const CONVERT: Wording = Wording {
     more: b": convert the text to code page 437",
 };
 
-/// Line feeds without a return.
-pub(crate) const BARE_LINE_FEEDS: HintRow = HintRow {
-    before: b"",
-    what: Wording {
-        one: b"bare line feed makes a staircase",
-        more: b"bare line feeds make a staircase",
-    },
-    advice: Wording {
-        one: b": --crlf",
-        more: b": --crlf",
-    },
+/// What to do with line feeds without a return, or with some of them.
+const CRLF: Wording = Wording {
+    one: b": --crlf",
+    more: b": --crlf",
 };
 
-/// Full rows with a line end.
-pub(crate) const ENDED_ROWS: HintRow = HintRow {
-    before: b"",
-    what: Wording {
-        one: b"full row is followed by a line end and leaves a blank row",
-        more: b"full rows are followed by a line end and leave a blank row",
-    },
-    advice: Wording {
-        one: b": --join-rows",
-        more: b": --join-rows",
-    },
+const SOME_CRLF: Wording = Wording {
+    one: b": --crlf --mixed",
+    more: b": --crlf --mixed",
 };
+
+/// What to do with full rows that have a line end, or with some of them.
+const JOIN_ROWS: Wording = Wording {
+    one: b": --join-rows",
+    more: b": --join-rows",
+};
+
+const SOME_JOIN_ROWS: Wording = Wording {
+    one: b": --join-rows --mixed",
+    more: b": --join-rows --mixed",
+};
+
+/// Line feeds without a return; whether others have one.
+pub(crate) fn bare_line_feeds(mixed: bool) -> HintRow
+    ensures { hint_of result ≡ bare_line_feeds mixed }
+{
+    HintRow {
+        before: b"",
+        what: Wording {
+            one: b"bare line feed makes a staircase",
+            more: b"bare line feeds make a staircase",
+        },
+        advice: if mixed { SOME_CRLF } else { CRLF },
+    }
+}
+
+/// Full rows with a line end; whether others have none.
+pub(crate) fn ended_rows(mixed: bool) -> HintRow
+    ensures { hint_of result ≡ ended_rows mixed }
+{
+    HintRow {
+        before: b"",
+        what: Wording {
+            one: b"full row is followed by a line end and leaves a blank row",
+            more: b"full rows are followed by a line end and leave a blank row",
+        },
+        advice: if mixed { SOME_JOIN_ROWS } else { JOIN_ROWS },
+    }
+}
 
 /// Rows of a drawing for more columns.
 pub(crate) const ROWS_OVER: Wording = Wording {
@@ -218,14 +243,4 @@ pub(crate) const LONE_RETURNS: HintRow = HintRow {
         one: b": put 0Ah after it",
         more: b": put 0Ah after each",
     },
-};
-
-/// Letters of Latin-1 after a capital.
-pub(crate) const CAPITAL_LATIN: HintRow = HintRow {
-    before: b"",
-    what: Wording {
-        one: b"letter after a capital looks like Latin-1",
-        more: b"letters after a capital look like Latin-1",
-    },
-    advice: CONVERT,
 };

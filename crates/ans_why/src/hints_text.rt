@@ -3,16 +3,16 @@
 ghost use Rattle.std.specs.Prelude.{◌≡◌};
 ghost use Rattle.ans_why.specs.HintsText.{colour_hints, empty_rows_line, font_line, foreign_hints, hints_text};
 ghost use Rattle.ans_why.specs.HintsText.{counted_line, counted_words, latin_told, row_hints, wider_line};
-ghost use Rattle.ans_why.specs.HintsText.{damage_lines, mark_line, pass_hints_text, text_lines};
+ghost use Rattle.ans_why.specs.HintsText.{mark_line, pass_hints_text, text_lines};
 ghost use Rattle.ans_why.specs.HintsText.{told_text, wider_told};
 ghost use Rattle.ans_why.specs.HintRows.{hint_of, words_of};
 ghost use Rattle.ans_write.specs.Puts.{Puts};
 
 use crate::font::{font_name, has_other_code_page, is_latin_font};
 use crate::hint_rows::{
-    BARE_LINE_FEEDS, BLINKING, BOARD_CODES, CAPITAL_LATIN, CONVERTED, DARK_GREY, ENDED_ROWS,
-    HintRow, LATIN_LETTERS, LONE_RETURNS, LOST_ESCAPES, MODERN_COLOURS, OVERPRINTS, ROWS_OVER,
-    SHORT_ESCAPES, SHOWN_ESCAPES, TWO_BYTE_LETTERS, WIDE_CHARACTERS, Wording,
+    BLINKING, BOARD_CODES, CONVERTED, DARK_GREY, HintRow, LATIN_LETTERS, LONE_RETURNS,
+    LOST_ESCAPES, MODERN_COLOURS, OVERPRINTS, ROWS_OVER, SHORT_ESCAPES, SHOWN_ESCAPES,
+    TWO_BYTE_LETTERS, WIDE_CHARACTERS, Wording, bare_line_feeds, ended_rows,
 };
 use crate::text_damage::TextDamage;
 use ans_hints::{Hints, WiderRows};
@@ -98,8 +98,16 @@ fn put_wider_line<W: Write>(out: &mut Outbox<'_, W>, rows: Option<WiderRows>)
 fn put_row_hints<W: Write>(out: &mut Outbox<'_, W>, hints: &Hints, wider: Option<WiderRows>)
     ensures { Puts W.contents out.old out.new (row_hints hints.now wider) }
 {
-    put_counted_line(out, &BARE_LINE_FEEDS, hints.loose_line_feeds);
-    put_counted_line(out, &ENDED_ROWS, hints.row_ends.ended);
+    put_counted_line(
+        out,
+        &bare_line_feeds(hints.row_ends.returns),
+        hints.loose_line_feeds,
+    );
+    put_counted_line(
+        out,
+        &ended_rows(!hints.row_ends.are_all_ended()),
+        hints.row_ends.ended,
+    );
     put_wider_line(out, wider);
     put_counted_line(out, &OVERPRINTS, hints.row_ends.overprints);
 }
@@ -183,8 +191,8 @@ fn put_mark_line<W: Write>(out: &mut Outbox<'_, W>, mark: bool)
     }
 }
 
-/// Puts a line for each thing that seems to have happened to a text on its way, except for letters.
-pub(crate) fn put_text_damage<W: Write>(out: &mut Outbox<'_, W>, damage: &TextDamage)
+/// Puts a line for each thing that seems to have happened to a text on its way.
+pub fn put_damage<W: Write>(out: &mut Outbox<'_, W>, damage: &TextDamage)
     ensures { Puts W.contents out.old out.new (text_lines damage.now) }
 {
     put_counted_line(out, &LOST_ESCAPES, damage.lost_told());
@@ -193,17 +201,4 @@ pub(crate) fn put_text_damage<W: Write>(out: &mut Outbox<'_, W>, damage: &TextDa
     put_counted_line(out, &CONVERTED, damage.converted);
     put_counted_line(out, &LONE_RETURNS, damage.returns);
     put_mark_line(out, damage.mark);
-}
-
-/// Puts a line for each thing that seems to have happened to a text on its way, and one on letters of Latin-1 after a
-/// capital, unless the record's field names a font that has them.
-pub fn put_damage<W: Write>(out: &mut Outbox<'_, W>, damage: &TextDamage, font_field: &[u8])
-    ensures { Puts W.contents out.old out.new (damage_lines damage.now font_field.now) }
-{
-    put_text_damage(out, damage);
-    put_counted_line(
-        out,
-        &CAPITAL_LATIN,
-        latin_told(font_field, damage.capital_latin),
-    );
 }

@@ -1,20 +1,17 @@
 //! Damage on the way of a text, by the forms of its bytes.
 
-ghost use Rattle.std.specs.Prelude.{◌≡◌, ◌≤◌, ◌<◌, ◌+◌, ◌==◌, ◌∷◌, ℕ, List, false, length};
-ghost use Rattle.std.specs.List.{list_any};
+ghost use Rattle.std.specs.Prelude.{◌≡◌, ◌≤◌, ℕ, drop, length};
+ghost use Rattle.std.specs.List.{count_by, list_any, position};
 ghost use Rattle.ans_model.specs.Bytes.{longest_file};
-ghost use Rattle.ans_pens.specs.Counted.{count_of, counted};
-ghost use Rattle.ans_hints.specs.Conditions.{is_latin_letter, is_small_letter};
-ghost use Rattle.ans_why.specs.TextDamage.{AreAdded, AreCounts, AreWithin, BeginsNone, IsDamage};
-ghost use Rattle.ans_why.specs.TextDamage.{at_least, begins_with_mark};
-ghost use Rattle.ans_why.specs.TextDamage.{capital_latin, converted};
-ghost use Rattle.ans_why.specs.TextDamage.{has_other_high, is_pair, lone_returns, lost_escape, lost_told};
-ghost use Rattle.ans_why.specs.TextDamage.{pair_of_pairs, return_here, short_escape, shown_escape, times_of};
-ghost use Rattle.ans_why.specs.TextDamage.{wide_character};
+ghost use Rattle.ans_why.specs.TextDamage.{IsDamage, at_least, begins_with_mark, comes_in, converted, form_of, is_escape};
+ghost use Rattle.ans_why.specs.TextDamage.{is_line_feed, is_pair, is_return, lone_returns, lone_returns_from, lost_escape};
+ghost use Rattle.ans_why.specs.TextDamage.{lost_told, moves_row, other_high, pair_of_pairs, shown_escape, times_of};
+ghost use Rattle.ans_why.specs.TextDamage.{times_unless, wide_character, wide_characters};
 
 use FormPiece::{Byte, Digits, Either, Parameters};
 use ans_forms::{FormPiece, begins_with_form};
 use ans_pens::times::{Times, count, count_of};
+use memchr::{memchr, memchr2};
 
 /// Colours or a place, without the ESC: `[`, numbers, and `m` or `H`.
 const COLOURS_OR_PLACE: [FormPiece; 4] = [Byte(b'['), Digits, Parameters, Either(b'm', b'H')];
@@ -45,74 +42,49 @@ const ARROW: [FormPiece; 6] = [
 /// Colours with 9Bh in place of ESC and `[`.
 const SHORT: [FormPiece; 4] = [Byte(0x9B), Digits, Parameters, Byte(b'm')];
 
+/// A place: `ESC[`, numbers or none, and `H` or `f`.
+const PLACE: [FormPiece; 4] = [Byte(0x1B), Byte(b'['), Parameters, Either(b'H', b'f')];
+
+/// A move up or down: `ESC[`, a number or none, and `A` or `B`.
+const UP_OR_DOWN: [FormPiece; 4] = [Byte(0x1B), Byte(b'['), Parameters, Either(b'A', b'B')];
+
+/// A form of bytes that is looked for.
+#[derive(Debug, Clone, Copy, PartialEq, Eq)]
+enum Sought {
+    Lost,
+    Shown,
+    Short,
+    Pairs,
+    Wide,
+    OtherHigh,
+    MovesRow,
+}
+
 /// What seems to have happened to a content on its way as a text. None is no damage. Offsets are in bytes from the
 /// content's start.
 #[derive(Debug, Clone, Copy, PartialEq, Eq)]
 pub struct TextDamage {
-    /// Sequences without their ESC, at least 4.
+    /// Sequences without their ESC in a content without ESC, at least 4.
     pub lost_escapes: Option<Times>,
-    /// Sequences with `^[` or `<-` in place of ESC, at least 2.
+    /// Sequences with `^[` or `<-` in place of ESC in a content without ESC, at least 2.
     pub shown_escapes: Option<Times>,
-    /// Sequences with 9Bh in place of ESC and `[`, at least 2.
+    /// Sequences with 9Bh in place of ESC and `[` in a content without ESC, at least 2.
     pub short_escapes: Option<Times>,
-    /// Characters of Latin-1 in UTF-8, each followed by another, at least 8, in a content without other bytes
-    /// above 7Fh.
+    /// Characters of Latin-1 in UTF-8, each followed by another, at least 8, in a content without other bytes above 7Fh.
     pub converted: Option<Times>,
     /// Characters of UTF-8 in three bytes: blocks, boxes and arrows.
     pub wide_characters: Option<Times>,
-    /// Letters of Latin-1 between a capital and a small letter.
-    pub capital_latin: Option<Times>,
-    /// Returns in a content without line feeds, at least 4.
+    /// Returns in a content without line feeds, at least 4, if no sequence after the first one takes the cursor to
+    /// another row.
     pub returns: Option<Times>,
     /// Whether the content begins with the mark of UTF-8.
     pub mark: bool,
 }
 
-/// How often each form comes in the bytes before.
-#[derive(Clone, Copy)]
-struct Counts {
-    lost: Option<Times>,
-    shown: Option<Times>,
-    short: Option<Times>,
-    pairs: Option<Times>,
-    wide: Option<Times>,
-    latin: Option<Times>,
-    returns: Option<Times>,
-}
-
-impl Counts {
-    const NONE: Counts = Counts {
-        lost: None,
-        shown: None,
-        short: None,
-        pairs: None,
-        wide: None,
-        latin: None,
-        returns: None,
-    };
-
-    /// With the forms that begin with these bytes, after that one.
-    fn add(&mut self, before: u8, bytes: &[u8], offset: usize)
-        requires within { AreWithin self.old offset }
-        requires room { offset < longest_file }
-        ensures within { AreWithin self.new (offset + 1) }
-        ensures added { AreAdded before bytes.now offset self.old self.new }
-    {
-        count(&mut self.lost, is_lost_escape(before, bytes), offset);
-        count(&mut self.shown, is_shown_escape(bytes), offset);
-        count(&mut self.short, begins_with_form(bytes, &SHORT), offset);
-        count(&mut self.pairs, is_pair_of_pairs(bytes), offset);
-        count(&mut self.wide, is_wide_character(bytes), offset);
-        count(&mut self.latin, is_capital_latin(before, bytes), offset);
-        count(&mut self.returns, is_return(bytes), offset);
-    }
-}
-
-fn is_lost_escape(before: u8, bytes: &[u8]) -> bool
-    ensures { result ≡ lost_escape before bytes.now }
+fn is_lost_escape(bytes: &[u8]) -> bool
+    ensures { (before : ℕ) → result ≡ lost_escape before bytes.now }
 {
-    before != 0x1B
-        && (begins_with_form(bytes, &COLOURS_OR_PLACE) || begins_with_form(bytes, &CLEAR_OR_RIGHT))
+    begins_with_form(bytes, &COLOURS_OR_PLACE) || begins_with_form(bytes, &CLEAR_OR_RIGHT)
 }
 
 fn is_shown_escape(bytes: &[u8]) -> bool
@@ -142,63 +114,73 @@ fn is_wide_character(bytes: &[u8]) -> bool
     matches!(bytes, [0xE2, 0x80..=0xAF, 0x80..=0xBF, ..])
 }
 
-fn is_latin_letter(byte: u8) -> bool
-    ensures { result ≡ is_latin_letter byte }
-{
-    matches!(byte, 0xE4 | 0xE8..=0xEA | 0xF1..=0xF4 | 0xF6 | 0xFC)
-}
-
-fn is_small_letter(byte: u8) -> bool
-    ensures { result ≡ is_small_letter byte }
-{
-    matches!(byte, b'a'..=b'z')
-}
-
-fn is_capital_latin(before: u8, bytes: &[u8]) -> bool
-    ensures { result ≡ capital_latin before bytes.now }
+fn is_other_high(before: u8, bytes: &[u8]) -> bool
+    ensures { result ≡ other_high before bytes.now }
 {
     match bytes {
         [first, second, ..] => {
-            matches!(before, b'A'..=b'Z') && is_latin_letter(*first) && is_small_letter(*second)
+            *first >= 0x80 && !is_pair(*first, *second) && !is_pair(before, *first)
         }
-        _ => false,
+        [first] => *first >= 0x80 && !is_pair(before, *first),
+        [] => false,
     }
 }
 
-fn is_return(bytes: &[u8]) -> bool
-    ensures { (before : ℕ) → result ≡ return_here before bytes.now }
+fn is_row_move(bytes: &[u8]) -> bool
+    ensures { (before : ℕ) → result ≡ moves_row before bytes.now }
 {
-    matches!(bytes, [b'\r', ..])
+    begins_with_form(bytes, &PLACE) || begins_with_form(bytes, &UP_OR_DOWN)
 }
 
-/// Whether a form may begin with the second of these bytes. Most bytes of a drawing begin none.
-#[inline(always)]
-fn may_begin(before: u8, first: u8) -> bool
-    ensures { result ≡ false → (rest : List ℕ) → BeginsNone before (first ∷ rest) }
+/// Whether the form begins with these bytes, after that one.
+fn begins(sought: Sought, before: u8, bytes: &[u8]) -> bool
+    ensures { result ≡ form_of sought before bytes.now }
 {
-    match first {
-        b'[' => before != 0x1B,
-        b'^' | b'<' | b'\r' | 0x9B | 0xC2 | 0xC3 | 0xE2 => true,
-        _ => is_latin_letter(first) && matches!(before, b'A'..=b'Z'),
+    match sought {
+        Sought::Lost => is_lost_escape(bytes),
+        Sought::Shown => is_shown_escape(bytes),
+        Sought::Short => begins_with_form(bytes, &SHORT),
+        Sought::Pairs => is_pair_of_pairs(bytes),
+        Sought::Wide => is_wide_character(bytes),
+        Sought::OtherHigh => is_other_high(before, bytes),
+        Sought::MovesRow => is_row_move(bytes),
     }
 }
 
-/// How often each form comes.
-fn count_forms(bytes: &[u8]) -> Counts
+/// How often a form comes, and where first.
+fn count_form(sought: Sought, bytes: &[u8]) -> Option<Times>
     requires { length bytes.now ≤ longest_file }
-    ensures { AreCounts bytes.now result }
+    ensures { result ≡ times_of (form_of sought) bytes.now }
 {
-    let mut counts = Counts::NONE;
+    let mut times = None;
     let mut before = 0;
     let mut rest = bytes;
     'bytes: while let [first, more @ ..] = rest {
-        if may_begin(before, *first) {
-            counts.add(before, rest, bytes.len() - rest.len());
+        count(
+            &mut times,
+            begins(sought, before, rest),
+            bytes.len() - rest.len(),
+        );
+        before = *first;
+        rest = more;
+    }
+    times
+}
+
+/// Whether a form comes anywhere.
+fn has_form(sought: Sought, bytes: &[u8]) -> bool
+    ensures { result ≡ comes_in (form_of sought) 0x00 bytes.now }
+{
+    let mut before = 0;
+    let mut rest = bytes;
+    'bytes: while let [first, more @ ..] = rest {
+        if begins(sought, before, rest) {
+            return true;
         }
         before = *first;
         rest = more;
     }
-    counts
+    false
 }
 
 fn at_least(least: usize, times: Option<Times>) -> Option<Times>
@@ -211,49 +193,92 @@ fn at_least(least: usize, times: Option<Times>) -> Option<Times>
     }
 }
 
-/// Whether one of the bytes is above 7Fh and no part of a character of Latin-1 in UTF-8.
-fn has_other_high(bytes: &[u8]) -> bool
-    ensures { result ≡ has_other_high 0x00 bytes.now }
+/// How often a form comes, if it comes so often at least, and if nothing speaks against it.
+fn times_unless(not: bool, least: usize, sought: Sought, bytes: &[u8]) -> Option<Times>
+    requires { length bytes.now ≤ longest_file }
+    ensures { result ≡ times_unless not least (form_of sought) bytes.now }
 {
-    let mut before = 0;
-    let mut rest = bytes;
-    'bytes: while let [first, more @ ..] = rest {
-        let next = more.first().copied().unwrap_or(0);
-        if *first >= 0x80 && !is_pair(*first, next) && !is_pair(before, *first) {
-            return true;
-        }
-        before = *first;
-        rest = more;
+    if not {
+        return None;
     }
-    false
+    at_least(least, count_form(sought, bytes))
 }
 
-fn converted(bytes: &[u8], pairs: Option<Times>) -> Option<Times>
-    requires { pairs ≡ times_of pair_of_pairs bytes.now }
-    ensures { result ≡ converted bytes.now }
+fn has_escape(bytes: &[u8]) -> bool
+    ensures { result ≡ list_any is_escape bytes.now }
 {
-    if count_of(pairs) < 8 || has_other_high(bytes) {
-        None
-    } else {
-        pairs
-    }
+    memchr(0x1B, bytes).is_some()
 }
 
 fn has_line_feed(bytes: &[u8]) -> bool
-    ensures { result ≡ list_any (λ b. b == 0x0A) bytes.now }
+    ensures { result ≡ list_any is_line_feed bytes.now }
 {
-    bytes.iter().any(|byte| *byte == b'\n')
+    memchr(b'\n', bytes).is_some()
 }
 
-fn lone_returns(bytes: &[u8], returns: Option<Times>) -> Option<Times>
-    requires { returns ≡ times_of return_here bytes.now }
+fn first_return(bytes: &[u8]) -> Option<usize>
+    ensures { result ≡ position is_return bytes.now }
+{
+    memchr(b'\r', bytes)
+}
+
+fn count_returns(bytes: &[u8]) -> usize
+    ensures count { result ≡ count_by is_return bytes.now }
+    ensures within { result ≤ length bytes.now }
+{
+    let mut count = 0;
+    for byte in bytes {
+        if *byte == b'\r' {
+            count += 1;
+        }
+    }
+    count
+}
+
+fn converted(bytes: &[u8]) -> Option<Times>
+    requires { length bytes.now ≤ longest_file }
+    ensures { result ≡ converted bytes.now }
+{
+    if memchr2(0xC2, 0xC3, bytes).is_none() {
+        return None;
+    }
+    times_unless(has_form(Sought::OtherHigh, bytes), 8, Sought::Pairs, bytes)
+}
+
+fn wide_characters(bytes: &[u8]) -> Option<Times>
+    requires { length bytes.now ≤ longest_file }
+    ensures { result ≡ wide_characters bytes.now }
+{
+    if memchr(0xE2, bytes).is_none() {
+        return None;
+    }
+    count_form(Sought::Wide, bytes)
+}
+
+/// The returns from the first one on, in bytes that begin with it at an offset.
+fn lone_returns_from(first: usize, rest: &[u8]) -> Option<Times>
+    ensures { result ≡ lone_returns_from first rest.now }
+{
+    if has_form(Sought::MovesRow, rest) {
+        return None;
+    }
+    at_least(
+        4,
+        Some(Times {
+            count: count_returns(rest),
+            first,
+        }),
+    )
+}
+
+fn lone_returns(bytes: &[u8]) -> Option<Times>
     ensures { result ≡ lone_returns bytes.now }
 {
-    if count_of(returns) < 4 || has_line_feed(bytes) {
-        None
-    } else {
-        returns
+    if has_line_feed(bytes) {
+        return None;
     }
+    let first = first_return(bytes)?;
+    lone_returns_from(first, &bytes[first..])
 }
 
 fn begins_with_mark(bytes: &[u8]) -> bool
@@ -263,20 +288,20 @@ fn begins_with_mark(bytes: &[u8]) -> bool
 }
 
 impl TextDamage {
-    /// What seems to have happened to a content. It takes no memory, and reads the bytes once, seldom three times.
+    /// What seems to have happened to a content. It takes no memory. Of a content that has ESC and a line feed it
+    /// mostly reads no more than a search for some bytes does.
     pub fn of(content: &[u8]) -> TextDamage
         requires { length content.now ≤ longest_file }
         ensures { IsDamage content.now result }
     {
-        let counts = count_forms(content);
+        let is_escaped = has_escape(content);
         TextDamage {
-            lost_escapes: at_least(4, counts.lost),
-            shown_escapes: at_least(2, counts.shown),
-            short_escapes: at_least(2, counts.short),
-            converted: converted(content, counts.pairs),
-            wide_characters: counts.wide,
-            capital_latin: counts.latin,
-            returns: lone_returns(content, counts.returns),
+            lost_escapes: times_unless(is_escaped, 4, Sought::Lost, content),
+            shown_escapes: times_unless(is_escaped, 2, Sought::Shown, content),
+            short_escapes: times_unless(is_escaped, 2, Sought::Short, content),
+            converted: converted(content),
+            wide_characters: wide_characters(content),
+            returns: lone_returns(content),
             mark: begins_with_mark(content),
         }
     }

@@ -9,13 +9,12 @@ ghost use Rattle.ans_report.specs.Counted.{counted_text};
 ghost use Rattle.ans_why.specs.WhyText.{blamed_text, blamed_line, fault_lines, place_text, cell_text, shown_lines};
 ghost use Rattle.ans_why.specs.WhyText.{reliance_lines, verdict_words, taller_line, is_fixed, fix_line, lines_line};
 ghost use Rattle.ans_why.specs.WhyText.{after_end_mark_text, enough_lines, heading_lines, known_found, known_line};
-ghost use Rattle.ans_hints.specs.Hints.{are_torn};
 ghost use Rattle.ans_why.specs.OtherFiles.{first_known, known_file};
 ghost use Rattle.ans_why.specs.WhyText.{found_line, pass_lines, refusal_lines, told_hints, torn_text, why_text};
-ghost use Rattle.ans_why.specs.WhyText.{file_lines, hints_beside, returns_text, wide_told};
+ghost use Rattle.ans_why.specs.WhyText.{file_lines, hints_beside, looks_torn, returns_text, wide_told};
 
 use crate::hint_rows::WIDE_CHARACTERS;
-use crate::hints_text::{put_counted_line, put_damage, put_hints, put_pass_hints, put_text_damage};
+use crate::hints_text::{put_counted_line, put_damage, put_hints, put_pass_hints};
 use crate::known_bytes::{Known, known_behind_end_mark};
 use crate::other_files::known_file;
 use crate::players_text::{is_same_class, put_players, put_remedy_line};
@@ -200,7 +199,7 @@ fn put_pass<W: Write>(out: &mut Outbox<'_, W>, parts: &Parts<'_>, pass: &Pass<'_
     put_players(out, pass.needs, &pass.players);
     put_taller_line(out, pass.taller);
     put_fix_line(out, is_fixed(pass.reliance));
-    put_damage(out, &pass.damage, parts.sauce().font());
+    put_damage(out, &pass.damage);
     put_pass_hints(
         out,
         &hints_beside(&pass.damage, pass.hints),
@@ -238,16 +237,23 @@ fn torn_text(torn: bool) -> &'static [u8]
     }
 }
 
-fn put_lines_line<W: Write>(out: &mut Outbox<'_, W>, lines: Option<u16>, hints: &Hints)
-    ensures { Puts W.contents out.old out.new (lines_line lines (are_torn hints.now)) }
+fn put_lines_line<W: Write>(out: &mut Outbox<'_, W>, lines: Option<u16>, torn: bool)
+    ensures { Puts W.contents out.old out.new (lines_line lines torn) }
 {
     let Some(lines) = lines else {
         return;
     };
     out.put(b"lines: ");
     out.put_decimal(lines as u64);
-    out.put(torn_text(hints.are_torn()));
+    out.put(torn_text(torn));
     out.put(b"\n");
+}
+
+/// Whether the rows of a refusal look broken, or those of a drawing for another width.
+fn looks_torn(refusal: &Refusal<'_>) -> bool
+    ensures { result ≡ looks_torn refusal.now }
+{
+    refusal.hints.are_torn() || refusal.widths.are_some()
 }
 
 /// The hints of a refusal that are printed: none on empty rows, unless all of the content is played.
@@ -269,14 +275,14 @@ fn put_refused<W: Write>(out: &mut Outbox<'_, W>, parts: &Parts<'_>, refusal: &R
     put_fault_lines(out, &refusal.fault, refusal.bytes);
     put_known_line(out, first_known(refusal.known, known_file(parts.content())));
     put_place_line(out, b"cursor", refusal.cursor);
-    put_damage(out, &refusal.damage, parts.sauce().font());
+    put_damage(out, &refusal.damage);
     put_hints(
         out,
         &hints_beside(&refusal.damage, told_hints(refusal)),
         parts.sauce().font(),
     );
     put_widths(out, parts.size(), &refusal.widths);
-    put_lines_line(out, refusal.lines, &refusal.hints);
+    put_lines_line(out, refusal.lines, looks_torn(refusal));
 }
 
 fn put_count<W: Write>(out: &mut Outbox<'_, W>, count: u64, thing: &[u8], what: &[u8])
@@ -407,7 +413,7 @@ fn put_enough<W: Write>(out: &mut Outbox<'_, W>, damage: &TextDamage, enough: Op
         return;
     };
     put_hints(out, &hints_beside(damage, enough.hints), enough.font);
-    put_lines_line(out, Some(enough.lines), &enough.hints);
+    put_lines_line(out, Some(enough.lines), enough.hints.are_torn());
 }
 
 /// Characters of UTF-8 in three bytes, unless the hints report them.
@@ -424,7 +430,7 @@ fn wide_told(said: &RecordRefusal<'_>) -> Option<Times>
 fn put_file_damage<W: Write>(out: &mut Outbox<'_, W>, said: &RecordRefusal<'_>)
     ensures { Puts W.contents out.old out.new (file_lines said.now) }
 {
-    put_text_damage(out, &said.damage);
+    put_damage(out, &said.damage);
     put_counted_line(out, &WIDE_CHARACTERS, wide_told(said));
 }
 

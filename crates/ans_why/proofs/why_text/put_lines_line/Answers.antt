@@ -1,5 +1,4 @@
 use Rattle.std.proofs.Common.{decimal, sym, ap, ◌∙◌}
-use Rattle.ans_hints.specs.Hints.{are_torn}
 use Rattle.ans_write.proofs.PutsLemmas.{Puts-same, Puts-then}
 use Rattle.ans_why.specs.WhyText.{lines_line, torn_text}
 use Rattle.ans_why.proofs.WhyLines.{lines_line_is}
@@ -7,8 +6,7 @@ use Rattle.ans_why.proofs.why_text.put_lines_line.Goals as goal
 
 pub returns : goal.returns
 returns g c =
-    let torn = are_torn c.args.hints.now in
-    Puts-same (lines_line_is (decimal c.in-Some.lines) (torn_text torn)
-    ∙ sym (ap (λ o. lines_line o torn) c.in-Some.is))
+    Puts-same (lines_line_is (decimal c.in-Some.lines) (torn_text c.args.torn)
+    ∙ sym (ap (λ o. lines_line o c.args.torn) c.in-Some.is))
     (Puts-then c.put.ensures (Puts-then c.put_decimal.ensures
-    (Puts-then (Puts-same (c.torn_text.ensures ∙ ap torn_text c.are_torn.ensures) c.put-2.ensures) c.put-3.ensures)))
+    (Puts-then (Puts-same c.torn_text.ensures c.put-2.ensures) c.put-3.ensures)))

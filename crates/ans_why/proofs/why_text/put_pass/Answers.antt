@@ -11,7 +11,6 @@ returns g c =
     let verdict : c.verdict_words.result.now ≡ verdict_words c.args.pass.now.needs = search rules in
     let fixed : c.is_fixed.result ≡ is_fixed c.args.pass.now.reliance = search rules in
     let font : c.font.result.now ≡ font_of c.args.parts.now = search rules in
-    let font-2 : c.font-2.result.now ≡ font_of c.args.parts.now = search rules in
     let known : c.known_file.result ≡ known_file (content_of c.args.parts.now) =
     c.known_file.ensures ∙ ap known_file c.content.ensures in
     Puts-then (rw verdict at c.put_named_line.ensures)
@@ -21,6 +20,6 @@ returns g c =
     (Puts-then c.put_players.ensures
     (Puts-then c.put_taller_line.ensures
     (Puts-then (rw fixed at c.put_fix_line.ensures)
-    (Puts-then (rw font at c.put_damage.ensures)
-    (Puts-then (Puts-same (ap₂ pass_hints_text c.hints_beside.ensures font-2) c.put_pass_hints.ensures)
+    (Puts-then c.put_damage.ensures
+    (Puts-then (Puts-same (ap₂ pass_hints_text c.hints_beside.ensures font) c.put_pass_hints.ensures)
     (Puts-then (rw c.size.ensures at c.put_widths.ensures) c.put_remedy_line.ensures)))))))))

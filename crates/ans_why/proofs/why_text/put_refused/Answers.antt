@@ -9,7 +9,6 @@ use Rattle.ans_why.proofs.why_text.put_refused.Goals as goal
 pub returns : goal.returns
 returns g c =
     let font : c.font.result.now ≡ font_of c.args.parts.now = search rules in
-    let font-2 : c.font-2.result.now ≡ font_of c.args.parts.now = search rules in
     let of_file : c.known_file.result ≡ known_file (content_of c.args.parts.now) =
     c.known_file.ensures ∙ ap known_file c.content.ensures in
     let known = c.first_known.ensures ∙ ap (first_known c.args.refusal.now.known) of_file in
@@ -18,6 +17,6 @@ returns g c =
     Puts-then c.put_fault_lines.ensures
     (Puts-then (Puts-same (ap known_line known) c.put_known_line.ensures)
     (Puts-then c.put_place_line.ensures
-    (Puts-then (rw font at c.put_damage.ensures)
-    (Puts-then (Puts-same (ap₂ hints_text hints font-2) c.put_hints.ensures)
+    (Puts-then c.put_damage.ensures
+    (Puts-then (Puts-same (ap₂ hints_text hints font) c.put_hints.ensures)
     (Puts-then (rw c.size.ensures at c.put_widths.ensures) c.put_lines_line.ensures)))))
