@@ -86,12 +86,13 @@ fn put_wider_line<W: Write>(out: &mut Outbox<'_, W>, rows: Option<WiderRows>)
     let Some(rows) = rows else {
         return;
     };
+    let columns = rows.columns as u64;
     out.put(b"hint: ");
     put_counted_words(out, ROWS_OVER, rows.times);
     out.put(b"; they need at least ");
-    out.put_decimal(rows.columns as u64);
+    out.put_decimal(columns);
     out.put(b" columns: --columns ");
-    out.put_decimal(rows.columns as u64);
+    out.put_decimal(columns);
     out.put(b"\n");
 }
 
