@@ -8,4 +8,4 @@ pub returns : goal.returns
 returns g c =
     let told = ap (λ hints. hints_text hints c.in-Some.enough.font.now) c.hints_beside.ensures in
     Puts-same (sym (ap (enough_lines c.args.damage.now) c.in-Some.is))
-    (Puts-then (Puts-same told c.put_hints.ensures) c.put_lines_line.ensures)
+    (Puts-then (Puts-same told c.put_hints.ensures) (rw c.are_torn.ensures at c.put_lines_line.ensures))

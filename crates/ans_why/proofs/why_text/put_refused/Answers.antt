@@ -19,4 +19,4 @@ returns g c =
     (Puts-then c.put_place_line.ensures
     (Puts-then c.put_damage.ensures
     (Puts-then (Puts-same (ap₂ hints_text hints font) c.put_hints.ensures)
-    (Puts-then (rw c.size.ensures at c.put_widths.ensures) c.put_lines_line.ensures)))))
+    (Puts-then (rw c.size.ensures at c.put_widths.ensures) (rw c.looks_torn.ensures at c.put_lines_line.ensures))))))
