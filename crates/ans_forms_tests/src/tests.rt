@@ -6,12 +6,12 @@ const NOTHING: Before = Before::NOTHING;
 
 const SHOWN: Before = Before {
     is_shown: true,
-    is_coloured: false,
+    ..Before::NOTHING
 };
 
 const COLOURED: Before = Before {
-    is_shown: false,
     is_coloured: true,
+    ..Before::NOTHING
 };
 
 /// What comes before the bytes, the bytes, what goes first, and what comes before the byte that follows it.
@@ -108,6 +108,7 @@ static FORMS: [Row; 28] = rows! {
 const AFTER_ALL: Before = Before {
     is_shown: true,
     is_coloured: true,
+    ..Before::NOTHING
 };
 
 static KEYS_AND_ENDS: [Row; 15] = rows! {
@@ -141,8 +142,40 @@ fn this_goes_first(rt: HostRuntime) {
             let mut before = row.before;
             let going = next_unwanted(row.bytes, &mut before);
             assert!(rt; going == row.going, "{:?}: {going:?}", row.bytes);
-            assert!(rt; before == row.after, "{:?}: {before:?}", row.bytes);
+            let after = (before.is_shown, before.is_coloured);
+            let wanted = (row.after.is_shown, row.after.is_coloured);
+            assert!(rt;
+                going.is_none() || after == wanted,
+                "{:?}: {before:?}",
+                row.bytes
+            );
         }
+    }
+}
+
+/// Bytes after a switch that is on, and what it said at the last printed cell that has bit 7.
+static BRIGHT: [(&[u8], Option<bool>); 9] = [
+    (b"", None),
+    (b"ab", None),
+    (b"\x1b[5m", None),
+    (b"\x1b[5mab", Some(true)),
+    (b"\x1b[5m\t", Some(true)),
+    (b"\x1b[5m\x1b[2J", None),
+    (b"\x1b[5;0mab", None),
+    (b"\x1b[1;44mab", None),
+    (b"\x1b[5ma\x1b[0mb", Some(true)),
+];
+
+#[test]
+fn the_switch_is_read_at_bright_cells(rt: HostRuntime) {
+    for (bytes, bright) in &BRIGHT {
+        assert!(rt; bytes.len() < 100);
+        let mut before = Before {
+            switch: Some(true),
+            ..NOTHING
+        };
+        assert!(rt; next_unwanted(bytes, &mut before).is_none());
+        assert_eq!(rt; before.bright, *bright, "{bytes:?}");
     }
 }
 

@@ -63,10 +63,7 @@ fn set_record(draft: &mut Draft<'_>, mends: &Mends) -> FirstRecord
 {
     let given = give_record(draft, mends);
     let width = state_columns(draft, mends);
-    FirstRecord {
-        given,
-        width,
-    }
+    FirstRecord { given, width }
 }
 
 /// What is asked for of a file, of which it is known whether a record was given to it.

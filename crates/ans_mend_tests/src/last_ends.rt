@@ -20,7 +20,11 @@ macro_rules! rows {
 }
 
 /// A content, the width and the lines, how many bytes are left if it passes then, and how many line ends go.
-static ENDED: [(&[u8], usize, usize, Option<usize>, usize); 38] = rows! {
+static ENDED: [(&[u8], usize, usize, Option<usize>, usize); 42] = rows! {
+    b"ab\0\0", 2 x 1 => Some(2), 2;
+    b"ab\r\n\0\r\n\0", 2 x 1 => Some(2), 4;
+    b"a\r\n\0", 2 x 1 => Some(3), 1;
+    b"a\0b", 2 x 1 => None, 0;
     b"", 2 x 1 => Some(0), 0;
     b"a", 2 x 1 => Some(1), 0;
     b"a\n", 2 x 1 => Some(2), 0;

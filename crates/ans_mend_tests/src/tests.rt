@@ -12,6 +12,7 @@ use ans_samples::puts;
 const UNCHANGED: Mended = Mended {
     tail: None,
     given_record: None,
+    width: None,
     edits: Edits {
         returns: None,
         told: Told {
@@ -73,6 +74,7 @@ fn changed_once() -> Mended {
             place: 9,
             cut: 0,
         }),
+        width: Some(Reset { was: 80, is: 1 }),
         edits: Edits {
             returns: times(1, 4),
             told,
@@ -93,11 +95,12 @@ fn changed_once() -> Mended {
 
 const SAID_ONCE: &[u8] = b"cut off 1 byte after the record, at 137\n\
     added an end mark and a record for 1 column, at 9\n\
+    columns 1, was 80\n\
     added 1 carriage return before a line feed, at 4\n\
     removed <ESC>[?33h at 0\n\
     set the non-blink flag\n\
     removed 1 line end after a full row, at 2\n\
-    removed 1 line end at the end, at 7\n\
+    removed 1 line end or byte 00h at the end, at 7\n\
     named the colours of 1 sequence, at 12\n\
     lines 2, was 1\n\
     added an end mark at 9\n\
@@ -126,6 +129,10 @@ fn changed_often() -> Mended {
             width: 1024,
             place: 2596,
             cut: 3,
+        }),
+        width: Some(Reset {
+            was: 1024,
+            is: 1024,
         }),
         edits: Edits {
             returns: times(2, 4),
@@ -161,11 +168,61 @@ const SAID_OFTEN: &[u8] = b"cut off 2 bytes after the record, at 2724\n\
     removed <ESC> at 131\n\
     cleared the non-blink flag\n\
     removed 24 line ends after full rows, first at 81\n\
-    removed 3 line ends at the end, first at 1999\n\
+    removed 3 line ends or bytes 00h at the end, first at 1999\n\
     named the colours of 5 sequences, first at 12\n\
     lines 8192, was 0\n\
     added an end mark at 16777215\n\
     file size 0, was 4294967295\n";
+
+/// A switch for bright backgrounds was removed, and the flag is this, as it was.
+fn left(flag: bool) -> Mended {
+    let switch = Told {
+        kinds: [
+            taken(b"\x1b[?33h", 1, 0),
+            None,
+            None,
+            None,
+            None,
+            None,
+            None,
+            None,
+            None,
+        ],
+        bright_backgrounds: None,
+    };
+    Mended {
+        edits: Edits {
+            told: switch,
+            ..UNCHANGED.edits
+        },
+        non_blink: NonBlink {
+            was: flag,
+            is: flag,
+        },
+        ..UNCHANGED
+    }
+}
+
+#[test]
+fn a_flag_that_stays_is_said(rt: HostRuntime) {
+    for (flag, text) in [
+        (
+            true,
+            b"removed <ESC>[?33h at 0\nleft the non-blink flag set\n".as_slice(),
+        ),
+        (
+            false,
+            b"removed <ESC>[?33h at 0\nleft the non-blink flag cleared\n",
+        ),
+    ] {
+        let mended = left(flag);
+        assert!(rt;
+            puts(text, |out| put_mended(out, &mended)),
+            "{}",
+            text.len()
+        );
+    }
+}
 
 #[test]
 fn changes_are_said(rt: HostRuntime) {
@@ -360,7 +417,7 @@ static REASONS: [(Unmended, &str); 27] = [
     ),
     (
         Unmended::Torn,
-        "the rows look broken\ntry: --crlf --join-rows --lines N (anscheck why says which)\n",
+        "the rows look broken\ntry: --crlf --join-rows --lines N --columns N (anscheck why says which)\n",
     ),
     (
         Unmended::NoLines,
@@ -395,6 +452,7 @@ const ALL: Mends = Mends {
     name_colours: true,
     least_lines: true,
     lines: None,
+    ..Mends::NONE
 };
 
 /// A fault at 7.
@@ -472,12 +530,12 @@ static HELP: [(Mends, Unmended, &str); 13] = [
             ..ALL
         },
         Unmended::Torn,
-        "the rows look broken\ntry: --join-rows --lines N (anscheck why says which)\n",
+        "the rows look broken\ntry: --join-rows --lines N --add-record N with another N (anscheck why says which)\n",
     ),
     (
         ALL,
         Unmended::Torn,
-        "the rows look broken\ntry: --lines N (anscheck why says which)\n",
+        "the rows look broken\ntry: --lines N --add-record N with another N (anscheck why says which)\n",
     ),
     (
         Mends {

@@ -9,8 +9,7 @@ use Rattle.ans_mend.proofs.lines.looks_torn.Goals as goal
 
 pub returns-then-are_torn : goal.returns-then-are_torn
 returns-then-are_torn c =
-    let sauce = record_of c.args.parts.now in
-    (
+    let sauce = record_of c.args.parts.now in (
       c.of-hints.result,
       hints_of_all (sized (stated_width sauce) c.args.lines) (is_non_blink sauce) (content_of c.args.parts.now)
           c.of-hints.result
@@ -30,8 +29,7 @@ returns-then-are_torn c =
 
 pub returns-else-are_torn : goal.returns-else-are_torn
 returns-else-are_torn c =
-    let sauce = record_of c.args.parts.now in
-    (
+    let sauce = record_of c.args.parts.now in (
       c.of-hints.result,
       hints_of_all (sized (stated_width sauce) c.args.lines) (is_non_blink sauce) (content_of c.args.parts.now)
           c.of-hints.result
