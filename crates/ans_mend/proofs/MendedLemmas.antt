@@ -202,8 +202,9 @@ passing z false bytes good every =
     }
 
 -- what is told of it
-abbrev pub told : Option Times → Option GivenRecord → Option Reset → Edits → Option ℕ → Reading → Judgement → ℕ → Mended
-told tail given width edits mark was judgement size = record {
+abbrev pub told : Mends → Option Times → Option GivenRecord → Option Reset → Edits → Option ℕ → Reading → Judgement → ℕ → Mended
+told mends tail given width edits mark was judgement size = record {
+  asked = mends;
   tail = tail;
   given_record = given;
   width = width;
@@ -269,7 +270,7 @@ module _ (mends : Mends) (file cut : List ℕ) (is_cut : IsTailCut file cut) (as
           → length based ≤ longest_file → length settled ≤ longest_file → (given : Option GivenRecord)
           → given ≡ record_put mends cut → (width : Option Reset) → width ≡ width_set mends cut → (tail : Option Times)
           → tail ≡ times_at (length file - length cut) (length cut)
-          → IsMended mends file (told tail given width edits mark was judgement n) draft
+          → IsMended mends file (told mends tail given width edits mark was judgement n) draft
       mended was n draft was_is sized based_fits settled_fits given given_is width width_is tail tail_is =
           let front : List ℕ = front_bytes judgement.front in
           let none : list_any is_end_mark front ≡ false = unmarked judgement.front in
@@ -325,6 +326,7 @@ module _ (mends : Mends) (file cut : List ℕ) (is_cut : IsTailCut file cut) (as
                 (sym size_is) (sym content_is) passes.every;
             front = subst₂ (λ (z : Size) (bytes : List ℕ). IsTrue judgement.front ↔ WantsMending asked z bytes)
                 (sym size_is) (sym body_is) judged.wants;
+            flags = refl;
             tail = tail_is;
             given_record = given_is;
             width = width_is;

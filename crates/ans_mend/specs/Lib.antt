@@ -7,6 +7,7 @@ pub mod NewRecord
 pub mod FullRows
 pub mod TakingOut
 pub mod MendedText
+pub mod IdleText
 pub mod LastEnds
 pub mod NamedColours
 pub mod NameSearch

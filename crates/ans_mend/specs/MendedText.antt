@@ -13,6 +13,7 @@ use Rattle.ans_report.specs.Quoted.{quoted_byte}
 use Rattle.ans_report.specs.declared.meanings.Help.{Help}
 use Rattle.ans_report.specs.declared.meanings.Help.TheVariants as help
 use Rattle.ans_pens.specs.declared.times.Times.{Times}
+use Rattle.ans_mend.specs.IdleText.{idle_text}
 use Rattle.ans_mend.specs.declared.outcome.GivenRecord.{GivenRecord}
 use Rattle.ans_mend.specs.declared.outcome.Mended.{Mended}
 use Rattle.ans_mend.specs.declared.outcome.Unmended.{Unmended}
@@ -108,7 +109,7 @@ mended_text m =
     ++ (times_line (codes "named the colours of ") (codes " sequence") (codes " sequences") m.edits.named_colours
     ++ (reset_line (codes "lines ") m.lines
     ++ (end_mark_line m.end_mark
-    ++ (front_line m.front ++ reset_line (codes "file size ") m.file_size)))))))))))
+    ++ (front_line m.front ++ (reset_line (codes "file size ") m.file_size ++ idle_text m))))))))))))
 
 -- ---- why there is none
 

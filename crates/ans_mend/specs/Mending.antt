@@ -281,6 +281,7 @@ pub record IsMended (mends : Mends) (file : List ℕ) (mended : Mended) (draft :
   pub from_cleared : GoodWith (stated_size apart.record_bytes) all_known (content_in settled) picture
   pub from_every : GoodWith (stated_size apart.record_bytes) none_known (content apart.body) picture
   pub front : IsTrue mended.front ↔ WantsMending asked (stated_size apart.record_bytes) (content_in settled)
+  pub flags : mended.asked ≡ mends
   pub tail : mended.tail ≡ times_at (length file - length cut) (length cut)
   pub given_record : mended.given_record ≡ record_put mends cut
   pub width : mended.width ≡ width_set mends cut

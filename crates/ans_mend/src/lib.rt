@@ -11,6 +11,7 @@ mod editing;
 mod end_mark;
 mod fields;
 mod full_rows;
+mod idle;
 mod judging;
 mod keeping;
 mod last_ends;

@@ -9,6 +9,7 @@ ghost use Rattle.ans_mend.specs.MendedText.{replaced_text, rows_help, sequence_h
 ghost use Rattle.ans_mend.specs.MendedText.{taken_line, times_line, torn_help, unmended_text, width_line, width_offered};
 ghost use Rattle.ans_write.specs.Puts.{Puts};
 
+use crate::idle::put_idle_lines;
 use crate::outcome::{GivenRecord, Mended, NonBlink, Reset, Unmended};
 use crate::taking_out::{Excerpt, TakenOut};
 use ans_model::fault::Cause;
@@ -164,7 +165,8 @@ fn put_front_line<W: Write>(out: &mut Outbox<'_, W>, front: bool)
     }
 }
 
-/// Puts what mending changed in a file, a line for each kind of change, in the order of the changes.
+/// Puts what mending changed in a file, a line for each kind of change, in the order of the changes, and a
+/// line for each flag that was given and did nothing.
 pub fn put_mended<W: Write>(out: &mut Outbox<'_, W>, mended: &Mended)
     ensures { Puts W.contents out.old out.new (mended_text mended.now) }
 {
@@ -205,6 +207,7 @@ pub fn put_mended<W: Write>(out: &mut Outbox<'_, W>, mended: &Mended)
     put_end_mark_line(out, mended.end_mark);
     put_front_line(out, mended.front);
     put_reset_line(out, b"file size ", &mended.file_size);
+    put_idle_lines(out, mended);
 }
 
 /// If no flag is left that may help.

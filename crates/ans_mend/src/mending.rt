@@ -178,6 +178,7 @@ pub fn mend_on<S: Screens>(
         settled.was.counts_end_mark,
     )?;
     Ok(Mended {
+        asked: *mends,
         tail,
         given_record: record.given,
         width: record.width,

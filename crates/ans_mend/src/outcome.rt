@@ -5,6 +5,7 @@ ghost use Rattle.ans_mend.specs.declared.outcome.MendError.TheVariants.{Memory, 
 
 use crate::taking_out::Told;
 use ans_model::fault::Fault;
+use ans_model::mends::Mends;
 use ans_pens::Times;
 pub use ans_sauce::Reset;
 use std::alloc::AllocError;
@@ -28,6 +29,8 @@ pub struct Edits {
 /// What was changed in a file that is mended.
 #[derive(Debug, Clone, Copy, PartialEq, Eq)]
 pub struct Mended {
+    /// What was asked for.
+    pub asked: Mends,
     /// How many bytes were cut off after the record, and where the first of them was, in bytes from the
     /// file's start.
     pub tail: Option<Times>,

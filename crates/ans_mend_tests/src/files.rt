@@ -29,11 +29,15 @@ const NONE: Mends = Mends::NONE;
 /// The safe beginning, which each of these drawings needs, and the FileSize.
 macro_rules! ended {
     ($text:literal, $size:literal) => {
+        ended!($text, $size, "")
+    };
+    ($text:literal, $size:literal, $idle:literal) => {
         concat!(
             $text,
             "added the safe beginning, 25 bytes\nfile size ",
             $size,
-            ", was 2\n"
+            ", was 2\n",
+            $idle
         )
     };
 }
@@ -61,7 +65,11 @@ static WIDTHS: [Row; 6] = [
         record: &[(96, b"\x04")],
         mends: FOUR,
         mended: Some((b"abcd\x1a", &[(90, b"\x1d"), (96, b"\x04")])),
-        text: ended!("", "29"),
+        text: ended!(
+            "",
+            "29",
+            "--columns: nothing done, the record states them\n"
+        ),
     },
     Row {
         front: b"abcdef\x1a",
@@ -173,7 +181,11 @@ static MIXED: [Row; 6] = [
         record: &[(98, b"\x03")],
         mends: Mends { crlf: true, ..NONE },
         mended: Some((b"a\r\nb\nc\x1a", &[(90, b"\x1f"), (98, b"\x03")])),
-        text: ended!("", "31"),
+        text: ended!(
+            "",
+            "31",
+            "--crlf: nothing done, it needs line feeds and no return (--mixed: those without one)\n"
+        ),
     },
     Row {
         front: b"a\r\nb\nc\x1a",

@@ -10,6 +10,7 @@ use ans_samples::puts;
 
 /// Nothing was changed in a file that is mended.
 const UNCHANGED: Mended = Mended {
+    asked: Mends::NONE,
     tail: None,
     given_record: None,
     width: None,
@@ -68,6 +69,7 @@ fn changed_once() -> Mended {
         bright_backgrounds: Some(true),
     };
     Mended {
+        asked: Mends::NONE,
         tail: times(1, 137),
         given_record: Some(GivenRecord {
             width: 1,
@@ -124,6 +126,7 @@ fn changed_often() -> Mended {
         bright_backgrounds: None,
     };
     Mended {
+        asked: Mends::NONE,
         tail: times(2, 2724),
         given_record: Some(GivenRecord {
             width: 1024,
@@ -235,6 +238,110 @@ fn changes_are_said(rt: HostRuntime) {
             puts(text, |out| put_mended(out, &mended)),
             "{}",
             text.len()
+        );
+    }
+}
+
+/// A flag that was given, and what is said where nothing was changed and the non-blink flag is set.
+static IDLE: [(Mends, &str); 12] = [
+    (
+        Mends {
+            add_record: Some(80),
+            ..Mends::NONE
+        },
+        "--add-record: nothing done, the file has a record\n",
+    ),
+    (
+        Mends {
+            columns: Some(80),
+            ..Mends::NONE
+        },
+        "--columns: nothing done, the record states them\n",
+    ),
+    (
+        Mends {
+            crlf: true,
+            ..Mends::NONE
+        },
+        "--crlf: nothing done, it needs line feeds and no return (--mixed: those without one)\n",
+    ),
+    (
+        Mends {
+            crlf: true,
+            mixed: true,
+            ..Mends::NONE
+        },
+        "--crlf: nothing done, no line feed lacks a return\n",
+    ),
+    (
+        Mends {
+            take_out: true,
+            ..Mends::NONE
+        },
+        "--take-out: nothing done, nothing of that kind is refused\n",
+    ),
+    (
+        Mends {
+            ice: true,
+            ..Mends::NONE
+        },
+        "--ice: nothing done, the flag is set\n",
+    ),
+    (
+        Mends {
+            join_rows: true,
+            ..Mends::NONE
+        },
+        "--join-rows: nothing done, it needs two full rows, each with a line end (--mixed: those with one)\n",
+    ),
+    (
+        Mends {
+            join_rows: true,
+            mixed: true,
+            ..Mends::NONE
+        },
+        "--join-rows: nothing done, no full row has a line end\n",
+    ),
+    (
+        Mends {
+            mixed: true,
+            ..Mends::NONE
+        },
+        "--mixed: nothing done, it is for --crlf and --join-rows\n",
+    ),
+    (
+        Mends {
+            name_colours: true,
+            ..Mends::NONE
+        },
+        "--name-colours: nothing done, no colour lacks a name\n",
+    ),
+    (
+        Mends {
+            lines: Some(25),
+            ..Mends::NONE
+        },
+        "--lines: nothing done, the drawing passes with those that are stated\n",
+    ),
+    (
+        Mends {
+            least_lines: true,
+            ..Mends::NONE
+        },
+        "--least-lines: nothing done, the drawing passes with those that are stated\n",
+    ),
+];
+
+#[test]
+fn a_flag_that_did_nothing_is_said(rt: HostRuntime) {
+    for (asked, text) in &IDLE {
+        let mended = Mended {
+            asked: *asked,
+            ..UNCHANGED
+        };
+        assert!(rt;
+            puts(text.as_bytes(), |out| put_mended(out, &mended)),
+            "{text}"
         );
     }
 }

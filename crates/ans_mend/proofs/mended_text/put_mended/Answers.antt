@@ -14,4 +14,4 @@ returns g c =
     (Puts-then c.put_times_line-4.ensures
     (Puts-then c.put_reset_line.ensures
     (Puts-then c.put_end_mark_line.ensures
-    (Puts-then c.put_front_line.ensures c.put_reset_line-2.ensures)))))))))))
+    (Puts-then c.put_front_line.ensures (Puts-then c.put_reset_line-2.ensures c.put_idle_lines.ensures))))))))))))
