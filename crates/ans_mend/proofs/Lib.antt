@@ -1,6 +1,7 @@
 mod Pushing
 mod Overwriting
 mod RecordWidth
+mod CommentsCounted
 mod LastRecord
 pub mod EndMarks
 mod Returns

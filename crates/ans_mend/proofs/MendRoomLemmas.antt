@@ -20,7 +20,8 @@ use Rattle.ans_mend.specs.LineEnds.{with_returns}
 use Rattle.ans_mend.specs.NewRecord.{new_record, takes_record, with_new_record}
 use Rattle.ans_mend.specs.Tail.{IsTailCut}
 use Rattle.ans_model.specs.declared.mends.Mends.{Mends}
-use Rattle.ans_mend.specs.Mending.{asked_for, record_added, recorded, widened}
+use Rattle.ans_mend.specs.Mending.{asked_for, record_added, recorded, repaired, widened}
+use Rattle.ans_mend.specs.Recounted.{comments_in, with_comments}
 use Rattle.ans_mend.specs.Columns.{with_columns, with_width}
 use Rattle.ans_sauce.specs.Fields.{two_bytes, with_record}
 use Rattle.ans_sauce.proofs.Overwriting.{overwritten_length, recorded_length as same_length}
@@ -184,15 +185,51 @@ module _ (file : List ℕ) where
       go None = refl
       go (Some width) = columns_front width
 
+-- so does another number of comments
+comments_record_length : (n : ℕ) (file : List ℕ) → 128 ≤ length file
+    → length (with_comments n (record_in file)) ≡ 128
+comments_record_length n file long =
+    let record_long : length (record_in file) ≡ 128 = length-drop (length file - 128) file ∙ omega (arith, long) in
+    overwritten_length 104 (n ∷ []) (record_in file) (omega (arith, record_long)) ∙ record_long
+
+module _ (file : List ℕ) where
+  repaired_length : (mends : Mends) → length (repaired mends file) ≡ length file
+  repaired_length mends = go mends.repair_record (has_record file) refl
+    where
+      go : (asked has : Bool) → has_record file ≡ has
+          → length (if asked then (if has
+          then with_record (with_comments (comments_in file) (record_in file)) file else file) else file)
+          ≡ length file
+      go false has is = refl
+      go true false is = refl
+      go true true is = same_length 104 (comments_in file ∷ []) file (recorded_long file is) (omega arith)
+
+  repaired_front : (mends : Mends) → front_in (repaired mends file) ≡ front_in file
+  repaired_front mends = go mends.repair_record (has_record file) refl
+    where
+      go : (asked has : Bool) → has_record file ≡ has
+          → front_in (if asked then (if has
+          then with_record (with_comments (comments_in file) (record_in file)) file else file) else file)
+          ≡ front_in file
+      go false has is = refl
+      go true false is = refl
+      go true true is =
+          front_before (front_in file) (with_comments (comments_in file) (record_in file))
+          (comments_record_length (comments_in file) file (recorded_long file is))
+
 pub recorded_length : (mends : Mends) (cut : List ℕ) → length (recorded mends cut) ≤ length cut + 129
 recorded_length mends cut =
+    let wide : List ℕ = widened mends (record_added mends cut) in
+    let last = repaired_length wide mends in
     let same = widened_length (record_added mends cut) mends in
-    let added = added_length mends cut in omega (arith, same, added)
+    let added = added_length mends cut in omega (arith, last, same, added)
 
 recorded_feeds : (mends : Mends) (cut : List ℕ) → line_feeds (front_in (recorded mends cut)) ≤ line_feeds cut
 recorded_feeds mends cut =
+    let wide : List ℕ = widened mends (record_added mends cut) in
+    let last = ap line_feeds (repaired_front wide mends) in
     let same = ap line_feeds (widened_front (record_added mends cut) mends) in
-    let added = added_feeds mends cut in omega (arith, same, added)
+    let added = added_feeds mends cut in omega (arith, last, same, added)
 
 -- ---- in all
 

@@ -1,6 +1,6 @@
 -- A turn of the loop that closes the gap.
 use Rattle.std.proofs.Common.{◌≡◌, ℕ, ◌+◌, ◌≤◌, ◌<◌, Bool, true, false, List, [], ◌∷◌, ◌++◌, length, take}
-use Rattle.std.proofs.Common.{drop, refl, sym, ap, ap₂, ◌∙◌, arith, slice_index_or, append_assoc}
+use Rattle.std.proofs.Common.{drop, refl, sym, ap, ◌∙◌, arith, slice_index_or, append_assoc}
 use Rattle.std.specs.Prelude.{if◌then◌else◌, ◌&&◌, not}
 use Rattle.std.proofs.lemmas.List.{append-nil, drop_all, drop-drop, drop_more, get_or-drop, get_or-take, length-append}
 use Rattle.std.proofs.lemmas.List.{length-drop, length-take-le}

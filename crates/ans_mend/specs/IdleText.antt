@@ -13,16 +13,19 @@ idle_line idle text = if idle then text else []
 abbrev pub is_same : Reset → Bool
 is_same number = number.was == number.is
 
--- no other width is stated
-abbrev pub keeps_width : Option Reset → Bool
-keeps_width None = true
-keeps_width (Some width) = is_same width
+-- no other number is stated
+abbrev pub keeps_number : Option Reset → Bool
+keeps_number None = true
+keeps_number (Some number) = is_same number
 
 abbrev pub idle_record : Mended → Bool
 idle_record m = is_some m.asked.add_record && not (is_some m.given_record)
 
 abbrev pub idle_columns : Mended → Bool
-idle_columns m = is_some m.asked.columns && keeps_width m.width
+idle_columns m = is_some m.asked.columns && keeps_number m.width
+
+abbrev pub idle_comments : Mended → Bool
+idle_comments m = m.asked.repair_record && keeps_number m.comments
 
 abbrev pub idle_crlf : Mended → Bool
 idle_crlf m = m.asked.crlf && not (is_some m.edits.returns)
@@ -64,6 +67,7 @@ abbrev pub idle_text : Mended → List ℕ
 idle_text m =
     idle_line (idle_record m) (codes "--add-record: nothing done, the file has a record\n")
     ++ (idle_line (idle_columns m) (codes "--columns: nothing done, the record states them\n")
+    ++ (idle_line (idle_comments m) (codes "--record: nothing done, the number of comments stays\n")
     ++ (idle_line (idle_crlf m) (crlf_reason m.asked)
     ++ (idle_line (idle_take_out m) (codes "--take-out: nothing done, nothing of that kind is refused\n")
     ++ (idle_line (idle_ice m) (codes "--ice: nothing done, the flag is set\n")
@@ -72,4 +76,4 @@ idle_text m =
     ++ (idle_line (idle_colours m) (codes "--name-colours: nothing done, no colour lacks a name\n")
     ++ (idle_line (idle_lines m) (codes "--lines: nothing done, the drawing passes with those that are stated\n")
     ++ idle_line (idle_least m)
-    (codes "--least-lines: nothing done, the drawing passes with those that are stated\n")))))))))
+    (codes "--least-lines: nothing done, the drawing passes with those that are stated\n"))))))))))

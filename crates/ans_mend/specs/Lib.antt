@@ -1,6 +1,7 @@
 pub mod Drafts
 pub mod Tail
 pub mod Columns
+pub mod Recounted
 pub mod EndMark
 pub mod LineEnds
 pub mod NewRecord

@@ -78,6 +78,11 @@ abbrev pub width_line : Option Reset → List ℕ
 width_line None = []
 width_line (Some width) = reset_line (codes "columns ") width
 
+-- another number of comments, if the record was to be repaired
+abbrev pub comments_line : Option Reset → List ℕ
+comments_line None = []
+comments_line (Some comments) = reset_line (codes "comments ") comments
+
 -- the flag is set, cleared, or stays, which is said if a switch for bright backgrounds was removed
 abbrev pub flag_line : Bool → Bool → Bool → List ℕ
 flag_line switched false true = codes "set the non-blink flag\n"
@@ -97,7 +102,7 @@ front_line false = []
 abbrev pub mended_text : Mended → List ℕ
 mended_text m =
     tail_line m.tail
-    ++ (record_line m.given_record ++ (width_line m.width
+    ++ (record_line m.given_record ++ (width_line m.width ++ (comments_line m.comments
     ++ (times_line (codes "added ") (codes " carriage return before a line feed")
     (codes " carriage returns before line feeds") m.edits.returns
     ++ (flat_map taken_line m.edits.told.kinds
@@ -109,7 +114,7 @@ mended_text m =
     ++ (times_line (codes "named the colours of ") (codes " sequence") (codes " sequences") m.edits.named_colours
     ++ (reset_line (codes "lines ") m.lines
     ++ (end_mark_line m.end_mark
-    ++ (front_line m.front ++ (reset_line (codes "file size ") m.file_size ++ idle_text m))))))))))))
+    ++ (front_line m.front ++ (reset_line (codes "file size ") m.file_size ++ idle_text m)))))))))))))
 
 -- ---- why there is none
 

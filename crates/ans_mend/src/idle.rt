@@ -4,7 +4,7 @@ ghost use Rattle.std.specs.Prelude.{◌≡◌, is_some};
 ghost use Rattle.std.specs.List.{list_any};
 ghost use Rattle.ans_mend.specs.IdleText.{crlf_reason, idle_colours, idle_columns, idle_crlf, idle_ice};
 ghost use Rattle.ans_mend.specs.IdleText.{idle_join_rows, idle_least, idle_line, idle_lines, idle_mixed, idle_record};
-ghost use Rattle.ans_mend.specs.IdleText.{idle_take_out, idle_text, is_same, keeps_width, rows_reason};
+ghost use Rattle.ans_mend.specs.IdleText.{idle_comments, idle_take_out, idle_text, is_same, keeps_number, rows_reason};
 ghost use Rattle.ans_write.specs.Puts.{Puts};
 
 use crate::outcome::{Mended, Reset};
@@ -19,13 +19,13 @@ fn is_same(number: &Reset) -> bool
     number.was == number.is
 }
 
-/// Whether no other width is stated.
-fn keeps_width(width: &Option<Reset>) -> bool
-    ensures { result ≡ keeps_width width.now }
+/// Whether no other number is stated.
+fn keeps_number(number: &Option<Reset>) -> bool
+    ensures { result ≡ keeps_number number.now }
 {
-    match width {
+    match number {
         None => true,
-        Some(width) => is_same(width),
+        Some(number) => is_same(number),
     }
 }
 
@@ -46,7 +46,14 @@ fn idle_record(mended: &Mended) -> bool
 fn idle_columns(mended: &Mended) -> bool
     ensures { result ≡ idle_columns mended.now }
 {
-    mended.asked.columns.is_some() && keeps_width(&mended.width)
+    mended.asked.columns.is_some() && keeps_number(&mended.width)
+}
+
+/// Whether the number of comments was not changed.
+fn idle_comments(mended: &Mended) -> bool
+    ensures { result ≡ idle_comments mended.now }
+{
+    mended.asked.repair_record && keeps_number(&mended.comments)
 }
 
 /// Whether no return was added.
@@ -148,6 +155,11 @@ pub(crate) fn put_idle_lines<W: Write>(out: &mut Outbox<'_, W>, mended: &Mended)
         out,
         idle_columns(mended),
         b"--columns: nothing done, the record states them\n",
+    );
+    put_idle(
+        out,
+        idle_comments(mended),
+        b"--record: nothing done, the number of comments stays\n",
     );
     put_idle(out, idle_crlf(mended), crlf_reason(&mended.asked));
     put_idle(

@@ -6,6 +6,7 @@
 #![tactic(auto)]
 
 mod columns;
+mod comments;
 mod draft;
 mod editing;
 mod end_mark;

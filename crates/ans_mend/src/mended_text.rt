@@ -2,7 +2,7 @@
 ghost use Rattle.std.specs.Prelude.{◌≡◌};
 ghost use Rattle.std.specs.List.{flat_map};
 ghost use Rattle.ans_mend.specs.MendedText.{all_given, at_text, by_count, flag_line, front_line, has_least};
-ghost use Rattle.ans_mend.specs.MendedText.{has_switch};
+ghost use Rattle.ans_mend.specs.MendedText.{comments_line, has_switch};
 ghost use Rattle.ans_mend.specs.MendedText.{help_text, lines_offered, mended_text, no_lines_help, offered};
 ghost use Rattle.ans_mend.specs.MendedText.{others_text, place_help, quoted_excerpt, record_line};
 ghost use Rattle.ans_mend.specs.MendedText.{replaced_text, rows_help, sequence_help, tail_line};
@@ -130,6 +130,14 @@ fn put_record_line<W: Write>(out: &mut Outbox<'_, W>, given: &Option<GivenRecord
     }
 }
 
+fn put_comments_line<W: Write>(out: &mut Outbox<'_, W>, comments: &Option<Reset>)
+    ensures { Puts W.contents out.old out.new (comments_line comments.now) }
+{
+    if let Some(comments) = comments {
+        put_reset_line(out, b"comments ", comments);
+    }
+}
+
 fn put_width_line<W: Write>(out: &mut Outbox<'_, W>, width: &Option<Reset>)
     ensures { Puts W.contents out.old out.new (width_line width.now) }
 {
@@ -173,6 +181,7 @@ pub fn put_mended<W: Write>(out: &mut Outbox<'_, W>, mended: &Mended)
     put_tail_line(out, &mended.tail);
     put_record_line(out, &mended.given_record);
     put_width_line(out, &mended.width);
+    put_comments_line(out, &mended.comments);
     put_times_line(
         out,
         b"added ",

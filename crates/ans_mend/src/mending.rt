@@ -1,11 +1,13 @@
 //! A file that is mended.
 ghost use Rattle.std.specs.Prelude.{◌≡◌, ◌⊎◌, ◌+◌, ◌≤◌, ◌||◌, length, IfOk, IfErr, IsErrOf, OnOk};
-ghost use Rattle.std.specs.Prelude.{option_and_then};
+ghost use Rattle.std.specs.Prelude.{None, if◌then◌else◌, option_and_then};
 ghost use Rattle.ans_model.specs.Bytes.{longest_file};
 ghost use Rattle.ans_mend.specs.Drafts.{memory_of};
 ghost use Rattle.ans_mend.specs.Mending.{IfNotMended, IsMended, IsReason, IsReasonFor, IsSettled, lacks_lines, opened};
 ghost use Rattle.ans_mend.specs.Mending.{record_added, record_put, recorded, widened, width_set};
+ghost use Rattle.ans_mend.specs.Mending.{comments_put, repaired};
 ghost use Rattle.ans_mend.specs.Columns.{columns_set};
+ghost use Rattle.ans_mend.specs.Recounted.{comments_set};
 ghost use Rattle.ans_mend.specs.MendingRoom.{LacksRoom, LacksScreenInTheEnd, most_added, most_put};
 ghost use Rattle.ans_mend.specs.MendingSteps.{IsSized, IsTooLong, reading_in};
 ghost use Rattle.ans_mend.specs.declared.outcome.MendError.TheVariants.{Memory};
@@ -46,24 +48,45 @@ fn state_columns(draft: &mut Draft<'_>, mends: &Mends) -> Option<Reset>
     }
 }
 
+/// Has the record count the comments that are there, if it is to be repaired. Returns the number that it counted,
+/// and the one that it counts now.
+fn repair_record(draft: &mut Draft<'_>, mends: &Mends) -> Option<Reset>
+    ensures file { draft.new.file ≡ repaired mends.now draft.old.file }
+    ensures set { result ≡ (if mends.now.repair_record then comments_set draft.old.file else None) }
+    ensures memory { memory_of draft.new ≡ memory_of draft.old }
+{
+    if mends.repair_record {
+        return draft.recount();
+    }
+    None
+}
+
 /// What was done with the record before it is read.
 #[derive(Clone, Copy)]
 struct FirstRecord {
     given: Option<GivenRecord>,
     width: Option<Reset>,
+    comments: Option<Reset>,
 }
 
-/// Gives the file a record if that is asked for and it takes one, and states the width that is asked for.
+/// Gives the file a record if that is asked for and it takes one, states the width that is asked for, and
+/// repairs the record.
 fn set_record(draft: &mut Draft<'_>, mends: &Mends) -> FirstRecord
     requires { 129 ≤ draft.old.room }
     ensures file { draft.new.file ≡ recorded mends.now draft.old.file }
     ensures given { result.given ≡ record_put mends.now draft.old.file }
     ensures width { result.width ≡ width_set mends.now draft.old.file }
+    ensures comments { result.comments ≡ comments_put mends.now draft.old.file }
     ensures memory { memory_of draft.new ≡ memory_of draft.old }
 {
     let given = give_record(draft, mends);
     let width = state_columns(draft, mends);
-    FirstRecord { given, width }
+    let comments = repair_record(draft, mends);
+    FirstRecord {
+        given,
+        width,
+        comments,
+    }
 }
 
 /// What is asked for of a file, of which it is known whether a record was given to it.
@@ -182,6 +205,7 @@ pub fn mend_on<S: Screens>(
         tail,
         given_record: record.given,
         width: record.width,
+        comments: record.comments,
         edits: settled.edits,
         non_blink: NonBlink {
             was: settled.was.non_blink,

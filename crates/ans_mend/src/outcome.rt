@@ -39,6 +39,8 @@ pub struct Mended {
     /// The width that the record stated, and the one that it states now, in columns, if a width was asked
     /// for.
     pub width: Option<Reset>,
+    /// How many comments the record counted, and counts now, if it was to be repaired.
+    pub comments: Option<Reset>,
     pub edits: Edits,
     /// The record's non-blink flag, before and now.
     pub non_blink: NonBlink,

@@ -115,6 +115,50 @@ static WIDTHS: [Row; 6] = [
     },
 ];
 
+const REPAIR: Mends = Mends {
+    repair_record: true,
+    ..NONE
+};
+
+/// Drawings with a comment of 64 bytes, or with something that is none.
+static COMMENTS: [Row; 3] = [
+    Row {
+        front: b"ab\x1aCOMNT\
+            a comment of sixty-four bytes in a block that is not counted yet",
+        record: &[],
+        mends: REPAIR,
+        mended: Some((
+            b"ab\x1aCOMNT\
+                a comment of sixty-four bytes in a block that is not counted yet",
+            &[(90, b"\x1b"), (104, b"\x01")],
+        )),
+        text: ended!("comments 1, was 0\n", "27"),
+    },
+    Row {
+        front: b"ab\x1aCOMNT\
+            a comment of sixty-four bytes in a block that is not counted yet",
+        record: &[(104, b"\x01")],
+        mends: REPAIR,
+        mended: Some((
+            b"ab\x1aCOMNT\
+                a comment of sixty-four bytes in a block that is not counted yet",
+            &[(90, b"\x1b"), (104, b"\x01")],
+        )),
+        text: ended!(
+            "",
+            "27",
+            "--record: nothing done, the number of comments stays\n"
+        ),
+    },
+    Row {
+        front: b"ab\x1a",
+        record: &[(104, b"\x02")],
+        mends: REPAIR,
+        mended: Some((b"ab\x1a", &[(90, b"\x1b")])),
+        text: ended!("comments 0, was 2\n", "27"),
+    },
+];
+
 static FLAGS: [Row; 6] = [
     Row {
         front: b"ab\x1a",
@@ -299,6 +343,14 @@ fn expect_row(rt: &impl Abort, alloc: Global, row: &Row) -> Result<(), AllocErro
 #[test]
 fn widths_are_stated(rt: HostRuntime) -> Result<(), AllocError> {
     for row in &WIDTHS {
+        expect_row(&rt, rt.alloc(), row)?;
+    }
+    Ok(())
+}
+
+#[test]
+fn comments_are_counted(rt: HostRuntime) -> Result<(), AllocError> {
+    for row in &COMMENTS {
         expect_row(&rt, rt.alloc(), row)?;
     }
     Ok(())

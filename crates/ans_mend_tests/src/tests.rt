@@ -14,6 +14,7 @@ const UNCHANGED: Mended = Mended {
     tail: None,
     given_record: None,
     width: None,
+    comments: None,
     edits: Edits {
         returns: None,
         told: Told {
@@ -77,6 +78,7 @@ fn changed_once() -> Mended {
             cut: 0,
         }),
         width: Some(Reset { was: 80, is: 1 }),
+        comments: Some(Reset { was: 0, is: 3 }),
         edits: Edits {
             returns: times(1, 4),
             told,
@@ -98,6 +100,7 @@ fn changed_once() -> Mended {
 const SAID_ONCE: &[u8] = b"cut off 1 byte after the record, at 137\n\
     added an end mark and a record for 1 column, at 9\n\
     columns 1, was 80\n\
+    comments 3, was 0\n\
     added 1 carriage return before a line feed, at 4\n\
     removed <ESC>[?33h at 0\n\
     set the non-blink flag\n\
@@ -137,6 +140,7 @@ fn changed_often() -> Mended {
             was: 1024,
             is: 1024,
         }),
+        comments: Some(Reset { was: 7, is: 7 }),
         edits: Edits {
             returns: times(2, 4),
             told,
@@ -243,7 +247,14 @@ fn changes_are_said(rt: HostRuntime) {
 }
 
 /// A flag that was given, and what is said where nothing was changed and the non-blink flag is set.
-static IDLE: [(Mends, &str); 12] = [
+static IDLE: [(Mends, &str); 13] = [
+    (
+        Mends {
+            repair_record: true,
+            ..Mends::NONE
+        },
+        "--record: nothing done, the number of comments stays\n",
+    ),
     (
         Mends {
             add_record: Some(80),

@@ -1,4 +1,4 @@
-use Rattle.std.proofs.Common.{ℕ, List, [], ◌∷◌, ◌+◌, ◌-◌, ap, ap₂, ◌∙◌, arith, length}
+use Rattle.std.proofs.Common.{ℕ, List, [], ◌∷◌, ◌+◌, ◌-◌, ap, ◌∙◌, arith, length}
 use Rattle.std.specs.Prelude.{◌%◌}
 use Rattle.ans_model.specs.File.Record.{flags}
 use Rattle.ans_sauce.specs.Found.{record_in}
