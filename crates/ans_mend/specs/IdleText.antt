@@ -1,5 +1,5 @@
 -- What mending says of a flag that was given and did nothing.
-use Rattle.std.specs.Prelude.{ℕ, Bool, true, false, not, ◌&&◌, ◌||◌, ◌==◌, List, [], ◌++◌, codes, Option, None, Some}
+use Rattle.std.specs.Prelude.{ℕ, Bool, true, not, ◌&&◌, ◌||◌, ◌==◌, List, [], ◌++◌, codes, Option, None, Some}
 use Rattle.std.specs.Prelude.{is_some, if◌then◌else◌}
 use Rattle.std.specs.List.{list_any}
 use Rattle.ans_model.specs.declared.mends.Mends.{Mends}

@@ -1,5 +1,5 @@
-use Rattle.std.proofs.Common.{◌≡◌, ◌+◌, ◌-◌, ◌==◌, ◌++◌, ◌∙◌, sym, ap, arith, true, false, ℕ, List, subst}
-use Rattle.ans_mend.specs.Recounted.{blocks, blocks_from, comments_for}
+use Rattle.std.proofs.Common.{◌+◌, ◌-◌, ◌==◌, ◌++◌, ◌∙◌, sym, ap, arith, ℕ, List}
+use Rattle.ans_mend.specs.Recounted.{blocks_from, comments_for}
 use Rattle.ans_mend.proofs.CommentsCounted.{all_tried, first_here, held, no_zero, none_here, none_tried}
 use Rattle.ans_mend.proofs.CommentsCounted.{second_here}
 use Rattle.ans_mend.proofs.comments.comments_for.Goals as goal
