@@ -24,7 +24,8 @@ none_tried front = refl
 -- the next number is tried
 pub next_tried : (front : List ℕ) (index : ℕ) → index < 255
     → blocks_from front (index + 1) (255 - index)
-    ≡ (if is_block front (index + 1) then (index + 1) ∷ [] else []) ++ blocks_from front (index + 1 + 1) (255 - (index + 1))
+    ≡ (if is_block front (index + 1) then (index + 1) ∷ [] else []) ++ blocks_from front (index + 1 + 1) (255 -
+    (index + 1))
 next_tried front index more =
     ap (blocks_from front (index + 1)) (let e : 255 - index ≡ suc (255 - (index + 1)) = omega (arith, more) in e)
 

@@ -1,5 +1,6 @@
 -- Line ends that are taken out of a file.
-use Rattle.std.proofs.Common.{◌≡◌, inl, inr, ℕ, Bool, true, false, List, ◌++◌, ◌-◌, ◌≤◌, length, take, drop, refl, sym, ap}
+use Rattle.std.proofs.Common.{◌≡◌, inl, inr, ℕ, Bool, true, false, List}
+use Rattle.std.proofs.Common.{◌++◌, ◌-◌, ◌≤◌, length, take, drop, refl, sym, ap}
 use Rattle.std.proofs.Common.{◌∙◌, subst}
 use Rattle.std.specs.Prelude.{MatchBool, Option, None}
 use Rattle.ans_model.specs.File.Refusals.{has_record}
@@ -15,7 +16,8 @@ use Rattle.ans_mend.specs.FullRows.{AreRowEndsOut, HasFullRows, MayGo, times_wit
 use Rattle.ans_mend.proofs.ContentFront.{behind_kept, content_bytes, same_content}
 
 of_recorded : (mixed : Bool) (z : Size) (file new left : List ℕ) (times : Option Times) → has_record file ≡ true
-    → AreRowEndsOut mixed z (content_in file) left times → new ≡ with_content left file → HasFullRows mixed z file new times
+    → AreRowEndsOut mixed z (content_in file) left times → new ≡ with_content left file → HasFullRows mixed z file
+    new times
 of_recorded mixed z file new left times has out new_is =
     subst (λ (b : Bool). MatchBool b ((left : List ℕ) × AreRowEndsOut mixed z (content_in file) left times
     × (new ≡ with_content left file)) ((new ≡ file) × (times ≡ None))) (sym has) (left, out, new_is)
@@ -45,7 +47,8 @@ pub all_out : (mixed : Bool) (z : Size) (memory once twice file content : List �
     → drop (length content) once ≡ drop (length content) memory
     → twice ≡ take kept once ++ take (used - length content) (drop (length content) once)
     → HasFullRows mixed z file twice times
-all_out mixed z memory once twice file content used kept times rows has is within are found plays left_is times_are behind
+all_out mixed z memory once twice file content used kept times rows has is within are found plays left_is times_are
+    behind
     moved =
     let bytes : take (length content) memory ≡ content_in file =
     ap (λ (v : List ℕ). take (length v) memory) is ∙ content_bytes memory used file within are in
@@ -53,7 +56,8 @@ all_out mixed z memory once twice file content used kept times rows has is withi
     subst (λ (v : List ℕ). MayGo mixed z v found.0 found.1) is found.2 in
     let over : AreEndsOver rows (take (length content) memory) (full_row_ends z found.0 found.1) =
     plays (take (length content) memory) found.0 found.1
-    (subst (λ (v : List ℕ). ReadsAs v found.0 found.1) (sym bytes) (may_reads mixed z (content_in file) found.0 found.1 may)) in
+    (subst (λ (v : List ℕ). ReadsAs v found.0 found.1) (sym bytes) (may_reads mixed z (content_in file) found.0
+    found.1 may)) in
     of_recorded mixed z file twice (take kept once) times has
     (inl (record {
       tokens = found.0;

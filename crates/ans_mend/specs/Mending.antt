@@ -267,8 +267,8 @@ abbrev pub end_mark_counted : List ℕ → ℕ
 end_mark_counted file = if file_size (record_in file) == length (content_in file) + 1 then 1 else 0
 
 -- The bytes that are put before it and those of the draft are a file that passes from every start, and shows what the
--- changed content shows from the cleared one. Its record is that of the file except for what is asked for, the lines and the FileSize,
--- which fits. On the way no file was too long, and each was read.
+-- changed content shows from the cleared one. Its record is that of the file except for what is asked for, the lines
+-- and the FileSize, which fits. On the way no file was too long, and each was read.
 pub record IsMended (mends : Mends) (file : List ℕ) (mended : Mended) (draft : List ℕ) : Type 0 where
   pub cut : List ℕ
   pub is_cut : IsTailCut file cut

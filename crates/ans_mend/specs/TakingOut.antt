@@ -39,8 +39,8 @@ switch_of on _ text = on
 abbrev pub switched : Before → Unwanted → List ℕ → Before
 switched after kind text = record after { switch = switch_of after.switch kind text }
 
--- From bytes, the first of which is at an offset after what `before` says, these sequences go, one after the other, this
--- is left, and `end` is what comes before the end of what is read.
+-- From bytes, the first of which is at an offset after what `before` says, these sequences go, one after the other,
+-- this is left, and `end` is what comes before the end of what is read.
 abbrev pub TakesOut : Before → ℕ → List Gone → List ℕ → List ℕ → Before → Type 0
 TakesOut before from [] bytes left end = NothingMore before bytes end × (left ≡ bytes)
 TakesOut before from (g ∷ more) bytes left end = (kept rest later : List ℕ) × (after : Before)

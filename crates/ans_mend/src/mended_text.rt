@@ -6,7 +6,8 @@ ghost use Rattle.ans_mend.specs.MendedText.{comments_line, has_switch};
 ghost use Rattle.ans_mend.specs.MendedText.{help_text, lines_offered, mended_text, no_lines_help, offered};
 ghost use Rattle.ans_mend.specs.MendedText.{others_text, place_help, quoted_excerpt, record_line};
 ghost use Rattle.ans_mend.specs.MendedText.{replaced_text, rows_help, sequence_help, tail_line};
-ghost use Rattle.ans_mend.specs.MendedText.{taken_line, times_line, torn_help, unmended_text, width_line, width_offered};
+ghost use Rattle.ans_mend.specs.MendedText.{taken_line, times_line, torn_help, unmended_text, width_line};
+ghost use Rattle.ans_mend.specs.MendedText.{width_offered};
 ghost use Rattle.ans_write.specs.Puts.{Puts};
 
 use crate::idle::put_idle_lines;

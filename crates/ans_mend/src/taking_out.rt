@@ -184,7 +184,8 @@ impl<'a> Draft<'a> {
     /// Removes sequences from the content of a file that has a record, those that `ans_forms` names, if
     /// they are refused: the content is read token by token up to what is refused, and goes on after it if
     /// it is one of these. What the last switch for bright backgrounds said at the last printed cell that has
-    /// bit 7 in its attribute becomes the record's non-blink flag. Returns what is reported of them; offsets are in bytes from the file's start, as it was before.
+    /// bit 7 in its attribute becomes the record's non-blink flag. Returns what is reported
+    /// of them; offsets are in bytes from the file's start, as it was before.
     pub(crate) fn take_out(&mut self) -> Told
         requires { length self.old.file ≤ longest_file }
         ensures file { AreTakenOut self.old.file self.new.file result }

@@ -26,7 +26,8 @@ loop-index-preserved c =
       | then-is_block+else-only-ne0 w ↦
           record {
             rest = ap (λ (n : ℕ). comments_for c.args.count (held n
-                ++ blocks_from c.args.front.now (c.loop-index.index + 1 + 1) (255 - (c.loop-index.index + 1)))) w.only-is
+                ++ blocks_from c.args.front.now (c.loop-index.index + 1 + 1) (255 - (c.loop-index.index + 1))))
+                w.only-is
                 ∙ sym (first_here c.args.front.now c.loop-index.index c.args.count c.loop-index.only
                 c.loop-index-test.true (sym c.is_block.ensures ∙ w.if-is_block.true)
                 (ap (λ (n : ℕ). n == 0) w.if-only-ne0.false)) ∙ rest;
@@ -35,7 +36,8 @@ loop-index-preserved c =
       | else-is_block w ↦
           record {
             rest = ap (λ (n : ℕ). comments_for c.args.count (held n
-                ++ blocks_from c.args.front.now (c.loop-index.index + 1 + 1) (255 - (c.loop-index.index + 1)))) w.only-is
+                ++ blocks_from c.args.front.now (c.loop-index.index + 1 + 1) (255 - (c.loop-index.index + 1))))
+                w.only-is
                 ∙ sym (none_here c.args.front.now c.loop-index.index c.args.count c.loop-index.only
                 c.loop-index-test.true (sym c.is_block.ensures ∙ w.if-is_block.false)) ∙ rest;
             within = let is = w.only-is in omega (arith, is, within);

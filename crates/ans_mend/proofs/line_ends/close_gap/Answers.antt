@@ -14,13 +14,16 @@ loop-index-preserved c =
     let w = c.write_returned-written in (
       w.ensures.same_length ∙ i.0,
       next_place c.args.memory.now c.loop-index.memory c.args.gap c.args.count c.loop-index.index c.loop-index.written
-          c.loop-index.last c.loop-index-test.true c.requires.within c.requires.room i.0 i.1 i.2 i.3 w.result w.new.memory w.ensures.count
+          c.loop-index.last c.loop-index-test.true c.requires.within c.requires.room i.0 i.1 i.2 i.3 w.result
+          w.new.memory w.ensures.count
           w.ensures.same_length w.ensures.written w.ensures.behind,
       next_done c.args.memory.now c.loop-index.memory c.args.gap c.args.count c.loop-index.index c.loop-index.written
-          c.loop-index.last c.loop-index-test.true c.requires.within c.requires.room i.0 i.1 i.2 i.3 w.result w.new.memory w.ensures.count
+          c.loop-index.last c.loop-index-test.true c.requires.within c.requires.room i.0 i.1 i.2 i.3 w.result
+          w.new.memory w.ensures.count
           w.ensures.same_length w.ensures.written w.ensures.behind,
       next_left c.args.memory.now c.loop-index.memory c.args.gap c.args.count c.loop-index.index c.loop-index.written
-          c.loop-index.last c.loop-index-test.true c.requires.within c.requires.room i.0 i.1 i.2 i.3 w.result w.new.memory w.ensures.count
+          c.loop-index.last c.loop-index-test.true c.requires.within c.requires.room i.0 i.1 i.2 i.3 w.result
+          w.new.memory w.ensures.count
           w.ensures.same_length w.ensures.written w.ensures.behind,
     )
 

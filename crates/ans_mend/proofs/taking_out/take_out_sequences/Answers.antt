@@ -64,7 +64,8 @@ sequences-preserved c =
           ∙ ap₂ (λ (told : Told) (v : List ℕ). told_with told (gone_at going.kind place v)) i.told text
           ∙ told_more i.gone g;
       goes_on = goes_on m0 memory count read c.requires.within i.within i.same_length i.left old
-          c.next_unwanted.new.before going next _ now_is i.gone (take count m0) before.NOTHING (take c.sequences.kept memory)
+          c.next_unwanted.new.before going next _ now_is i.gone (take count m0) before.NOTHING (take c.sequences.kept
+          memory)
           (take c.keep-kept.result c.keep-kept.new.memory) kept i.goes_on;
     }
 
