@@ -336,19 +336,19 @@ class FullRows(Rows):
 
     def __init__(self, width):
         super().__init__(width)
-        self.line_ends_of_full = []
+        self.line_ends_of_full, self.is_undone = [], False
 
     def meet(self, offset, token, machine):
         before = len(self.ended)
         super().meet(offset, token, machine)
-        if len(self.ended) < before:
-            self.line_ends_of_full.pop()
+        self.is_undone = self.is_undone or len(self.ended) < before
         if len(self.ended) > before:
             self.line_ends_of_full.append(sorted({self.ended[-1], offset}))
 
 
 def take_ends_of_full_rows_out(draft, some_are_enough):
-    """The line ends behind full rows, where each full row that is followed has one and two have, or some are enough."""
+    """The line ends behind full rows, where each full row that is followed has one and two have; or where some are
+    enough, and nothing is printed above where one of them led."""
     tokens, ending = tokens_of(draft.content)
     if ending:
         return
@@ -357,7 +357,7 @@ def take_ends_of_full_rows_out(draft, some_are_enough):
         rows.meet(offset, token, pen)
         rows_printed(token, pen)
         rows.leave(token, pen)
-    if some_are_enough or rows.all_end():
+    if some_are_enough and not rows.is_undone or not some_are_enough and rows.all_end():
         ends = rows.line_ends_of_full
         draft.say_of_each("full rows", "removed {} line end(s) after (a )full row(s)", [end[0] for end in ends])
         draft.content = without(draft.content, [(at, at + 1) for end in ends for at in end])
