@@ -40,7 +40,7 @@ CHANGES = {(0, 0): [], (255, 80): ALL_CHANGES}
 PLACES = {"font": (22, 22), "date": (46, 8), "title": (121, 35), "author": (86, 20), "group": (66, 20)}
 FLAGS = 23
 LOW_GLYPHS = " ☺☻♥♦♣♠•◘○◙♂♀♪♫☼►◄↕‼¶§▬↨↑↓→←∟↔▲▼"
-QUOTED = {9: "<TAB>", 10: "<LF>", 13: "<CR>", 27: "<ESC>", 32: "<SP>"}
+QUOTED = {0: "<00>", 9: "<TAB>", 10: "<LF>", 13: "<CR>", 27: "<ESC>", 32: "<SP>"}
 # If a piece has no bytes, its start says nothing.
 NO_BYTES = re.compile(rb"^(bytes|comments|font|date|title|author|group) \d+ 0 $", re.MULTILINE)
 TOO_LONG, LONGEST_FILE, LONGEST_QUOTE = 3, 16_777_216, 32

@@ -46,7 +46,7 @@ from second_machine import (
 MOST_LINES, MOST_COLUMNS, TRIED_ONE_BY_ONE = 8192, 1024, 24
 OF_PLAYERS = re.compile(r"players: |players differ: |needs on all players: |everywhere: ")
 MENDING = b"\x1b[?7h\x1b[0;37;40m\x1b[2J\x1b[H\x1b[s"
-NAMES = {7: "<BEL>", 8: "<BS>", 9: "<TAB>", 10: "<LF>", 13: "<CR>", 27: "<ESC>", 32: "<SP>"}
+NAMES = {0: "<00>", 7: "<BEL>", 8: "<BS>", 9: "<TAB>", 10: "<LF>", 13: "<CR>", 27: "<ESC>", 32: "<SP>"}
 LOW_GLYPHS = " ☺☻♥♦♣♠•◘○◙♂♀♪♫☼►◄↕‼¶§▬↨↑↓→←∟↔▲▼"
 FONTS_OF_437 = [
     name + page

@@ -3,10 +3,11 @@ use Rattle.std.specs.Prelude.{ℕ, ◌==◌, nat_lt, List, [], ◌∷◌, ◌++�
 use Rattle.std.specs.List.{flat_map}
 use Rattle.ans_model.specs.Text.Characters.{shown_bytes}
 
--- a control byte of ANSI.SYS and a blank by their names, and another byte by its character
+-- a control byte of ANSI.SYS and a blank by their names, 00h by its number, and another byte by its character
 abbrev pub quoted_byte : ℕ → List ℕ
 quoted_byte byte =
-    if byte == 0x07 then codes "<BEL>"
+    if byte == 0x00 then codes "<00>"
+    else if byte == 0x07 then codes "<BEL>"
     else if byte == 0x08 then codes "<BS>"
     else if byte == 0x09 then codes "<TAB>"
     else if byte == 0x0A then codes "<LF>"

@@ -9,12 +9,13 @@ use std::io::Write;
 /// How many bytes are quoted at most.
 const QUOTED: usize = 32;
 
-/// Puts a byte as it is quoted: a control byte of ANSI.SYS and a blank by their names, as `<ESC>` and `<SP>`, and
-/// another byte by its character of code page 437.
+/// Puts a byte as it is quoted: a control byte of ANSI.SYS and a blank by their names, as `<ESC>` and `<SP>`, 00h as
+/// `<00>`, and another byte by its character of code page 437.
 pub fn put_quoted_byte<W: Write>(out: &mut Outbox<'_, W>, byte: u8)
     ensures { Puts W.contents out.old out.new (quoted_byte byte) }
 {
     match byte {
+        0x00 => out.put(b"<00>"),
         0x07 => out.put(b"<BEL>"),
         0x08 => out.put(b"<BS>"),
         b'\t' => out.put(b"<TAB>"),
