@@ -109,9 +109,9 @@ fn put_answer<W: Write>(out: &mut Outbox<'_, W>, asked: &Mends, answer: &Result<
 /// `PASS`: `mended` begins with the fixed file, `size` is how many bytes it has, and the text says what was
 /// changed. It passes from every start. `REFUSED`: the file cannot be fixed this way, `size` is 0, and the
 /// text says why. `text` begins with the text, and `told` is how many bytes it has. `TOO_LONG`: the file is
-/// too long. `WRONG_NUMBER`: it is not, but `add_record`, `columns` or `lines` is above its largest. `NO_ROOM`: an array
-/// is too small. If only `text` is, `told` is how many bytes the text has, and all but the text is as it is
-/// after `PASS` or `REFUSED`. In any other case `size` and `told` are 0.
+/// too long. `WRONG_NUMBER`: it is not, but `add_record`, `columns` or `lines` is above its largest.
+/// `NO_ROOM`: an array is too small. If only `text` is, `told` is how many bytes the text has, and all but
+/// the text is as it is after `PASS` or `REFUSED`. In any other case `size` and `told` are 0.
 #[unsafe(no_mangle)]
 pub extern "C" fn ans_mend_on(
     file: &[u8],

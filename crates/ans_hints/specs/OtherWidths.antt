@@ -51,7 +51,8 @@ are_exchanged width lines ends =
 -- width, with the lines that it needs there or with the stated ones. With 0 lines it states none.
 pub record AreOtherWidths (width lines : ℕ) (hints : Hints) (content : List ℕ) (result : OtherWidths) : Type 0 where
   pub fitting : (k : ℕ) → k < 8 → IsPlaceOf (get_or (tried_widths width) k 0)
-      (MayFit width lines hints content × IsFitting width lines hints content (take k (tried_widths width)) (get_or (tried_widths width) k 0))
+      (MayFit width lines hints content
+      × IsFitting width lines hints content (take k (tried_widths width)) (get_or (tried_widths width) k 0))
       (get_or result.fitting k None)
   pub exchanged : result.exchanged ≡ are_exchanged width lines hints.row_ends
 

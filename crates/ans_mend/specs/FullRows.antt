@@ -19,8 +19,8 @@ first_byte e = unwrap_or e.return_at e.line_feed
 abbrev pub times_with : Option Times → List FullRowEnd → Option Times
 times_with times ends = fold (λ (t : Option Times) (e : FullRowEnd). counted t true (first_byte e)) times ends
 
--- The content is read so, and after no line end of a full row something is printed above where that line end led: all of
--- them count, and make a blank row.
+-- The content is read so, and after no line end of a full row something is printed above where that line end led: all
+-- of them count, and make a blank row.
 pub record AllCount (z : Size) (content : List ℕ) (tokens : List TokenKind) (texts : List (List ℕ)) : Type 0 where
   pub reads : ReadsAs content tokens texts
   pub counts : count_of (written_by z tokens texts).ends.ended ≡ length (full_row_ends z tokens texts)

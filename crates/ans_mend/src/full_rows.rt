@@ -157,8 +157,8 @@ impl<'a> Draft<'a> {
     /// from the cleared start on a screen of this size: if a line end follows every full row that
     /// something is printed after, and there are two of these. After a full row the cursor is in the
     /// next row already, so a line end there makes an empty one. If the rows are `mixed`, those line ends are
-    /// removed that are there, unless something is printed above where one of them led. Returns how many line ends, and the offset of the first, in bytes from the file's
-    /// start.
+    /// removed that are there, unless something is printed above where one of them led. Returns how many line
+    /// ends, and the offset of the first, in bytes from the file's start.
     pub(crate) fn take_out_row_ends(&mut self, size: Size, mixed: bool) -> Option<Times>
         requires { length self.old.file ≤ longest_file }
         ensures file { HasFullRows mixed size self.old.file self.new.file result }

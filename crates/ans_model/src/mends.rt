@@ -79,10 +79,7 @@ impl Mends {
                 name_colours: asked,
                 ..self
             },
-            MendStep::Ice => Mends {
-                ice: asked,
-                ..self
-            },
+            MendStep::Ice => Mends { ice: asked, ..self },
             MendStep::RepairRecord => Mends {
                 repair_record: asked,
                 ..self

@@ -3,8 +3,9 @@
 ghost use Rattle.std.specs.Prelude.{◌≡◌, ◌≤◌, ℕ, drop, length};
 ghost use Rattle.std.specs.List.{count_by, list_any, position};
 ghost use Rattle.ans_model.specs.Bytes.{longest_file};
-ghost use Rattle.ans_why.specs.TextDamage.{IsDamage, at_least, begins_with_mark, comes_in, converted, form_of, is_escape};
-ghost use Rattle.ans_why.specs.TextDamage.{is_line_feed, is_pair, is_return, lone_returns, lone_returns_from, lost_escape};
+ghost use Rattle.ans_why.specs.TextDamage.{IsDamage, at_least, begins_with_mark, comes_in, converted, form_of};
+ghost use Rattle.ans_why.specs.TextDamage.{is_escape, is_line_feed, is_pair, is_return, lone_returns, lost_escape};
+ghost use Rattle.ans_why.specs.TextDamage.{lone_returns_from};
 ghost use Rattle.ans_why.specs.TextDamage.{lost_told, moves_row, other_high, pair_of_pairs, shown_escape, times_of};
 ghost use Rattle.ans_why.specs.TextDamage.{times_unless, wide_character, wide_characters};
 
@@ -70,7 +71,8 @@ pub struct TextDamage {
     pub shown_escapes: Option<Times>,
     /// Sequences with 9Bh in place of ESC and `[` in a content without ESC, at least 2.
     pub short_escapes: Option<Times>,
-    /// Characters of Latin-1 in UTF-8, each followed by another, at least 8, in a content without other bytes above 7Fh.
+    /// Characters of Latin-1 in UTF-8, each followed by another, at least 8, in a content without other bytes
+    /// above 7Fh.
     pub converted: Option<Times>,
     /// Characters of UTF-8 in three bytes: blocks, boxes and arrows.
     pub wide_characters: Option<Times>,

@@ -7,6 +7,7 @@ abbrev pub invariant-loop-i : goal.invariant-loop-i
 invariant-loop-i l = record {
   eight : length l.fitting ≡ 8;
   places : (k : ℕ) → k < l.i → IsPlaceOf (get_or (tried_widths l.width) k 0)
-      (IsFitting l.width l.lines l.fn.hints l.content (take k (tried_widths l.width)) (get_or (tried_widths l.width) k 0))
+      (IsFitting l.width l.lines l.fn.hints l.content (take k (tried_widths l.width))
+      (get_or (tried_widths l.width) k 0))
       (get_or l.fitting k None);
 }
