@@ -15,7 +15,7 @@ use Rattle.ans_model.specs.Sequence.Reads.{Reads}
 use Rattle.ans_players.specs.Situations.{spelled}
 use Rattle.ans_sauce.specs.Found.{body_in, front_in, record_in}
 use Rattle.ans_sauce.proofs.LaidParts.{laid_body, laid_record}
-use Rattle.ans_sauce.specs.Fields.{four_bytes, with_file_size}
+use Rattle.ans_sauce.specs.Fields.{four_bytes, with_file_size, with_non_blink, with_record}
 use Rattle.ans_sauce.proofs.ResizedFiles.{its_length, resized_again, resized_file_size}
 use Rattle.ans_sauce.proofs.ContentLemmas.{content_unmarked}
 use Rattle.ans_sauce.proofs.RecordLemmas.{content_before, front_shorter, has_by, length_front, record_behind}
@@ -31,7 +31,9 @@ use Rattle.ans_mend.specs.NamedColours.{AreColoursNamed, HasNamedColours, NamesC
 use Rattle.ans_mend.specs.declared.outcome.Mended.{Mended}
 use Rattle.ans_model.specs.declared.mends.Mends.{Mends}
 use Rattle.ans_mend.specs.Mending.{BeginsUnnamed, IsMended, WantsMending, end_mark_counted, front_bytes}
-use Rattle.ans_mend.specs.Mending.{lined, opened}
+use Rattle.ans_mend.specs.Mending.{iced, lined, opened, widened}
+use Rattle.ans_mend.specs.Columns.{with_columns}
+use Rattle.std.specs.Option.{option_map_or}
 use Rattle.ans_names_laws.specs.NameLaws.{NeverOwn, NoneOwnIsLeft}
 use Rattle.ans_check_laws.proofs.WholeFiles.{accepted_long}
 use Rattle.ans_check_laws.proofs.MarkedContents.{marked_stays}
@@ -298,21 +300,31 @@ module _ (mends : Mends) (file : List ℕ) (mended : Mended) (draft : List ℕ) 
   -- ---- its returns
 
   -- where returns are put and none is taken out, none is wanted
-  module _ (no_rows : mends.join_rows ≡ false) (keeps : KeepsReturns mends) (puts : mends.crlf ≡ true) where
+  module _ (no_rows : mends.join_rows ≡ false) (no_ice : mends.ice ≡ false) (keeps : KeepsReturns mends) (puts : mends.crlf ≡ true) where
     keeps_all : h.asked.take_out ≡ false
     keeps_all =
         ap (λ (m : Mends). m.take_out) h.asked_is
         ∙ sym (ap (λ (b : Bool). b && mends.take_out) puts) ∙ keeps
 
-    ended_is : ended ≡ with_line_ends was
+    mixed_is : h.asked.mixed ≡ mends.mixed
+    mixed_is = ap (λ (m : Mends). m.mixed) h.asked_is
+
+    not_iced : (file : List ℕ) → iced h.asked file ≡ file
+    not_iced file =
+        let off : h.asked.ice ≡ false = ap (λ (m : Mends). m.ice) h.asked_is ∙ no_ice in
+        ap (λ (b : Bool). if b && has_record file then with_record (with_non_blink true (record_in file)) file else file)
+        off
+
+    ended_is : ended ≡ with_line_ends h.asked.mixed was
     ended_is =
         let rows_off : h.asked.join_rows ≡ false =
         ap (λ (m : Mends). m.join_rows) h.asked_is ∙ no_rows in
         let ends_on : h.asked.crlf ≡ true = ap (λ (m : Mends). m.crlf) h.asked_is ∙ puts in
         (off h.asked.take_out _ keeps_all h.steps.is_edited.ends).0
         ∙ (off h.asked.join_rows _ rows_off h.steps.is_edited.rows).0
-        ∙ (off h.asked.take_out _ keeps_all h.steps.is_edited.sequences).0
-        ∙ ap (λ (b : Bool). if b then with_line_ends was else was) ends_on
+        ∙ h.steps.is_edited.sequences.2 ∙ not_iced h.steps.is_edited.sequences.0
+        ∙ (off h.asked.take_out _ keeps_all h.steps.is_edited.sequences.1).0
+        ∙ ap (λ (b : Bool). if b then with_line_ends h.asked.mixed was else was) ends_on
 
     has_was : has_record was ≡ true
     has_was = go (has_record was) refl
@@ -320,43 +332,55 @@ module _ (mends : Mends) (file : List ℕ) (mended : Mended) (draft : List ℕ) 
         go : (recorded : Bool) → has_record was ≡ recorded → has_record was ≡ true
         go true is = is
         go false is =
-            let same : with_line_ends was ≡ was =
-            ap (λ (b : Bool). if b && wants_returns (content_in was)
-            then with_content (with_returns (content_in was)) was else was) is in
+            let same : with_line_ends h.asked.mixed was ≡ was =
+            ap (λ (b : Bool). if b && wants_returns h.asked.mixed (content_in was)
+            then with_content (with_returns 0 (content_in was)) was else was) is in
             ap has_record (sym same ∙ sym ended_is) ∙ has_ended
 
-    ended_wants_none : wants_returns (content_in ended) ≡ false
-    ended_wants_none = ap wants_returns (ap content_in ended_is) ∙ returned_wants_none was has_was
+    ended_wants_none : wants_returns h.asked.mixed (content_in ended) ≡ false
+    ended_wants_none =
+        ap (wants_returns h.asked.mixed) (ap content_in ended_is) ∙ returned_wants_none was has_was h.asked.mixed
 
-    settled_wants_none : wants_returns (content_in h.settled) ≡ false
+    settled_wants_none : wants_returns h.asked.mixed (content_in h.settled) ≡ false
     settled_wants_none = go mends.name_colours refl
       where
-        go : (names : Bool) → mends.name_colours ≡ names → wants_returns (content_in h.settled) ≡ false
+        go : (names : Bool) → mends.name_colours ≡ names → wants_returns h.asked.mixed (content_in h.settled) ≡ false
         go true asks =
             let named = put asks in
-            ap wants_returns (left_is asks) ∙ named_wants (content_in ended) named.0 times named.1
-            ∙ ended_wants_none
+            ap (wants_returns h.asked.mixed) (left_is asks)
+            ∙ named_wants (content_in ended) named.0 times named.1 h.asked.mixed ended_wants_none
         go false none =
             let names_off : h.asked.name_colours ≡ false =
             ap (λ (m : Mends). m.name_colours) h.asked_is ∙ none in
-            ap wants_returns (same_content
+            ap (wants_returns h.asked.mixed) (same_content
             ∙ ap content_in (off h.asked.name_colours _ names_off h.steps.is_edited.named).0)
             ∙ ended_wants_none
 
-    shown_wants_none : wants_returns shown ≡ false
-    shown_wants_none = ap wants_returns h.content_is ∙ go mended.front
+    shown_wants_none : wants_returns mends.mixed shown ≡ false
+    shown_wants_none =
+        ap₂ (λ (b : Bool) (v : List ℕ). wants_returns b v) (sym mixed_is) h.content_is ∙ go mended.front
       where
-        go : (front : Bool) → wants_returns (front_bytes front ++ content_in h.settled) ≡ false
-        go true = wants_behind mending (content_in h.settled) refl refl ∙ settled_wants_none
+        go : (front : Bool) → wants_returns h.asked.mixed (front_bytes front ++ content_in h.settled) ≡ false
+        go true = wants_behind h.asked.mixed mending (content_in h.settled) refl refl ∙ settled_wants_none
         go false = settled_wants_none
 
   -- ---- mended again
-  module _ (laws : NamingLaws) (no_rows : mends.join_rows ≡ false) (keeps : KeepsReturns mends) (again : Mended)
+  module _ (laws : NamingLaws) (no_rows : mends.join_rows ≡ false) (no_repair : mends.repair_record ≡ false)
+      (no_columns : mends.columns ≡ None) (no_ice : mends.ice ≡ false) (keeps : KeepsReturns mends) (again : Mended)
       (draft_again : List ℕ) (k : IsMended mends written again draft_again) where
+    width_stays : widened mends written ≡ written
+    width_stays =
+        ap (λ (width : Option ℕ). option_map_or (λ w. with_columns w written) width written) no_columns
+
+    ice_stays : iced mends written ≡ written
+    ice_stays =
+        ap (λ (b : Bool). if b && has_record written then with_record (with_non_blink true (record_in written)) written
+        else written) no_ice
+
     stays : k.settled ≡ with_end_mark written
     stays =
-        settled_stays mends no_rows written h.apart h.accepts h.picture h.from_every
-        (shown_wants_none no_rows keeps) (λ asks. names_stay asks laws) again draft_again k
+        settled_stays mends no_rows no_repair written h.apart h.accepts h.picture h.from_every
+        (shown_wants_none no_rows no_ice keeps) (λ asks. names_stay asks laws) width_stays ice_stays again draft_again k
 
     settled_is_written : k.settled ≡ written
     settled_is_written = stays ∙ marked_stays written h.apart h.accepts.laid h.ended
@@ -384,8 +408,8 @@ module _ (mends : Mends) (file : List ℕ) (mended : Mended) (draft : List ℕ) 
         let content_again : content k.apart.body ≡ shown =
         k.content_is ∙ ap₂ (λ (b : Bool) (v : List ℕ). front_bytes b ++ v) no_front content_stays in
         let opened_again : opened k.asked k.based ≡ written =
-        opened_stays mends no_rows written h.apart h.accepts h.picture h.from_every
-        (shown_wants_none no_rows keeps) (λ asks. names_stay asks laws) again draft_again k in
+        opened_stays mends no_rows no_repair written h.apart h.accepts h.picture h.from_every
+        (shown_wants_none no_rows no_ice keeps) (λ asks. names_stay asks laws) width_stays ice_stays again draft_again k in
         let stated : file_size (record_in written) ≡ size =
         ap file_size (laid_record written h.apart h.accepts.laid) ∙ states_size room in
         let counted : length (content_in written) ≡ length shown =
@@ -407,11 +431,12 @@ module _ (mends : Mends) (file : List ℕ) (mended : Mended) (draft : List ℕ) 
         ∙ take-append-drop (length written - 128) written
 
 pub mending_twice : NamingLaws → (mends : Mends) (file draft draft_again : List ℕ) (mended again : Mended)
-    → mends.join_rows ≡ false → KeepsReturns mends → IsMended mends file mended draft
+    → mends.join_rows ≡ false → mends.repair_record ≡ false → mends.columns ≡ None → mends.ice ≡ false
+    → KeepsReturns mends → IsMended mends file mended draft
     → IsMended mends (front_bytes mended.front ++ draft) again draft_again
     → front_bytes again.front ++ draft_again ≡ front_bytes mended.front ++ draft
-mending_twice laws mends file draft draft_again mended again no_rows keeps h k =
-    twice_as_once mends file mended draft h laws no_rows keeps again draft_again k
+mending_twice laws mends file draft draft_again mended again no_rows no_repair no_columns no_ice keeps h k =
+    twice_as_once mends file mended draft h laws no_rows no_repair no_columns no_ice keeps again draft_again k
     (size_fits mends file mended draft h)
 
 -- ---- own colours

@@ -1,7 +1,7 @@
 //! Laws of mending: by itself, and with what is asked for. If colours are named, a body calls the laws of naming on
 //! which its own law rests.
 
-ghost use Rattle.std.specs.Prelude.{◌≡◌, ℕ, ◌+◌, ◌<◌, true, false, IsTrue, List, ◌++◌, length};
+ghost use Rattle.std.specs.Prelude.{◌≡◌, ℕ, ◌+◌, ◌<◌, true, false, IsTrue, List, ◌++◌, length, None};
 ghost use Rattle.ans_model.specs.Bytes.{longest_file};
 ghost use Rattle.ans_model.specs.File.Layout.{FileParts};
 ghost use Rattle.ans_model.specs.File.Record.{stated_size};
@@ -72,7 +72,8 @@ pub fn what_passes_is_mended()
 /// might go.
 pub fn mending_once_is_enough()
     ensures { (mends : Mends) (file draft draft_again : List ℕ) (mended again : Mended)
-        → mends.join_rows ≡ false → KeepsReturns mends
+        → mends.join_rows ≡ false → mends.repair_record ≡ false → mends.columns ≡ None → mends.ice ≡ false
+        → KeepsReturns mends
         → IsMended mends file mended draft
         → IsMended mends (front_bytes mended.front ++ draft) again draft_again
         → front_bytes again.front ++ draft_again ≡ front_bytes mended.front ++ draft }
