@@ -309,9 +309,18 @@ known_clean (Some Music) = plain_text (known_line (Some Music)) refl
 known_clean (Some (known.Terminal what)) = terminal_clean what
 known_clean (Some is) = plain_text (known_line (Some is)) refl
 
-ruleset clean_answers =
-    (hints_clean, pass_hints_clean, text_clean, file_damage_clean, widths_clean, remedy_clean, known_clean,
-    lines_clean, players_clean, clean_lines)
+ruleset clean_answers = (
+  hints_clean,
+  pass_hints_clean,
+  text_clean,
+  file_damage_clean,
+  widths_clean,
+  remedy_clean,
+  known_clean,
+  lines_clean,
+  players_clean,
+  clean_lines,
+)
 
 enough_clean : (file : List ℕ) (cause : Cause) (damage : TextDamage) (enough : Option Enough) → AreBytes file
     → IsSaidOfLines file cause enough → IsCleanText (enough_lines damage enough)
