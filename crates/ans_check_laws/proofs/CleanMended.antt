@@ -1,6 +1,6 @@
 -- What mending says is clean.
 use Rattle.std.proofs.Common.{◌≡◌, refl, ℕ, Bool, true, false, List, Option, Some, None, All}
-use Rattle.std.specs.Prelude.{flat_map, IfSome, codes, if◌then◌else◌, is_some}
+use Rattle.std.specs.Prelude.{flat_map, IfSome, codes, if◌then◌else◌}
 use Rattle.std.specs.List.{list_all}
 use Rattle.ans_model.specs.Bytes.{IsByte}
 use Rattle.ans_model.specs.Text.FaultText.{fault_line}
@@ -14,8 +14,8 @@ use Rattle.ans_sauce.specs.declared.writing.Reset.{Reset}
 use Rattle.ans_mend.specs.IdleText.{crlf_reason, idle_colours, idle_columns, idle_comments, idle_crlf, idle_ice}
 use Rattle.ans_mend.specs.IdleText.{idle_join_rows, idle_least, idle_line, idle_lines, idle_mixed, idle_record}
 use Rattle.ans_mend.specs.IdleText.{idle_take_out, idle_text, rows_reason}
-use Rattle.ans_mend.specs.MendedText.{comments_line, flag_line, front_line, has_switch, help_text, helped, mended_text}
-use Rattle.ans_mend.specs.MendedText.{record_line, torn_help, width_line, width_offered}
+use Rattle.ans_mend.specs.MendedText.{comments_line, flag_line, front_line, help_text, helped, mended_text}
+use Rattle.ans_mend.specs.MendedText.{record_line, width_line}
 use Rattle.ans_mend.specs.MendedText.{tail_line, taken_line, times_line, unmended_text}
 use Rattle.ans_mend.specs.declared.outcome.Mended.{Mended}
 use Rattle.ans_mend.specs.declared.outcome.Unmended.{Unmended}
@@ -118,15 +118,6 @@ mended_clean m bytes =
 
 -- ---- why there is none
 
-offered_clean : (asked : Mends) → IsCleanText (width_offered asked)
-offered_clean asked = plain_text (width_offered asked) (go (is_some asked.columns) (is_some asked.add_record))
-  where
-    go : (columns added : Bool) → list_all is_plain (if columns then codes " --columns N with another N"
-        else if added then codes " --add-record N with another N" else codes " --columns N") ≡ true
-    go true added = refl
-    go false true = refl
-    go false false = refl
-
 helped_clean : (asked : Mends) (way : Help) → IsCleanText (helped asked way)
 helped_clean asked help.Look = search clean_lines depth 20
 helped_clean asked way = search clean_lines depth 20
@@ -138,4 +129,4 @@ pub unmended_clean : (asked : Mends) (reason : Unmended) → IsCleanText (unmend
 unmended_clean asked (unmended.Refused fault) =
     clean_append (fault_line fault) (help_text asked fault.cause) (search clean_lines depth 20)
     (help_clean asked fault.cause)
-unmended_clean asked reason = search (offered_clean, clean_lines) depth 20
+unmended_clean asked reason = search clean_lines depth 20

@@ -1,11 +1,11 @@
 -- What the changes of a file leave of its record.
-use Rattle.std.proofs.Common.{◌≡◌, ◌⊎◌, inl, inr, ℕ, ◌+◌, ◌-◌, ◌%◌, ◌≤◌, Bool, true, false, List, [], ◌∷◌, ◌++◌, length, take, drop}
-use Rattle.std.proofs.Common.{refl, sym, ap, ◌∙◌, arith, subst, true≢false, Option, Some, None}
+use Rattle.std.proofs.Common.{◌≡◌, ◌⊎◌, inl, ℕ, ◌+◌, ◌-◌, ◌%◌, ◌≤◌, Bool, true, false, List, [], ◌∷◌, length, take}
+use Rattle.std.proofs.Common.{refl, sym, ap, ◌∙◌, arith, subst, Option, Some, None}
 use Rattle.std.specs.Prelude.{if◌then◌else◌, ◌&&◌, MatchBool}
 use Rattle.ans_model.specs.File.Refusals.{block_size, has_record}
 use Rattle.ans_sauce.specs.Found.{front_in, record_in}
 use Rattle.ans_sauce.specs.Contents.{content_in, with_content}
-use Rattle.ans_sauce.specs.Fields.{overwritten, two_bytes, with_lines, with_non_blink, with_record}
+use Rattle.ans_sauce.specs.Fields.{overwritten, two_bytes, with_non_blink, with_record}
 use Rattle.ans_sauce.proofs.Overwriting.{overwritten_length}
 use Rattle.ans_sauce.proofs.RecordLemmas.{body_before, record_behind, record_length, recorded_long}
 use Rattle.ans_mend.specs.Mending.{iced, lined}
