@@ -74,14 +74,14 @@ enum {
 
 /* What ans_mend may change besides what it changes without being asked, added up: the flags of `anscheck mend`. */
 enum {
-    ANS_TAKE_OUT = 1,      /* remove refused sequences, such as screen modes, and what scrolls at the very end */
+    ANS_TAKE_OUT = 1,      /* remove refused sequences, such as screen modes, and what scrolls at the end */
     ANS_CRLF = 2,          /* turn line feeds into CR LF, if the drawing has no CR */
     ANS_JOIN_ROWS = 4,     /* remove the line ends after full rows, if each full row has one */
     ANS_LEAST_LINES = 8,   /* set the smallest number of lines that works, if the record has too few, or none */
     ANS_NAME_COLOURS = 16, /* add 37 and 40 after a 0 that something is printed in */
     ANS_MIXED = 32,        /* with ANS_CRLF or ANS_JOIN_ROWS: if only some need it */
     ANS_ICE = 64,          /* set the flag for bright backgrounds */
-    ANS_RECORD = 128       /* remove an older record, and set the comment count */
+    ANS_RECORD = 128       /* set the comment count to the comments that are there */
 };
 
 /* Why a file is refused: n for the fault Fn, and its offset. For F25 the row and the column of the cell, counted

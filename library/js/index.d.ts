@@ -156,7 +156,7 @@ export interface NotMade {
 
 /** What may be changed to fix a file besides what is changed without being asked: the flags of `anscheck mend`. */
 export interface MendOptions {
-  /** Remove refused sequences, such as screen modes, and as little that draws nothing at the very end as must go. */
+  /** Remove refused sequences, such as screen modes, and as few line ends and bytes 00h at the very end as must go. */
   takeOut?: boolean;
   /** Turn line feeds into CR LF, if the drawing has no CR. */
   crlf?: boolean;
@@ -170,7 +170,7 @@ export interface MendOptions {
   nameColours?: boolean;
   /** Set the flag for bright backgrounds. */
   ice?: boolean;
-  /** Remove an older record, and set the comment count. */
+  /** Set the comment count to the comments that are there. */
   record?: boolean;
   /** Add a record for that many columns, if there is none: 1 to 1024. */
   addRecord?: number;

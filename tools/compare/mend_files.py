@@ -289,7 +289,7 @@ def some_asked(chance, file):
     flags = [
         {"width": a_width(chance, file)}, {"crlf": True}, {"take_out": True}, {"join_rows": True},
         {"least_lines": True}, {"lines": some_lines(chance)}, {"name_colours": True}, {"columns": a_width(chance, file)},
-        {"ice": True},
+        {"ice": True}, {"record": True}, {"crlf": True, "mixed": True}, {"join_rows": True, "mixed": True},
     ]
     asked = [NONE_ASKED] + [NONE_ASKED._replace(**flag) for flag in flags]
     for likely in [0.3, 0.5, 0.5, 0.8]:

@@ -175,6 +175,43 @@ def with_columns(file, columns, said):
     return file[:-32] + columns.to_bytes(2, "little") + file[-30:]
 
 
+def with_comments_counted(file, is_asked, said):
+    """The file whose record counts the comments that stand before it, where only one number of them is possible."""
+    if not is_asked or len(file) < 128 or file[-128:-123] != b"SAUCE":
+        return file
+    front, counted = file[:-128], file[-24]
+    numbers = [number for number in range(1, 256) if front[-5 - 64 * number:][:5] == b"COMNT" and
+               len(front) >= 5 + 64 * number]
+    number = counted if len(numbers) > 1 else (numbers + [0])[0]
+    if number != counted:
+        said.append(("comments", f"comments {number}, was {counted}"))
+    return file[:-24] + bytes([number]) + file[-23:]
+
+
+def idle_flags(asked, said, old_flags, is_stated_new):
+    """The lines on flags that were asked for and did nothing."""
+    kinds = {what for what, _ in said}
+    taken = any(kind.startswith("removed ") for kind in kinds) or "last line ends" in kinds
+    some = ("no line feed lacks a return", "no full row has a line end") if asked.mixed else (
+        "it needs line feeds and no return (--mixed: those without one)",
+        "it needs two full rows, each with a line end (--mixed: those with one)")
+    stays = "the drawing passes with those that are stated"
+    rows = [
+        ("add-record", asked.width and "added a record" not in kinds, "the file has a record"),
+        ("columns", asked.columns and "columns" not in kinds, "the record states them"),
+        ("record", asked.record and "comments" not in kinds, "the number of comments stays"),
+        ("crlf", asked.crlf and "returns" not in kinds, some[0]),
+        ("take-out", asked.take_out and not taken, "nothing of that kind is refused"),
+        ("ice", asked.ice and old_flags & 1, "the flag is set"),
+        ("join-rows", asked.join_rows and "full rows" not in kinds, some[1]),
+        ("mixed", asked.mixed and not asked.crlf and not asked.join_rows, "it is for --crlf and --join-rows"),
+        ("name-colours", asked.name_colours and "named colours" not in kinds, "no colour lacks a name"),
+        ("lines", asked.lines and not is_stated_new, stays),
+        ("least-lines", asked.least_lines and not asked.lines and not is_stated_new, stays),
+    ]
+    return [(f"idle {flag}", f"--{flag}: nothing done, {reason}") for flag, is_idle, reason in rows if is_idle]
+
+
 def record_help(file):
     """What may help a file without a record: one, if it takes one."""
     if with_record(file, 80, []) is None:
@@ -197,13 +234,14 @@ def draft_of(file, are_lines_asked, said):
 # What is asked for by name.
 
 
-def put_returns(draft):
-    """A return before each line feed, where there is none in all of the content."""
+def put_returns(draft, some_are_enough):
+    """A return before each line feed that has none before it, where there is none in all of the content, or some are
+    enough."""
     content = draft.content
-    if b"\n" in content and b"\r" not in content:
-        feeds = [at for at, byte in enumerate(content) if byte == 0x0A]
+    feeds = [found.start() for found in re.finditer(rb"(?<!\r)\n", content)]
+    if feeds and (some_are_enough or b"\r" not in content):
         draft.say_of_each("returns", "added {} carriage return(s) before (a )line feed(s)", feeds)
-        draft.content = content.replace(b"\n", b"\r\n")
+        draft.content = re.sub(rb"(?<!\r)\n", b"\r\n", content)
 
 
 def token_at(content, at):
@@ -298,17 +336,19 @@ class FullRows(Rows):
 
     def __init__(self, width):
         super().__init__(width)
-        self.line_ends_of_full = []
+        self.line_ends_of_full, self.is_undone = [], False
 
     def meet(self, offset, token, machine):
         before = len(self.ended)
         super().meet(offset, token, machine)
+        self.is_undone = self.is_undone or len(self.ended) < before
         if len(self.ended) > before:
             self.line_ends_of_full.append(sorted({self.ended[-1], offset}))
 
 
-def take_ends_of_full_rows_out(draft):
-    """The line ends behind full rows, where each full row that is followed has one and two have."""
+def take_ends_of_full_rows_out(draft, some_are_enough):
+    """The line ends behind full rows, where each full row that is followed has one and two have; or where some are
+    enough, and nothing is printed above where one of them led."""
     tokens, ending = tokens_of(draft.content)
     if ending:
         return
@@ -317,21 +357,22 @@ def take_ends_of_full_rows_out(draft):
         rows.meet(offset, token, pen)
         rows_printed(token, pen)
         rows.leave(token, pen)
-    if rows.all_end():
+    if some_are_enough and not rows.is_undone or not some_are_enough and rows.all_end():
         ends = rows.line_ends_of_full
         draft.say_of_each("full rows", "removed {} line end(s) after (a )full row(s)", [end[0] for end in ends])
         draft.content = without(draft.content, [(at, at + 1) for end in ends for at in end])
 
 
 def take_last_line_ends_out(draft, lines):
-    """As few line ends at the very end as have to go for the content to pass."""
+    """As few line ends and bytes 00h at the very end as have to go for the content to pass."""
     rest, count = draft.content, 0
     while not passes(rest, draft.width(), lines):
-        end = re.search(rb"(\r\n|\r|\n)\Z", rest)
+        end = re.search(rb"(\r\n|\r|\n|\0)\Z", rest)
         if not end:
             return
         rest, count = rest[:end.start()], count + 1
-    draft.say_of_each("last line ends", "removed {} line end(s) at the end", [len(rest)] * count)
+    several = "s or bytes 00h" if count > 1 else " or byte 00h"
+    draft.say_of_each("last line ends", "removed {} line end" + several + " at the end", [len(rest)] * count)
     draft.content = rest
 
 
@@ -423,17 +464,18 @@ def mended(file, asked, chance):
     file = without_tail(file, said)
     given = with_record(file, asked.width, said) if asked.width else None
     least_is_asked = asked.least_lines or bool(given) and not asked.lines
-    based = with_columns(given or file, asked.columns, said)
+    based = with_comments_counted(with_columns(given or file, asked.columns, said), asked.record, said)
     draft = draft_of(based, bool(given or asked.lines or asked.least_lines), said)
     draft.file()
     draft.is_iced = asked.ice
     old_content = draft.content
+    old_flags = draft.field(FLAGS)
     if asked.crlf:
-        put_returns(draft)
+        put_returns(draft, asked.mixed)
         draft.file()
     set_flag(draft, take_sequences_out(draft) if asked.take_out else [])
     if asked.join_rows:
-        take_ends_of_full_rows_out(draft)
+        take_ends_of_full_rows_out(draft, asked.mixed)
     if asked.take_out:
         take_last_line_ends_out(draft, draft.field(LINES) or asked.lines or MOST_LINES)
     changed = draft.content
@@ -448,6 +490,7 @@ def mended(file, asked, chance):
         raise NotMended(fault_line(*fault))
     put_beginning(draft, asked.name_colours, chance)
     set_file_size(draft, old_content)
+    said += idle_flags(asked, said, old_flags, any(what == "lines" for what, _ in said))
     return draft.file(), changed, said
 
 
@@ -557,7 +600,8 @@ def tried(program, file, asked, chance):
             wrong.append(f"expected {shown_answer(expected)}\n  not {shown_answer(printed)}")
         elif expected[0] == 0 and expected[1] != file:
             again = printed_of(program, asked_again(asked, expected[1]), expected[1])
-            wrong.append(None if again == (0, expected[1], []) else f"once more gives {shown_answer(again)}")
+            is_idle = again[:2] == (0, expected[1]) and all("nothing done" in line for line in again[2])
+            wrong.append(None if is_idle else f"once more gives {shown_answer(again)}")
     return kinds, [what for what in wrong if what]
 
 

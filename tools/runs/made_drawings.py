@@ -111,16 +111,16 @@ def loose(count, first):
     return counted("bare line feed makes a staircase", "bare line feeds make a staircase", count, first, ": --crlf")
 
 
-def full(count, first):
+def full(count, first, mixed=False):
     return counted(
         "full row is followed by a line end and leaves a blank row",
-        "full rows are followed by a line end and leave a blank row", count, first, ": --join-rows")
+        "full rows are followed by a line end and leave a blank row", count, first, ": --join-rows" + " --mixed" * mixed)
 
 
 def wider(count, first, columns):
     return counted(
         "row is wider than the screen", "rows are wider than the screen", count, first,
-        f"; the widest has {columns} columns")
+        f"; they need at least {columns} columns: --columns {columns}")
 
 
 def printed_over(count, first):
@@ -149,7 +149,7 @@ def later(count, first):
 def blinks(count, first):
     return counted(
         "character blinks", "characters blink", count, first,
-        "; if they should have bright backgrounds, set the non-blink flag")
+        "; if they should have bright backgrounds: --ice")
 
 
 def dark(count, first):
@@ -189,7 +189,9 @@ MISTAKES = [
     Drawing("130 columns, and 80 stated", SAFE + rows(130), (below(1333), wider(20, 143, 130), "lines: 40, but the rows look broken")),
     Drawing("130 columns, 80 stated, some rows short", SAFE + rows([130, 130, 70]),
             (below(1357), wider(14, 143, 130), "lines: 34, but the rows look broken")),
-    Drawing("132 columns without line ends, and 80 stated", SAFE + rows(132, b""), (below(1613), "lines: 33")),
+    Drawing("132 columns without line ends, and 80 stated", SAFE + rows(132, b""), (
+        below(1613), "hint: with 132 columns the 20 stated lines come out: --columns 132",
+        "lines: 33, but the rows look broken")),
     Drawing("UTF-8", SAFE + texts(BOXES, "utf-8"),
             (below(1589), foreign("character", "characters", "UTF-8", 1560, 13), "lines: 60, but the rows look broken")),
     Drawing("letters in UTF-8", SAFE + texts(WORDS, "utf-8"), (foreign("letter", "letters", "UTF-8", 120, 17),)),
@@ -242,7 +244,7 @@ MISTAKES = [
     Drawing("no lines stated", SHORT, (fault(1352, "F5 number of lines not stated"), "found: 0 lines stated", "lines: 20"),
             lines=0),
     Drawing("no lines stated, and a full row with CR LF", SAFE + rows([60] * 19 + [80]), (
-        fault(1372, "F5 number of lines not stated"), "found: 0 lines stated", full(1, 1271), EMPTY_LAST, "lines: 21",
+        fault(1372, "F5 number of lines not stated"), "found: 0 lines stated", full(1, 1271, True), EMPTY_LAST, "lines: 21",
     ), lines=0),
     Drawing("no lines stated, and full rows with CR LF", FULL, (
         fault(1752, "F5 number of lines not stated"), "found: 0 lines stated", full(20, 93), EMPTY_LAST,
@@ -297,15 +299,13 @@ MEANT = [
     Drawing("an arrow by its other byte", SHORT[:663] + b"\x10" + SHORT[664:]),
     Drawing("comments that are counted", SHORT, behind=b"\x1a" + COMMENTS, comments=2),
     Drawing("a font of code page 437", SHORT, font=b"IBM VGA50 437"),
+    Drawing("a full row in turn with one of 79 and CR LF, as of 159 columns", SAFE + mixed([80, 79] * 10)),
+    Drawing("a table with headings of one length under its rules", SAFE + table_of(*["  Name     Size     Date"] * 10)),
 ]
 
 # They are as they were meant, and look to the definitions like one of the mistakes.
 SPOKEN_OF = [
-    Drawing("a full row in turn with one of 79 and CR LF, as of 159 columns", SAFE + mixed([80, 79] * 10),
-            (wider(10, 172, 159),)),
-    Drawing("a table with headings of one length under its rules", SAFE + table_of(*["  Name     Size     Date"] * 10),
-            (wider(10, 117, 104),)),
-    Drawing("a blank row by the line end of a full one", SAFE + rows([60] * 17 + [80, 60], count=19), (full(1, 1147),)),
+    Drawing("a blank row by the line end of a full one", SAFE + rows([60] * 17 + [80, 60], count=19), (full(1, 1147, True),)),
     Drawing("titles edge to edge", SAFE + texts("┤Size├┤Date├"), (foreign("letter", "letters", "UTF-8", 20, 18),)),
     Drawing("a sign between letters", SAFE + texts("  x≤y"), (foreign("letter", "letters", "Latin-1", 20, 16),)),
     Drawing("a calendar without blanks", SAFE + texts("|01Mo|02Tu|03We"), (PIPE_CODES, board(60, 13))),

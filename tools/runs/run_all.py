@@ -7,7 +7,8 @@ Run it in `crates/anscheck`, after `rt run -- check --cleared data/hi.ans` has b
 
 PROGRAM is named `anscheck`, as its help says. First it tries the rows of `rows.py`, which the gate tries over files in memory: that the program prints to the right
 stream, opens the file that the words name, and returns the status that its functions choose, no contract reaches. A
-file whose reading fails after some bytes cannot be had here, so its rows are left out. Then it tries what only a system
+file whose reading fails after some bytes cannot be had here, so its rows are left out. It compares how many rows there
+are with what the gate is to print. Then it tries what only a system
 has: a folder as FILE, a full device, an output that is closed, and a word that is not text. It is outside the gate.
 """
 import os
@@ -20,6 +21,7 @@ sys.dont_write_bytecode = True
 from rows import file_bytes, input_of, printed_of, tables, words_of
 
 HI = "data/hi.ans"
+COUNTS = os.path.join(os.path.dirname(os.path.abspath(__file__)), "../../crates/anscheck_rows/stdout")
 UNWRITTEN = b"anscheck: cannot write the report\n"
 UNREAD = b"anscheck: cannot read the file\n"
 
@@ -33,6 +35,13 @@ OF_A_FOLDER = [[command, "data"] for command in ("check", "sauce", "tokens")]
 # Words that name one, and of which the name and the reason are said.
 OF_A_NAMED_FOLDER = [["data"], ["data", "data/none.ans"], ["show", "--any", "data"]] + [
     [command, "data"] for command in ("why", "needs", "show", "mend", "redraw")]
+
+
+def counted_otherwise():
+    """What the file of the rows' program says of how many there are, if it is not so; or None."""
+    counts = "".join(f"{name}: {len(table['row'])} rows, 0 otherwise\n" for name, table in tables())
+    with open(COUNTS, encoding="utf-8") as f:
+        return None if f.read() == counts else counts
 
 
 def in_a_folder_with(files, run):
@@ -125,6 +134,10 @@ def main(program):
     program = os.path.abspath(program)
     counts = [try_table(program, name, table) for name, table in tables()] + [try_system(program)]
     tried, wrong = (sum(numbers) for numbers in zip(*counts))
+    stale = counted_otherwise()
+    if stale:
+        wrong += 1
+        print(f"crates/anscheck_rows/stdout is to be\n{stale}")
     print(f"{tried - wrong} of {tried} runs came out as they are to")
     return 1 if wrong else 0
 

@@ -2,8 +2,9 @@
 """Spoils drawings as transfers, editors and converters do, and fixes them by what `why` and `mend` say alone.
 
 Each drawing is made from a picture of random text and blocks, so it is known what was meant. It is spoiled in one of
-the ways below, and then the words are followed: the flags that hints name are given to `mend`, and those that its line
-`try:` names after that, until a file is written or nothing more is named. Of each drawing it is then said:
+the ways below, and then the words are followed: the flags of the line `fix:`, or without it those that hints name, are
+given to `mend`, and those that its line `try:` names after that, until a file is written or nothing more is named. Of
+each drawing it is then said:
 
 - *mended*: the file that is written shows the meant picture from every start, or with empty lines below it;
 - *told*: no file is written, or the drawing passes as it is, and `why` says what has to be done by hand, in the words
@@ -214,7 +215,7 @@ def comments_gone(p):
     return file_of(p, content_of(p), comments=2)
 
 
-@way("an older record")
+@way("an older record", by_hand=r"is: an older record")
 def older_record(p):
     content = content_of(p)
     old = record(80, len(p.rows), len(content))
@@ -386,7 +387,8 @@ def flags_in(lines):
 def followed(program, file):
     """The file that `mend` writes where the words are followed, or None; and all that was said."""
     why = run(program, ["why"], file).stdout.decode().splitlines()
-    flags = list(dict.fromkeys(flags_in([line for line in why if line.startswith("hint: ")])))
+    named = [line for line in why if line.startswith("fix: ")] or [line for line in why if line.startswith("hint: ")]
+    flags = list(dict.fromkeys(flags_in(named)))
     said = list(why)
     for _ in range(MOST_STEPS):
         done = run(program, ["mend", *" ".join(flags).split()], file)

@@ -102,7 +102,7 @@ pub record HandsReport (reports : Bool → List ℕ → Type 0) (room result tol
 -- what was changed in a file that is fixed, or why it is not by what was asked for
 abbrev pub mending_text : Mends → Result Mended Unmended → List ℕ
 mending_text asked (Ok mended) = mended_text mended
-mending_text asked (Err reason) = unmended_text asked reason
+mending_text asked (Err reason) = unmended_text asked asked reason
 
 -- Asked for this, the file is fixed, and `new` is the fixed one; or it is not, and `new` is empty. The text says what
 -- was changed, or why it is not.

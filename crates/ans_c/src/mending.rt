@@ -91,7 +91,7 @@ fn put_answer<W: Write>(out: &mut Outbox<'_, W>, asked: &Mends, answer: &Result<
 {
     match answer {
         Ok(mended) => put_mended(out, mended),
-        Err(reason) => put_unmended(out, asked, reason),
+        Err(reason) => put_unmended(out, asked, asked, reason),
     }
 }
 

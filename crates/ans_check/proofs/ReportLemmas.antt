@@ -36,9 +36,10 @@ use Rattle.ans_check.specs.CommandText.{IsReportOf, ReportsPicture, shown_text}
 use Rattle.ans_check.specs.CommandText.{ReportsChecked, ReportsFaultOf, checked_of, is_of_start, is_passed}
 use Rattle.ans_check.specs.declared.check_file.Checked.{Checked}
 use Rattle.ans_check.specs.declared.check_file.Checked.TheVariants as checked
-use Rattle.ans_why.specs.WhyText.{ReportsWhy}
+use Rattle.ans_model.specs.declared.mends.Mends.{Mends}
+use Rattle.ans_fix.specs.Suggested.{IsFix}
+use Rattle.ans_check.specs.WhyTold.{ReportsTold, told_text}
 use Rattle.ans_why.specs.Explained.{IsTrueOf, Why}
-use Rattle.ans_why.specs.WhyText.{why_text}
 use Rattle.ans_options.specs.declared.command.Form.{Form}
 
 -- the heading of a file's parts
@@ -178,9 +179,13 @@ picture_reported file start form parts picture h = record {
 }
 
 -- what is said of a file, where it is true
-pub why_reported : (file : List ℕ) (why : Why) (passed : Bool) → IsTrueOf file why → passed ≡ is_pass why
-    → ReportsWhy file passed (why_text why)
-why_reported file why passed h e = record { said = why; is_true = h; passed_is = e; text_is = refl }
+pub why_reported : (file : List ℕ) (why : Why) (fix : Option Mends) (passed : Bool) → IsTrueOf file why
+    → IsFix file why fix → passed ≡ is_pass why → ReportsTold file passed (told_text why fix)
+why_reported file why fix passed h tried e = record {
+  said = why;
+  told = record { is_true = h; fix = fix; is_fix = tried; text_is = refl };
+  passed_is = e;
+}
 
 -- the text of an accepted record
 pub sauce_reported : (file : List ℕ) (parts : Parts) (s : IsSplit file parts) → ReportsRecord file (record_text s.apart)

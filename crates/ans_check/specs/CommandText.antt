@@ -26,11 +26,11 @@ use Rattle.ans_options.specs.declared.command.Options.{Options}
 use Rattle.ans_show.specs.PageText.{page_text}
 use Rattle.ans_show.specs.TerminalText.{terminal_text}
 use Rattle.ans_report.specs.RecordReports.{ReportsRecordFault, ReportsSauce}
-use Rattle.ans_why.specs.WhyText.{ReportsWhy}
 use Rattle.ans_verdict.specs.declared.verdict.Verdict.{Verdict}
 use Rattle.ans_verdict.specs.declared.verdict.Verdict.TheVariants.{Pass, Refused}
 use Rattle.ans_verdict.specs.FileNeeds.{NeedsClass}
 use Rattle.ans_verdict.specs.FileVerdict.{Passes, IsRefusedFor, IsGoodFile}
+use Rattle.ans_check.specs.WhyTold.{ReportsTold}
 use Rattle.ans_check.specs.declared.check_file.Checked.{Checked}
 use Rattle.ans_check.specs.declared.check_file.Checked.TheVariants as checked
 
@@ -144,7 +144,7 @@ ReportsNeeds file false text = ReportsRefusal file all_known None text
 -- for one file, which has no name here; what its row would say first is reported as `needs` reports it. A file that is
 -- to be mended or redrawn has no report either, and what it needs is reported too.
 abbrev pub ReportsBy : Command → Start → Bool → List ℕ → Bool → List ℕ → Type 0
-ReportsBy Why start cells file passed text = ReportsWhy file passed text
+ReportsBy Why start cells file passed text = ReportsTold file passed text
 ReportsBy Check start cells file passed text = ReportsCheck file start cells passed text
 ReportsBy (Show form) start cells file passed text = ReportsShow file start form passed text
 ReportsBy Sauce start cells file passed text = ReportsSauce file passed text

@@ -9,6 +9,7 @@ pub mod CommandText
 pub mod Reported
 pub mod Served
 pub mod Table
+pub mod WhyTold
 pub mod WhyRows
 pub mod Listing
 pub mod Answer

@@ -13,10 +13,10 @@ use Rattle.ans_table.specs.Findings.{pass_outcome, unread_text}
 use Rattle.ans_table.specs.NameText.{name_text}
 use Rattle.ans_report.specs.Message.{message_line}
 use Rattle.ans_sauce.specs.declared.judged.Judged.TheVariants.{Passes}
-use Rattle.ans_why.specs.Explained.{IsTrueOf, Why}
-use Rattle.ans_why.specs.WhyText.{why_text}
+use Rattle.ans_why.specs.Explained.{Why}
 use Rattle.ans_write.specs.declared.tried.Tried.{Tried}
 use Rattle.ans_check.specs.FileRows.{Given, TellsNamed, WritesRows}
+use Rattle.ans_check.specs.WhyTold.{IsToldOf}
 use Rattle.ans_check.specs.declared.errors.RunError.{RunError}
 
 -- the line of a file's name, before what is said of it
@@ -35,15 +35,14 @@ outcome_of_why _ = Refused
 -- what is wrong with the file is said, or what it relies on
 pub record TellsJudged (file : List ℕ) (outcome : Outcome) (text : List ℕ) : Type 0 where
   pub said : Why
-  pub is_true : IsTrueOf file said
+  pub told : IsToldOf file said text
   pub outcome_is : outcome ≡ outcome_of_why said
-  pub text_is : text ≡ why_text said
 
 -- the file was not read, and the reason is given
 abbrev pub TellsUnread : reason.Unread → Outcome → List ℕ → Type 0
 TellsUnread e outcome text = (outcome ≡ Unread) × (text ≡ error_line e)
 
--- What is said of a file, of which this was read. Memory may run out for judging it.
+-- What is said of a file, of which this was read. Memory may run out for judging it, or for trying to mend it.
 abbrev pub TellsWhyOf : Given → Outcome → List ℕ → Type 0
 TellsWhyOf (Ok file) outcome text = TellsJudged file outcome text ⊎ TellsUnread why.Memory outcome text
 TellsWhyOf (Err e) outcome text = TellsUnread e outcome text

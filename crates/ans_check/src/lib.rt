@@ -8,9 +8,9 @@
 //! found by `ans_verdict`, a file is mended by `ans_mend`, and the command line is read by `ans_options`;
 //! their public names are passed on.
 //!
-//! What each command writes is in `specs/CommandText.antt`, what a run has done when it returns in
-//! `specs/Served.antt`, what a redrawn file is in `specs/Redrawing.antt`, what a table has in
-//! `specs/Table.antt`, how words are answered in `specs/Answer.antt`, and the endings in
+//! What each command writes is in `specs/CommandText.antt` and `specs/WhyTold.antt`, what a run has done
+//! when it returns in `specs/Served.antt`, what a redrawn file is in `specs/Redrawing.antt`, what a table has
+//! in `specs/Table.antt`, how words are answered in `specs/Answer.antt`, and the endings in
 //! `specs/Ending.antt`.
 #![tactic(auto)]
 
@@ -31,6 +31,7 @@ mod streams;
 mod system;
 mod task;
 mod why_rows;
+mod why_told;
 
 pub use ans_kinds::{KindsUsed, Players};
 pub use ans_mend::{MendError, Mended, Unmended, mend_on};

@@ -8,7 +8,7 @@ ghost use Rattle.ans_check.specs.CommandText.{Reports, ReportsCheck, ReportsNeed
 ghost use Rattle.ans_report.specs.RecordReports.{ReportsSauce};
 ghost use Rattle.ans_check.specs.CommandText.{ReportsTokens, IsReportOf, shown_text};
 ghost use Rattle.ans_check.specs.CommandText.{ReportsChecked};
-ghost use Rattle.ans_why.specs.WhyText.{ReportsWhy};
+ghost use Rattle.ans_check.specs.WhyTold.{ReportsTold};
 ghost use Rattle.ans_verdict.specs.FileVerdict.{fault_of};
 ghost use Rattle.ans_check.specs.Reported.{IsPut, PutsTold};
 ghost use Rattle.ans_check.specs.Served.{Serves};
@@ -18,6 +18,8 @@ use crate::check_file::Checked;
 use crate::errors::RunError;
 use crate::exit_status::Ending;
 use crate::task::{Task, run_task};
+use crate::why_told::put_told;
+use ans_fix::fix_for;
 use ans_model::start::Start;
 use ans_options::{Command, Form, Options};
 use ans_play::Picture;
@@ -26,7 +28,6 @@ use ans_sauce::{Parts, split};
 use ans_screen::{PlaneGrid, Screen};
 use ans_show::{put_page, put_terminal};
 use ans_verdict::{FileScreens, Verdict, check, needs_on, why_on};
-use ans_why::put_why;
 use ans_write::Outbox;
 use std::alloc::{AllocError, Global};
 use std::io::{Read, Write};
@@ -171,17 +172,19 @@ fn tell_needs<W: Write>(
     Ok(found.is_pass())
 }
 
-/// Puts why a file is refused, or what it relies on. Returns whether it passes from the cleared start.
+/// Puts why a file is refused and the command that mends it, or what it relies on. Returns whether it passes from
+/// the cleared start.
 fn tell_why<W: Write>(
     alloc: Global,
     out: &mut Outbox<'_, W>,
     file: &[u8],
 ) -> Result<bool, AllocError>
     requires { length file.now ≤ longest_file }
-    ensures { PutsTold W.contents (ReportsWhy file.now) out.old out.new result }
+    ensures { PutsTold W.contents (ReportsTold file.now) out.old out.new result }
 {
     let why = why_on(&mut FileScreens::<PlaneGrid>::new(alloc), file)?;
-    put_why(out, &why);
+    let fix = fix_for(alloc, file, &why)?;
+    put_told(out, &why, &fix);
     Ok(why.is_pass())
 }
 
@@ -234,9 +237,9 @@ impl Task for Options {
 
 /// Reads the whole input, and writes what the options ask of it: the report of a check, the picture
 /// of a pass in colour, the text of the record (SAUCE 00.5), the tokens of the content, what the
-/// content needs, or why the file is refused and what it relies on. Where the content is refused,
-/// what should show its picture reports that as a check does. Where the record or the layout is
-/// refused, F1 to F8, the two lines of the refusal are written instead. A table is of files by their
+/// content needs, or why the file is refused, the command that mends it, and what it relies on. Where
+/// the content is refused, what should show its picture reports that as a check does. Where the record or the layout
+/// is refused, F1 to F8, the two lines of the refusal are written instead. A table is of files by their
 /// names, and [`table`](crate::table) writes it; a file is mended by [`mend`](crate::mend) and
 /// redrawn by [`redraw`](crate::redraw). With one of these as the command, what the one input here needs is
 /// written. `Ok` says whether the file passes: its content is found good, its record is accepted, all of its content

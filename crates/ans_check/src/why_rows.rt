@@ -13,11 +13,13 @@ ghost use Rattle.ans_check.specs.WhyRows.{unread_counts_said};
 use crate::errors::RunError;
 use crate::file_rows::{FileRows, tell_rows};
 use crate::inputs::Inputs;
+use crate::why_told::put_told;
+use ans_fix::fix_for;
 use ans_report::{Tried, put_named_line};
 use ans_sauce::Judged;
 use ans_table::{Counts, Outcome, Unread, put_name};
 use ans_verdict::{KeptScreens, why_on};
-use ans_why::{Why, put_why};
+use ans_why::Why;
 use ans_write::Outbox;
 use std::alloc::{AllocError, Global};
 use std::io::Write;
@@ -52,6 +54,7 @@ fn outcome_of_why(why: &Why<'_>) -> Outcome
 
 /// Puts what is wrong with a file, or what it relies on. Returns how it came out.
 fn put_why_of<W: Write>(
+    alloc: Global,
     screens: &mut KeptScreens,
     out: &mut Outbox<'_, W>,
     given: Result<&[u8], Unread>,
@@ -66,7 +69,10 @@ fn put_why_of<W: Write>(
     let Ok(why) = why_on(screens, file) else {
         return put_error_line(out, Unread::Memory);
     };
-    put_why(out, &why);
+    let Ok(fix) = fix_for(alloc, file, &why) else {
+        return put_error_line(out, Unread::Memory);
+    };
+    put_told(out, &why, &fix);
     outcome_of_why(&why)
 }
 
@@ -80,14 +86,14 @@ impl FileRows for WhyRows {
 
     fn put<W: Write>(
         &self,
-        _alloc: Global,
+        alloc: Global,
         screens: &mut KeptScreens,
         out: &mut Outbox<'_, W>,
         name: &[u8],
         given: Result<&[u8], Unread>,
     ) -> Result<Outcome, AllocError> {
         put_file_line(out, name);
-        Ok(put_why_of(screens, out, given))
+        Ok(put_why_of(alloc, screens, out, given))
     }
 }
 

@@ -39,7 +39,7 @@ use Rattle.ans_table.specs.Unopened as unopened
 use Rattle.ans_table.specs.declared.unopened.Unopened.TheVariants.{Missing, Folder}
 use Rattle.ans_check_laws.specs.CleanTexts.{IsCleanText, IsColouredText, is_for_terminal}
 use Rattle.ans_check_laws.proofs.CleanLines.{OfBytes, clean_lines, parts_are_bytes}
-use Rattle.ans_check_laws.proofs.CleanWhy.{why_clean}
+use Rattle.ans_check_laws.proofs.CleanTold.{told_clean}
 use Rattle.ans_check_laws.proofs.CleanPictures.{coloured_where_clean, page_clean, terminal_coloured}
 use Rattle.ans_check_laws.proofs.CleanPieces.{clean_option, AreBytes, bytes_drop, bytes_take, clean_append, clean_nil}
 use Rattle.ans_check_laws.proofs.CleanPieces.{clean_pieces, of_each, of_rows, plain_text}
@@ -173,7 +173,8 @@ show_coloured file start form passed text bytes h =
 
 clean_by : (command : Command) (start : Start) (cells : Bool) (file text : List ℕ) (passed : Bool) → AreBytes file
     → ReportsBy command start cells file passed text → (is_for_terminal command && passed) ≡ false → IsCleanText text
-clean_by Why start cells file text passed bytes h other = rw h.text_is (why_clean file h.said bytes h.is_true)
+clean_by Why start cells file text passed bytes h other =
+    rw h.told.text_is (told_clean file h.said h.told.fix bytes h.told.is_true)
 clean_by Check start cells file text passed bytes h other = check_clean file start cells passed text h
 clean_by (Show form) start cells file text passed bytes h other = show_clean file start form passed text bytes h other
 clean_by Sauce start cells file text passed bytes h other = sauce_clean file passed text bytes h

@@ -6,6 +6,7 @@ pub mod CleanPictures
 pub mod CleanLines
 pub mod CleanPlayers
 pub mod CleanWhy
+mod CleanTold
 pub mod CleanReports
 mod ShownNames
 pub mod CleanNames

@@ -11,6 +11,7 @@ macro_rules! words {
 
 mod devices;
 mod endings;
+mod fixes;
 mod large;
 mod verdicts;
 

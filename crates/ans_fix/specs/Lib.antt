@@ -1,1 +1,3 @@
+pub mod FlagsText
+pub mod Suggested
 pub mod Trials

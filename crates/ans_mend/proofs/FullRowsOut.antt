@@ -25,7 +25,7 @@ of_recorded mixed z file new left times has out new_is =
 may_reads : (mixed : Bool) (z : Size) (content : List ℕ) (tokens : List TokenKind) (texts : List (List ℕ))
     → MayGo mixed z content tokens texts → ReadsAs content tokens texts
 may_reads false z content tokens texts h = h.reads
-may_reads true z content tokens texts h = h
+may_reads true z content tokens texts h = h.reads
 
 -- none are
 pub none_out : (mixed : Bool) (z : Size) (file content : List ℕ) → has_record file ≡ true → content ≡ content_in file

@@ -1,6 +1,6 @@
 -- What mending says: what was changed, or why there is none.
-use Rattle.std.specs.Prelude.{ℕ, ◌-◌, Bool, true, false, not, ◌&&◌, ◌==◌, nat_lt, nat_le, min, List, [], ◌++◌, take}
-use Rattle.std.specs.Prelude.{slice_index_or}
+use Rattle.std.specs.Prelude.{ℕ, ◌+◌, ◌-◌, Bool, true, false, not, ◌&&◌, ◌||◌, ◌==◌, nat_lt, nat_le, min}
+use Rattle.std.specs.Prelude.{List, [], ◌++◌, take, slice_index_or}
 use Rattle.std.specs.Prelude.{codes, decimal, Option, None, Some, is_some, if◌then◌else◌}
 use Rattle.std.specs.List.{flat_map}
 use Rattle.ans_model.specs.Text.FaultText.{fault_line}
@@ -14,6 +14,7 @@ use Rattle.ans_report.specs.declared.meanings.Help.{Help}
 use Rattle.ans_report.specs.declared.meanings.Help.TheVariants as help
 use Rattle.ans_pens.specs.declared.times.Times.{Times}
 use Rattle.ans_mend.specs.IdleText.{idle_text}
+use Rattle.ans_mend.specs.declared.helping.Offers.{Offers}
 use Rattle.ans_mend.specs.declared.outcome.GivenRecord.{GivenRecord}
 use Rattle.ans_mend.specs.declared.outcome.Mended.{Mended}
 use Rattle.ans_mend.specs.declared.outcome.Unmended.{Unmended}
@@ -131,60 +132,91 @@ abbrev pub no_record_help : List ℕ
 no_record_help =
     codes "no record is added if SAUCE00 appears in the file or more follows 1Ah: see anscheck help F1\n"
 
-abbrev pub sequence_help : Mends → List ℕ
-sequence_help asked =
-    if asked.take_out then look_text
-    else codes "try: --take-out, which removes such sequences if it knows them\n"
+-- a flag is neither asked for nor known not to help
+abbrev pub is_left : Bool → Bool → Bool
+is_left asked without_help = not (asked || without_help)
 
--- a flag, unless it is given
+-- What may help: what is left of the flags that change rows, sequences and lines; with one that is asked for, that it
+-- changes mixed rows too; and a larger number of lines than the one that is asked for.
+abbrev pub offers_of : Mends → Mends → Offers
+offers_of asked without_help = record {
+  crlf = is_left asked.crlf without_help.crlf;
+  join_rows = is_left asked.join_rows without_help.join_rows;
+  mixed = (asked.crlf || asked.join_rows) && is_left asked.mixed without_help.mixed;
+  take_out = is_left asked.take_out without_help.take_out;
+  larger = is_some asked.lines;
+  least_lines = not (is_some asked.lines) && is_left asked.least_lines without_help.least_lines;
+}
+
+abbrev pub one_if : Bool → ℕ
+one_if offered = if offered then 1 else 0
+
+-- how many of them change the rows or the number of lines
+abbrev pub rows_offers : Offers → ℕ
+rows_offers offers =
+    one_if offers.crlf + (one_if offers.join_rows + (one_if offers.mixed + (one_if offers.take_out
+    + (one_if offers.larger + one_if offers.least_lines))))
+
+abbrev pub sequence_help : Offers → List ℕ
+sequence_help offers =
+    if offers.take_out then codes "try: --take-out, which removes such sequences if it knows them\n" else look_text
+
+abbrev pub unstated_help : Offers → List ℕ
+unstated_help offers =
+    if offers.least_lines then codes "try: --least-lines, which sets the smallest number of lines that works\n"
+    else look_text
+
+-- a flag, if it is offered
 abbrev pub offered : Bool → List ℕ → List ℕ
-offered given flag = if given then [] else codes " " ++ flag
+offered is_offered flag = if is_offered then codes " " ++ flag else []
 
 -- more lines: another number than the one that is given, or the least
-abbrev pub lines_offered : Mends → List ℕ
-lines_offered asked =
-    if is_some asked.lines then codes " --lines N with a larger N"
-    else offered asked.least_lines (codes "--least-lines")
-
--- the least number of lines is asked for, and so no more helps
-abbrev pub has_least : Mends → Bool
-has_least asked = asked.least_lines && not (is_some asked.lines)
-
-abbrev pub all_given : Mends → Bool
-all_given asked = asked.crlf && (asked.join_rows && (asked.take_out && has_least asked))
+abbrev pub lines_offered : Offers → List ℕ
+lines_offered offers =
+    offered offers.larger (codes "--lines N with a larger N") ++ offered offers.least_lines (codes "--least-lines")
 
 -- what comes before the flags that may help
 abbrev pub try_text : List ℕ
 try_text = codes "try:"
 
--- what comes after them
+-- what comes after them if there are several
 abbrev pub which_text : List ℕ
 which_text = codes " (anscheck why says which)\n"
 
--- the flags that change the rows, except those that are given
-abbrev pub rows_help : Mends → List ℕ
-rows_help asked =
-    if all_given asked then look_text
-    else try_text ++ (offered asked.crlf (codes "--crlf")
-    ++ (offered asked.join_rows (codes "--join-rows") ++ (offered asked.take_out (codes "--take-out")
-    ++ (lines_offered asked ++ which_text))))
+-- what comes after so many of them
+abbrev pub after_offers : ℕ → List ℕ
+after_offers count = if count == 1 then codes "\n" else which_text
+
+-- the flags that change the rows
+abbrev pub rows_help : Offers → List ℕ
+rows_help offers =
+    if rows_offers offers == 0 then look_text
+    else try_text ++ (offered offers.crlf (codes "--crlf")
+    ++ (offered offers.join_rows (codes "--join-rows")
+    ++ (offered offers.mixed (codes "--mixed")
+    ++ (offered offers.take_out (codes "--take-out")
+    ++ (lines_offered offers ++ after_offers (rows_offers offers))))))
+
+abbrev pub has_lines : Offers → Bool
+has_lines offers = offers.larger || offers.least_lines
 
 -- a place outside the screen may be on a screen of more lines
-abbrev pub place_help : Mends → List ℕ
-place_help asked = if has_least asked then look_text else try_text ++ (lines_offered asked ++ which_text)
+abbrev pub place_help : Offers → List ℕ
+place_help offers =
+    if has_lines offers then try_text ++ (lines_offered offers ++ codes "\n") else look_text
 
--- what may help, of what is not asked for yet
-abbrev pub helped : Mends → Help → List ℕ
-helped asked help.Look = look_text
-helped asked help.Record = record_help
-helped asked help.LeastLines = codes "try: --least-lines, which sets the smallest number of lines that works\n"
-helped asked help.TakeOut = sequence_help asked
-helped asked help.Place = place_help asked
-helped asked help.Rows = rows_help asked
+-- what may help
+abbrev pub helped : Offers → Help → List ℕ
+helped offers help.Look = look_text
+helped offers help.Record = record_help
+helped offers help.LeastLines = unstated_help offers
+helped offers help.TakeOut = sequence_help offers
+helped offers help.Place = place_help offers
+helped offers help.Rows = rows_help offers
 
 -- what may help against a fault
-abbrev pub help_text : Mends → Cause → List ℕ
-help_text asked cause = helped asked (fault_help cause)
+abbrev pub help_text : Offers → Cause → List ℕ
+help_text offers cause = helped offers (fault_help cause)
 
 -- another width: of the record that is added, or of the one that is there
 abbrev pub width_offered : Mends → List ℕ
@@ -194,19 +226,25 @@ width_offered asked =
     else codes " --columns N"
 
 -- what may help if the rows look broken: whole rows, a number that is given all the same, or another width
-abbrev pub torn_help : Mends → List ℕ
-torn_help asked =
-    try_text ++ (offered asked.crlf (codes "--crlf")
-    ++ (offered asked.join_rows (codes "--join-rows") ++ (codes " --lines N" ++ (width_offered asked ++ which_text))))
+abbrev pub torn_help : Mends → Offers → List ℕ
+torn_help asked offers =
+    try_text ++ (offered offers.crlf (codes "--crlf")
+    ++ (offered offers.join_rows (codes "--join-rows")
+    ++ (offered offers.mixed (codes "--mixed")
+    ++ (codes " --lines N" ++ (width_offered asked ++ which_text)))))
 
 -- what may help if no number of lines would do: the least is asked for then, as such or with a record
-abbrev pub no_lines_help : Mends → List ℕ
-no_lines_help asked = rows_help (record asked { least_lines = true })
+abbrev pub no_lines_help : Offers → List ℕ
+no_lines_help offers = rows_help (record offers { least_lines = false })
 
-abbrev pub unmended_text : Mends → Unmended → List ℕ
-unmended_text asked (unmended.Refused fault) = fault_line fault ++ help_text asked fault.cause
-unmended_text asked (unmended.TakesNoRecord fault) = fault_line fault ++ no_record_help
-unmended_text asked unmended.Torn = codes "the rows look broken\n" ++ torn_help asked
-unmended_text asked unmended.NoLines = codes "no number of lines up to 8192 would do\n" ++ no_lines_help asked
-unmended_text asked unmended.TooLong =
+-- Why a file is not mended by what was asked for, and what may help. `without_help` has what is known not to help.
+abbrev pub unmended_text : Mends → Mends → Unmended → List ℕ
+unmended_text asked without_help (unmended.Refused fault) =
+    fault_line fault ++ help_text (offers_of asked without_help) fault.cause
+unmended_text asked without_help (unmended.TakesNoRecord fault) = fault_line fault ++ no_record_help
+unmended_text asked without_help unmended.Torn =
+    codes "the rows look broken\n" ++ torn_help asked (offers_of asked without_help)
+unmended_text asked without_help unmended.NoLines =
+    codes "no number of lines up to 8192 would do\n" ++ no_lines_help (offers_of asked without_help)
+unmended_text asked without_help unmended.TooLong =
     codes "the file would be longer than 16777216 bytes\nonly a shorter drawing can be fixed this way\n"

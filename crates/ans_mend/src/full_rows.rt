@@ -1,21 +1,26 @@
 //! Line ends after full rows that are removed.
 
-ghost use Rattle.std.specs.Prelude.{◌≡◌, ◌+◌, ◌-◌, ◌≤◌, ◌<◌, ◌++◌, ℕ, List, length, take, drop, true, false};
+ghost use Rattle.std.specs.Prelude.{◌≡◌, ◌↔◌, ◌+◌, ◌-◌, ◌≤◌, ◌<◌, ◌++◌, ℕ, IsTrue, List, length, take, drop, true};
+ghost use Rattle.std.specs.Prelude.{false};
 ghost use Rattle.ans_model.specs.Bytes.{longest_file};
 ghost use Rattle.ans_pens.specs.Counted.{count_of, counted};
-ghost use Rattle.ans_hints.specs.FullRowEnds.{AreEndsOver, StandsBetween, bytes_of, without, without_ends};
+ghost use Rattle.ans_hints.specs.FullRowEnds.{AreEndsOver, StandsBetween, bytes_of, full_row_ends, without};
+ghost use Rattle.ans_hints.specs.FullRowEnds.{without_ends};
+ghost use Rattle.ans_hints.specs.RowEnds.{written_by};
+ghost use Rattle.ans_model.specs.Sequence.Reads.{ReadsAs};
 ghost use Rattle.ans_hints.specs.declared.full_row_ends.FullRowEnd.{FullRowEnd};
 ghost use Rattle.ans_mend.specs.Drafts.{memory_of};
-ghost use Rattle.ans_mend.specs.FullRows.{HasFullRows, MayGo, first_byte, times_with};
+ghost use Rattle.ans_mend.specs.FullRows.{AllCount, HasFullRows, MayGo, first_byte, times_with};
 ghost use Rattle.ans_model.specs.Sequence.TokenKind.{TokenKind};
 
 use crate::draft::Draft;
 use crate::keeping::keep;
 use crate::line_ends::content_of;
 use crate::reading::is_read;
-use ans_hints::{FullRowEnd, RowPlay, ends_full_rows};
+use ans_hints::{FullRowEnd, Hints, RowPlay, ends_full_rows};
 use ans_model::size::Size;
 use ans_pens::Times;
+use ans_pens::times::count_of;
 
 /// What was removed, how often, and how many bytes are left of those that were looked at.
 #[derive(Clone, Copy)]
@@ -95,8 +100,45 @@ fn take_out_ends(memory: &mut [u8], count: usize, mut rows: RowPlay) -> RowsLeft
     }
 }
 
+/// How many line ends come after full rows in a content, which a play is to go over.
+fn count_ends(content: &[u8], mut rows: RowPlay) -> usize
+    requires limit { length content.now ≤ longest_file }
+    requires begins { rows.played ≡ 0 }
+    ensures { (ends : List FullRowEnd) → AreEndsOver rows content.now ends → result ≡ length ends }
+{
+    let mut count = 0;
+    let mut read = 0;
+    'ends: while let Some(_) = rows.next_end(&content[read..]) {
+        count += 1;
+        read = rows.played;
+    }
+    count
+}
+
+/// Whether as many of them count as there are, if the content is read.
+fn ends_count(size: Size, content: &[u8]) -> bool
+    requires { length content.now ≤ longest_file }
+    ensures { (tokens : List TokenKind) (texts : List (List ℕ)) → ReadsAs content.now tokens texts
+        → (IsTrue result ↔ (count_of (written_by size tokens texts).ends.ended
+        ≡ length (full_row_ends size tokens texts))) }
+{
+    let hints = Hints::of(size, false, content, content.len());
+    count_of(hints.row_ends.ended) == count_ends(content, RowPlay::new(size))
+}
+
+/// Whether a content is read, and all line ends after its full rows count.
+fn all_count(size: Size, content: &[u8]) -> bool
+    requires { length content.now ≤ longest_file }
+    ensures all { result ≡ true
+        → (tokens : List TokenKind) × (texts : List (List ℕ)) × AllCount size content.now tokens texts }
+    ensures other { result ≡ false
+        → (tokens : List TokenKind) (texts : List (List ℕ)) → ¬ AllCount size content.now tokens texts }
+{
+    is_read(content) && ends_count(size, content)
+}
+
 /// Whether the line ends after full rows may be removed: one follows every full row that something is printed
-/// after, and there are two of these; or they are `mixed`, and the content is read.
+/// after, and there are two of these; or they are `mixed`, and all that there are count.
 fn may_go(size: Size, content: &[u8], mixed: bool) -> bool
     requires { length content.now ≤ longest_file }
     ensures may { result ≡ true
@@ -105,7 +147,7 @@ fn may_go(size: Size, content: &[u8], mixed: bool) -> bool
         → (tokens : List TokenKind) (texts : List (List ℕ)) → ¬ MayGo mixed size content.now tokens texts }
 {
     if mixed {
-        return is_read(content);
+        return all_count(size, content);
     }
     ends_full_rows(size, content)
 }
@@ -115,7 +157,7 @@ impl<'a> Draft<'a> {
     /// from the cleared start on a screen of this size: if a line end follows every full row that
     /// something is printed after, and there are two of these. After a full row the cursor is in the
     /// next row already, so a line end there makes an empty one. If the rows are `mixed`, those line ends are
-    /// removed that are there. Returns how many line ends, and the offset of the first, in bytes from the file's
+    /// removed that are there, unless something is printed above where one of them led. Returns how many line ends, and the offset of the first, in bytes from the file's
     /// start.
     pub(crate) fn take_out_row_ends(&mut self, size: Size, mixed: bool) -> Option<Times>
         requires { length self.old.file ≤ longest_file }

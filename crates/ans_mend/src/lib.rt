@@ -12,6 +12,7 @@ mod editing;
 mod end_mark;
 mod fields;
 mod full_rows;
+mod helping;
 mod idle;
 mod judging;
 mod keeping;
@@ -32,8 +33,9 @@ mod tail;
 mod taking_out;
 
 pub use draft::Draft;
+pub use helping::put_unmended;
 pub use last_ends::{count_line_ends, count_passing};
-pub use mended_text::{put_mended, put_unmended};
+pub use mended_text::put_mended;
 pub use mending::mend_on;
 pub use name_search::begins_unnamed;
 pub use outcome::{Edits, GivenRecord, MendError, Mended, NonBlink, Reset, Unmended};

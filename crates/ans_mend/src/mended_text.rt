@@ -1,25 +1,16 @@
-//! What mending says: what was changed, or why there is none.
+//! What mending says was changed.
 ghost use Rattle.std.specs.Prelude.{◌≡◌};
 ghost use Rattle.std.specs.List.{flat_map};
-ghost use Rattle.ans_mend.specs.MendedText.{all_given, at_text, by_count, flag_line, front_line, has_least};
-ghost use Rattle.ans_mend.specs.MendedText.{comments_line, has_switch};
-ghost use Rattle.ans_mend.specs.MendedText.{help_text, lines_offered, mended_text, no_lines_help, offered};
-ghost use Rattle.ans_mend.specs.MendedText.{others_text, place_help, quoted_excerpt, record_line};
-ghost use Rattle.ans_mend.specs.MendedText.{replaced_text, rows_help, sequence_help, tail_line};
-ghost use Rattle.ans_mend.specs.MendedText.{taken_line, times_line, torn_help, unmended_text, width_line};
-ghost use Rattle.ans_mend.specs.MendedText.{width_offered};
+ghost use Rattle.ans_mend.specs.MendedText.{at_text, by_count, comments_line, flag_line, front_line, has_switch};
+ghost use Rattle.ans_mend.specs.MendedText.{mended_text, others_text, quoted_excerpt, record_line, replaced_text};
+ghost use Rattle.ans_mend.specs.MendedText.{tail_line, taken_line, times_line, width_line};
 ghost use Rattle.ans_write.specs.Puts.{Puts};
 
 use crate::idle::put_idle_lines;
-use crate::outcome::{GivenRecord, Mended, NonBlink, Reset, Unmended};
+use crate::outcome::{GivenRecord, Mended, NonBlink, Reset};
 use crate::taking_out::{Excerpt, TakenOut};
-use ans_model::fault::Cause;
-use ans_model::mends::Mends;
 use ans_pens::Times;
-use ans_report::{
-    Help, fault_help, put_counted, put_end_mark_line, put_fault_line, put_quoted_bytes,
-    put_reset_line,
-};
+use ans_report::{put_counted, put_end_mark_line, put_quoted_bytes, put_reset_line};
 use ans_write::Outbox;
 use std::io::Write;
 
@@ -218,168 +209,4 @@ pub fn put_mended<W: Write>(out: &mut Outbox<'_, W>, mended: &Mended)
     put_front_line(out, mended.front);
     put_reset_line(out, b"file size ", &mended.file_size);
     put_idle_lines(out, mended);
-}
-
-/// If no flag is left that may help.
-const LOOK: &[u8] = b"see anscheck why for the place, and anscheck help for the fault\n";
-
-/// What a drawing without a record needs.
-const RECORD: &[u8] = b"try: --add-record N, which adds a record for N columns\n";
-
-/// Why `--add-record` adds no record.
-const NO_RECORD: &[u8] =
-    b"no record is added if SAUCE00 appears in the file or more follows 1Ah: see anscheck help F1\n";
-
-/// What a drawing needs whose record states no lines.
-const LEAST_LINES: &[u8] =
-    b"try: --least-lines, which sets the smallest number of lines that works\n";
-
-/// What a drawing needs that has sequences which are refused.
-const TAKE_OUT: &[u8] = b"try: --take-out, which removes such sequences if it knows them\n";
-
-fn sequence_help(asked: &Mends) -> &'static [u8]
-    ensures { result.now ≡ sequence_help asked.now }
-{
-    if asked.take_out { LOOK } else { TAKE_OUT }
-}
-
-fn has_least(asked: &Mends) -> bool
-    ensures { result ≡ has_least asked.now }
-{
-    asked.least_lines && asked.lines.is_none()
-}
-
-fn all_given(asked: &Mends) -> bool
-    ensures { result ≡ all_given asked.now }
-{
-    asked.crlf && asked.join_rows && asked.take_out && has_least(asked)
-}
-
-/// What comes before the flags that may help.
-const TRY: &[u8] = b"try:";
-
-/// What comes after them.
-const WHICH: &[u8] = b" (anscheck why says which)\n";
-
-/// Puts a flag, unless it is given.
-fn put_offered<W: Write>(out: &mut Outbox<'_, W>, given: bool, flag: &[u8])
-    ensures { Puts W.contents out.old out.new (offered given flag.now) }
-{
-    if !given {
-        out.put(b" ");
-        out.put(flag);
-    }
-}
-
-fn put_lines_offered<W: Write>(out: &mut Outbox<'_, W>, asked: &Mends)
-    ensures { Puts W.contents out.old out.new (lines_offered asked.now) }
-{
-    if asked.lines.is_some() {
-        out.put(b" --lines N with a larger N");
-        return;
-    }
-    put_offered(out, asked.least_lines, b"--least-lines");
-}
-
-fn put_rows_help<W: Write>(out: &mut Outbox<'_, W>, asked: &Mends)
-    ensures { Puts W.contents out.old out.new (rows_help asked.now) }
-{
-    if all_given(asked) {
-        out.put(LOOK);
-        return;
-    }
-    out.put(TRY);
-    put_offered(out, asked.crlf, b"--crlf");
-    put_offered(out, asked.join_rows, b"--join-rows");
-    put_offered(out, asked.take_out, b"--take-out");
-    put_lines_offered(out, asked);
-    out.put(WHICH);
-}
-
-fn put_place_help<W: Write>(out: &mut Outbox<'_, W>, asked: &Mends)
-    ensures { Puts W.contents out.old out.new (place_help asked.now) }
-{
-    if has_least(asked) {
-        out.put(LOOK);
-        return;
-    }
-    out.put(TRY);
-    put_lines_offered(out, asked);
-    out.put(WHICH);
-}
-
-fn width_offered(asked: &Mends) -> &'static [u8]
-    ensures { result.now ≡ width_offered asked.now }
-{
-    if asked.columns.is_some() {
-        return b" --columns N with another N";
-    }
-    if asked.add_record.is_some() {
-        return b" --add-record N with another N";
-    }
-    b" --columns N"
-}
-
-fn put_torn_help<W: Write>(out: &mut Outbox<'_, W>, asked: &Mends)
-    ensures { Puts W.contents out.old out.new (torn_help asked.now) }
-{
-    out.put(TRY);
-    put_offered(out, asked.crlf, b"--crlf");
-    put_offered(out, asked.join_rows, b"--join-rows");
-    out.put(b" --lines N");
-    out.put(width_offered(asked));
-    out.put(WHICH);
-}
-
-fn put_no_lines_help<W: Write>(out: &mut Outbox<'_, W>, asked: &Mends)
-    ensures { Puts W.contents out.old out.new (no_lines_help asked.now) }
-{
-    let least = Mends {
-        least_lines: true,
-        ..*asked
-    };
-    put_rows_help(out, &least);
-}
-
-fn put_help<W: Write>(out: &mut Outbox<'_, W>, asked: &Mends, cause: &Cause)
-    ensures { Puts W.contents out.old out.new (help_text asked.now cause.now) }
-{
-    match fault_help(cause) {
-        Help::Look => out.put(LOOK),
-        Help::Record => out.put(RECORD),
-        Help::LeastLines => out.put(LEAST_LINES),
-        Help::TakeOut => out.put(sequence_help(asked)),
-        Help::Place => put_place_help(out, asked),
-        Help::Rows => put_rows_help(out, asked),
-    }
-}
-
-/// Why there is none if the file would be too long.
-const TOO_LONG: &[u8] = b"the file would be longer than 16777216 bytes\n\
-    only a shorter drawing can be fixed this way\n";
-
-/// Puts why a file is not mended: the line of the fault as `check` has it, or another reason; and what may help that
-/// was not asked for.
-pub fn put_unmended<W: Write>(out: &mut Outbox<'_, W>, asked: &Mends, reason: &Unmended)
-    ensures { Puts W.contents out.old out.new (unmended_text asked.now reason.now) }
-{
-    match reason {
-        Unmended::Refused(fault) => {
-            put_fault_line(out, fault);
-            put_help(out, asked, &fault.cause);
-        }
-        Unmended::TakesNoRecord(fault) => {
-            put_fault_line(out, fault);
-            out.put(NO_RECORD);
-        }
-        Unmended::Torn => {
-            out.put(b"the rows look broken\n");
-            put_torn_help(out, asked);
-        }
-        Unmended::NoLines => {
-            out.put(b"no number of lines up to 8192 would do\n");
-            put_no_lines_help(out, asked);
-        }
-        Unmended::TooLong => out.put(TOO_LONG),
-    }
 }

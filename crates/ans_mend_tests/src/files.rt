@@ -273,7 +273,7 @@ static MIXED: [Row; 6] = [
         },
         mended: None,
         text: "at 6: F20 print below the stated lines\n\
-            try: --crlf --take-out --least-lines (anscheck why says which)\n",
+            try: --crlf --mixed --take-out --least-lines (anscheck why says which)\n",
     },
     Row {
         front: b"ab\0\0\x1a",
@@ -330,7 +330,7 @@ fn expect_row(rt: &impl Abort, alloc: Global, row: &Row) -> Result<(), AllocErro
             assert!(rt;
                 puts(
                     row.text.as_bytes(),
-                    |out| put_unmended(out, &row.mends, &reason)
+                    |out| put_unmended(out, &row.mends, &row.mends, &reason)
                 ),
                 "{}",
                 row.text

@@ -393,7 +393,7 @@ macro_rules! refused {
         )
     };
     (place, $offset:literal, $cause:expr, $line:literal) => {
-        refused!($offset, $cause, concat!($line, "\ntry: --least-lines (anscheck why says which)\n"))
+        refused!($offset, $cause, concat!($line, "\ntry: --least-lines\n"))
     };
     (other, $offset:literal, $cause:expr, $line:literal) => {
         refused!($offset, $cause,
@@ -554,7 +554,7 @@ fn reasons_are_said(rt: HostRuntime) {
         assert!(rt;
             puts(
                 text.as_bytes(),
-                |out| put_unmended(out, &Mends::NONE, reason)
+                |out| put_unmended(out, &Mends::NONE, &Mends::NONE, reason)
             ),
             "{text}"
         );
@@ -567,6 +567,7 @@ const ALL: Mends = Mends {
     crlf: true,
     take_out: true,
     join_rows: true,
+    mixed: true,
     name_colours: true,
     least_lines: true,
     lines: None,
@@ -617,12 +618,12 @@ static HELP: [(Mends, Unmended, &str); 13] = [
             ..ALL
         },
         at_7!(PrintBelow),
-        "at 7: F20 print below the stated lines\ntry: --take-out (anscheck why says which)\n",
+        "at 7: F20 print below the stated lines\ntry: --take-out\n",
     ),
     (
         Mends { crlf: false, ..ALL },
         at_7!(Scrolls),
-        "at 7: F21 scrolls\ntry: --crlf (anscheck why says which)\n",
+        "at 7: F21 scrolls\ntry: --crlf\n",
     ),
     (
         Mends {
@@ -640,7 +641,7 @@ static HELP: [(Mends, Unmended, &str); 13] = [
             ..ALL
         },
         at_7!(Scrolls),
-        "at 7: F21 scrolls\ntry: --lines N with a larger N (anscheck why says which)\n",
+        "at 7: F21 scrolls\ntry: --lines N with a larger N\n",
     ),
     (
         Mends {
@@ -661,7 +662,7 @@ static HELP: [(Mends, Unmended, &str); 13] = [
             ..Mends::NONE
         },
         at_7!(OutsideScreen),
-        "at 7: F19 place outside the screen\ntry: --lines N with a larger N (anscheck why says which)\n",
+        "at 7: F19 place outside the screen\ntry: --lines N with a larger N\n",
     ),
     (
         Mends {
@@ -684,7 +685,143 @@ static HELP: [(Mends, Unmended, &str); 13] = [
 fn what_was_asked_for_is_not_offered_again(rt: HostRuntime) {
     for (asked, reason, text) in &HELP {
         assert!(rt;
-            puts(text.as_bytes(), |out| put_unmended(out, asked, reason)),
+            puts(
+                text.as_bytes(),
+                |out| put_unmended(out, asked, asked, reason)
+            ),
+            "{text}"
+        );
+    }
+}
+
+/// What was asked for, what is known not to help besides, why a file is not mended, and what is said.
+static WITHOUT_HELP: [(Mends, Mends, Unmended, &str); 12] = [
+    (
+        Mends::NONE,
+        Mends {
+            crlf: true,
+            ..Mends::NONE
+        },
+        at_7!(Scrolls),
+        "at 7: F21 scrolls\ntry: --join-rows --take-out --least-lines (anscheck why says which)\n",
+    ),
+    (
+        Mends::NONE,
+        Mends {
+            least_lines: false,
+            ..ALL
+        },
+        at_7!(Scrolls),
+        "at 7: F21 scrolls\ntry: --least-lines\n",
+    ),
+    (
+        Mends::NONE,
+        ALL,
+        at_7!(Scrolls),
+        "at 7: F21 scrolls\nsee anscheck why for the place, and anscheck help for the fault\n",
+    ),
+    (
+        Mends::NONE,
+        Mends {
+            take_out: true,
+            ..Mends::NONE
+        },
+        at_7!(ScreenMode),
+        "at 7: F16 screen mode set\nsee anscheck why for the place, and anscheck help for the fault\n",
+    ),
+    (
+        Mends::NONE,
+        Mends {
+            least_lines: true,
+            ..Mends::NONE
+        },
+        at_7!(LinesUnstated),
+        "at 7: F5 number of lines not stated\nsee anscheck why for the place, and anscheck help for the fault\n",
+    ),
+    (
+        Mends::NONE,
+        Mends {
+            least_lines: true,
+            ..Mends::NONE
+        },
+        at_7!(OutsideScreen),
+        "at 7: F19 place outside the screen\n\
+        see anscheck why for the place, and anscheck help for the fault\n",
+    ),
+    (
+        Mends {
+            lines: Some(1),
+            ..Mends::NONE
+        },
+        ALL,
+        at_7!(OutsideScreen),
+        "at 7: F19 place outside the screen\ntry: --lines N with a larger N\n",
+    ),
+    (
+        Mends {
+            join_rows: true,
+            ..Mends::NONE
+        },
+        Mends {
+            mixed: false,
+            ..ALL
+        },
+        at_7!(PrintBelow),
+        "at 7: F20 print below the stated lines\ntry: --mixed\n",
+    ),
+    (
+        Mends {
+            crlf: true,
+            ..Mends::NONE
+        },
+        Mends {
+            crlf: true,
+            ..Mends::NONE
+        },
+        Unmended::Torn,
+        "the rows look broken\n\
+        try: --join-rows --mixed --lines N --columns N (anscheck why says which)\n",
+    ),
+    (
+        Mends::NONE,
+        ALL,
+        Unmended::Torn,
+        "the rows look broken\ntry: --lines N --columns N (anscheck why says which)\n",
+    ),
+    (
+        Mends {
+            least_lines: true,
+            ..Mends::NONE
+        },
+        Mends {
+            crlf: true,
+            take_out: true,
+            ..Mends::NONE
+        },
+        Unmended::NoLines,
+        "no number of lines up to 8192 would do\ntry: --join-rows\n",
+    ),
+    (
+        Mends {
+            crlf: true,
+            join_rows: true,
+            ..Mends::NONE
+        },
+        Mends::NONE,
+        Unmended::NoLines,
+        "no number of lines up to 8192 would do\n\
+        try: --mixed --take-out (anscheck why says which)\n",
+    ),
+];
+
+#[test]
+fn what_does_not_help_is_not_offered(rt: HostRuntime) {
+    for (asked, without_help, reason, text) in &WITHOUT_HELP {
+        assert!(rt;
+            puts(
+                text.as_bytes(),
+                |out| put_unmended(out, asked, without_help, reason)
+            ),
             "{text}"
         );
     }

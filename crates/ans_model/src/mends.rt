@@ -13,9 +13,8 @@ pub struct Mends {
     pub columns: Option<u16>,
     /// Whether a return is added before each line feed of a drawing that has no return.
     pub crlf: bool,
-    /// Whether sequences that are refused are removed, and as little at the very end as must go: line ends,
-    /// bytes 00h, and places and modes after which nothing is printed.
-    /// The sequences are screen modes, font selections, music, 24-bit colours, reports that are asked for,
+    /// Whether sequences that are refused are removed, and as few line ends and bytes 00h at the very end
+    /// as must go. The sequences are screen modes, font selections, music, 24-bit colours, reports that are asked for,
     /// reassigned keys, and an unfinished one at the end.
     pub take_out: bool,
     /// Whether the line ends after full rows are removed, if each full row has one.
@@ -28,8 +27,8 @@ pub struct Mends {
     pub name_colours: bool,
     /// Whether the record's flag for bright backgrounds is set.
     pub ice: bool,
-    /// Whether an older record after which nothing of a drawing follows is removed, and the number of comments
-    /// that the record counts is set to those that are there, if only one reading is possible.
+    /// Whether the number of comments that the record counts is set to those that are there, if only one number
+    /// is possible.
     pub repair_record: bool,
     /// Whether the least number of lines with which the drawing passes is stated, if those that the
     /// record states are too few, or none are. A number in `lines` is stated instead.
@@ -162,7 +161,7 @@ const MEND_FLAGS: [MendFlag; 8] = [
         step: MendStep::RepairRecord,
         name: "record",
         bit: 128,
-        help: "Remove an older record, and set the comment count",
+        help: "Set the comment count to the comments that are there",
     },
     MendFlag {
         step: MendStep::LeastLines,

@@ -353,8 +353,9 @@ is: what the bytes are known as at which the drawing is refused
   mode of DOS, the switch for bright backgrounds,
   the switch that hides or shows the cursor:
     anscheck mend --take-out FILE > FIXED
-  an older record, or comments that the record does not count:
+  comments that the record does not count:
     anscheck mend --record FILE > FIXED
+  an older record                      delete it
   another drawing                      split it after the first record
   an arrow in the drawing              use another character, such as '>'
   a sequence of modern terminals       write what the line says
@@ -461,8 +462,7 @@ It begins with SAUCE00 and states the columns and the lines, the font, and the
 title, author, group and date. Offsets in it count from 0: byte 96 is the first
 of the width. 'anscheck sauce FILE' prints it.
 
-This removes an older record if nothing of a drawing follows it, and sets the
-number of comments to those that there are. It does so only if one reading is
+This sets the number of comments to those that there are, if only one number is
 possible:
   anscheck mend --record FILE > FIXED
 ",
@@ -505,8 +505,7 @@ take-out: remove sequences for which the drawing is refused
   ESC[5n ESC[6n ESC[c   questions to the terminal
   a reassigned key      with all between its quotes
   the last sequence     if it is unfinished and there is no quote in it
-  at the very end       line ends, bytes 00h, places and modes after which
-                        nothing is printed, as few as must go
+  at the very end       line ends and bytes 00h, as few as must go
 
 All other sequences stay, and the drawing stays refused for them:
   anscheck mend --take-out FILE > FIXED

@@ -143,12 +143,12 @@ drawing that really is longer. No command does that.
 The byte 1Ah ends a drawing, but something follows it before the comments or
 the record. Some programs would play it, others would not.
 
-See the line 'is:' of 'anscheck why'. This removes an older record if nothing
-of a drawing follows it, and counts comments that are not counted, if only one
-reading is possible:
+See the line 'is:' of 'anscheck why'. Comments that are not counted are counted
+by this, if only one number is possible:
   anscheck mend --record FILE > FIXED
-If a second drawing follows an older record, split the file after that record.
+Delete an older record. If a second drawing follows it, split the file there.
 An arrow in the drawing is this very byte: use another character, such as '>'.
+No command does that.
 "
     ),
     fault!(
@@ -298,7 +298,7 @@ A wrong width is hinted at only if most rows with a line end run over the edge,
 once each; if there is no line end, and the stated lines come out on a common
 width; or if columns and lines seem to be exchanged. Else look at the picture.
 
-If only line ends, bytes 00h, places or modes follow, this removes them:
+If only line ends and bytes 00h follow, this removes them:
   anscheck mend --take-out FILE > FIXED
 "
     ),
@@ -309,7 +309,7 @@ If only line ends, bytes 00h, places or modes follow, this removes them:
 A line feed comes below the last line. The screen would scroll and lose its top
 row.
 
-If only line ends, bytes 00h, places or modes follow, this removes them:
+If only line ends and bytes 00h follow, this removes them:
   anscheck mend --take-out FILE > FIXED
 If more of the drawing follows, see F20: the rows are probably broken.
 "

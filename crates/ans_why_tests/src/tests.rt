@@ -27,13 +27,17 @@ struct Row {
 /// The lines of hints, each with how many there are and where the first is, or with the lines that it speaks of.
 macro_rules! text {
     (nothing) => { "" };
+    (some_loose 1 $at:tt) => {
+        concat!("hint: 1 bare line feed makes a staircase, at ", $at, ": --crlf --mixed\n")
+    };
     (loose 1 $at:tt) => { concat!("hint: 1 bare line feed makes a staircase, at ", $at, ": --crlf\n") };
     (loose $n:tt $at:tt) => {
         concat!("hint: ", $n, " bare line feeds make a staircase, first at ", $at, ": --crlf\n")
     };
     (full 1 $at:tt) => {
         concat!(
-            "hint: 1 full row is followed by a line end and leaves a blank row, at ", $at, ": --join-rows\n"
+            "hint: 1 full row is followed by a line end and leaves a blank row, at ", $at,
+            ": --join-rows --mixed\n"
         )
     };
     (full $n:tt $at:tt) => {
@@ -115,14 +119,14 @@ macro_rules! text {
     };
     (full 1 $at:tt wider $m:tt $first:tt $columns:tt) => {
         concat!(
-            "hint: 1 full row is followed by a line end and leaves a blank row, at ", $at, ": --join-rows\n\
+            "hint: 1 full row is followed by a line end and leaves a blank row, at ", $at, ": --join-rows --mixed\n\
             hint: ", $m, " rows are wider than the screen, first at ", $first, "; they need at least ", $columns,
             " columns: --columns ", $columns, "\n"
         )
     };
     (full 1 $at:tt empty 1) => {
         concat!(
-            "hint: 1 full row is followed by a line end and leaves a blank row, at ", $at, ": --join-rows\n\
+            "hint: 1 full row is followed by a line end and leaves a blank row, at ", $at, ": --join-rows --mixed\n\
             hint: the last line is empty\n"
         )
     };
@@ -153,7 +157,7 @@ static LINE_FEEDS: [Row; 8] = rows! {
     screen(4 x 2, b"ab\ncd") => loose(1, 2);
     screen(4 x 1, b"ab\n") => loose(1, 2);
     screen(9 x 3, b"a\nb\nc") => loose(2, 1);
-    screen(9 x 3, b"a\r\nb\n\x1b[D\nc") => loose(1, 4);
+    screen(9 x 3, b"a\r\nb\n\x1b[D\nc") => some_loose(1, 4);
 };
 
 static FULL_ROWS: [Row; 19] = rows! {
@@ -210,7 +214,7 @@ static OVERPRINTS: [Row; 8] = rows! {
     screen(4 x 1, b"\x1b[?7labcd\tx") => nothing;
 };
 
-static FOREIGN_TEXT: [Row; 26] = rows! {
+static FOREIGN_TEXT: [Row; 27] = rows! {
     screen(9 x 1, b"Caf\xc3\xa9") => letter(1, 3);
     screen(9 x 1, b"\xc3\x89l\xc3\xa8ve") => letter(1, 3);
     screen(9 x 1, b"a\xc3\x97\xc3\xb7b") => nothing;
@@ -224,6 +228,7 @@ static FOREIGN_TEXT: [Row; 26] = rows! {
     screen(9 x 1, b"D\xe9J") => nothing;
     screen(9 x 1, b"stra\xe1e w\xe0r") => nothing;
     screen(9 x 1, b"a\xe4b\xf6c\xfcd") => latin(3, 1);
+    screen(9 x 1, b"Z\xfcrich") => latin(1, 1);
     screen(9 x 1, b"a\xe7b\xf0c\xf5d") => nothing;
     screen(9 x 1, b"a\xe4\xf6b") => nothing;
     screen(9 x 1, b"\x82t\x82") => nothing;
@@ -349,8 +354,8 @@ fn all_hints_have_an_order(rt: HostRuntime) {
         (10, 6),
         content,
         b"IBM VGA 866",
-        "hint: 1 bare line feed makes a staircase, at 2: --crlf\n\
-            hint: 1 full row is followed by a line end and leaves a blank row, at 25: --join-rows\n\
+        "hint: 1 bare line feed makes a staircase, at 2: --crlf --mixed\n\
+            hint: 1 full row is followed by a line end and leaves a blank row, at 25: --join-rows --mixed\n\
             hint: 1 character looks like UTF-8, at 9: convert the text to code page 437\n\
             hint: 1 sequence uses modern colours (38, 48, 90 to 97, 100 to 107), at 3\n\
             hint: 2 characters blink, first at 16; if they should have bright backgrounds: --ice\n\
@@ -700,112 +705,87 @@ fn what_is_known_has_its_name(rt: HostRuntime) {
 }
 
 /// A content, the field of the font, and the lines on its way as a text.
-type DamageRow = (&'static [u8], &'static [u8], &'static str);
+type DamageRow = (&'static [u8], &'static str);
 
-static DAMAGE: [DamageRow; 32] = [
+static DAMAGE: [DamageRow; 28] = [
     (
         b"[0m[1mA[2;3H[5C",
-        b"",
         "hint: 4 sequences have lost their ESC, first at 0: put 1Bh before each [\n",
     ),
-    (
-        b"\x1b[0m[0m[1;2JA[2;3H[5C",
-        b"",
-        "hint: 4 sequences have lost their ESC, first at 4: put 1Bh before each [\n",
-    ),
-    (b"[0m[1mA[2;3H", b"", ""),
-    (b"\x1b[0m\x1b[1m\x1b[2m\x1b[3m", b"", ""),
-    (b"[m[H[J[C[more[Here", b"", ""),
-    (b"[0K[0K[0K[0K", b"", ""),
+    (b"\x1b[0m[0m[1;2JA[2;3H[5C", ""),
+    (b"[0m[1mA[2;3H", ""),
+    (b"\x1b[0m\x1b[1m\x1b[2m\x1b[3m", ""),
+    (b"[m[H[J[C[more[Here", ""),
+    (b"[0K[0K[0K[0K", ""),
     (
         b"^[[0mA^[[1;31mB",
-        b"",
         "hint: 2 sequences have ^[ or <- in place of ESC, first at 0: put 1Bh there\n",
     ),
     (
         b"x^[[0m^[[0m^[[0m^[[0m",
-        b"",
         "hint: 4 sequences have ^[ or <- in place of ESC, first at 1: put 1Bh there\n",
     ),
     (
         b"<-[0mx<-[1m",
-        b"",
         "hint: 2 sequences have ^[ or <- in place of ESC, first at 0: put 1Bh there\n",
     ),
-    (b"^[[0mA", b"", ""),
-    (b"^[0m^[1m<[0m<-", b"", ""),
+    (b"^[[0mA", ""),
+    (b"^[0m^[1m<[0m<-", ""),
     (
         b"\x9b0mA\x9b1;31mB",
-        b"",
         "hint: 2 sequences begin with 9Bh, first at 0: write ESC[ in its place\n",
     ),
-    (b"\x9b0m", b"", ""),
-    (b"\x9bm\x9b0H\x9b1K", b"", ""),
+    (b"\x9b0m", ""),
+    (b"\x9bm\x9b0H\x9b1K", ""),
     (
         b"A\xc3\x9b\xc2\xb0\xc3\x9b\xc2\xb0\xc3\x9b\xc2\xb0\xc3\x9b\xc2\xb0\xc3\xbf",
-        b"",
         "hint: 8 characters look like Latin-1 that was made UTF-8, first at 1: \
             convert the text from UTF-8 to Latin-1\n",
     ),
     (
         b"\xc3\x9b\xc3\x9b\xc3\x9b\xc3\x9b\xc3\x9b\xc3\x9b\xc3\x9b\xc3\x9b",
-        b"",
         "",
     ),
     (
         b"\xc3\xb4\xc3\xb4\xc3\xb4\xc3\xb4\xc3\xb4\xc3\xb4\xc3\xb4\xc3\xb4\xc3\xb4 \xb3",
-        b"",
         "",
     ),
     (
         b"\xc3\xb4\xc3\xb4\xc3\xb4\xc3\xb4\xc3\xb4\xc3\xb4\xc3\xb4\xc3\xb4\xc3\xb4\xc3",
-        b"",
         "",
     ),
     (
         b"caf\xc3\xa9 \xc3\xa9t\xc3\xa9 cr\xc3\xa9\xc3\xa9 \xc3\xa0 o\xc3\xb9 \xc3\xa9l\xc3\xa8ve",
-        b"",
         "",
     ),
     (
-        b"Z\xfcrich",
-        b"",
-        "hint: 1 letter after a capital looks like Latin-1, at 1: convert the text to code page 437\n",
-    ),
-    (
-        b"Z\xfcrich K\xf6ln",
-        b"IBM VGA 850",
-        "hint: 2 letters after a capital look like Latin-1, first at 1: convert the text to code page 437\n",
-    ),
-    (b"Z\xfcrich", b"Amiga Topaz 1", ""),
-    (b"Z\xfcrich", b"IBM VGA 819\0", ""),
-    (b"z\xfcrich", b"", ""),
-    (b"Z\xfcR", b"", ""),
-    (b"Z\xdcr", b"", ""),
-    (
         b"ab\rcd\ref\rgh\r",
-        b"",
         "hint: 4 returns come without line feeds, first at 2: put 0Ah after each\n",
     ),
-    (b"ab\rcd\ref\rgh\r\n", b"", ""),
-    (b"ab\rcd\ref\r", b"", ""),
+    (b"ab\rcd\ref\rgh\r\n", ""),
+    (b"ab\rcd\ref\r", ""),
     (
         b"\xef\xbb\xbfHi",
-        b"",
         "hint: the file begins with EF BB BF, the mark of UTF-8: remove these bytes\n",
     ),
-    (b" \xef\xbb\xbfHi", b"", ""),
-    (b"\xe2\x96\x88", b"", ""),
+    (b" \xef\xbb\xbfHi", ""),
+    (b"\xe2\x96\x88", ""),
+    (b"\x1b[0m[0m[1m[0m[1m^[[0m^[[1m\x9b0m\x9b1m", ""),
+    (
+        b"\x1b[H\x1b[2Jab\rcd\ref\rgh\r",
+        "hint: 4 returns come without line feeds, first at 9: put 0Ah after each\n",
+    ),
+    (b"ab\rcd\ref\x1b[2;1Hgh\rij\rkl", ""),
 ];
 
 #[test]
 fn damage_of_texts_is_told(rt: HostRuntime) {
-    for (content, font, text) in DAMAGE {
+    for (content, text) in DAMAGE {
         assert!(rt; content.len() < 100);
         let damage = TextDamage::of(content);
         let mut device = Tried::new(Narrow::new(4096));
         let mut out = Outbox::new(&mut device);
-        put_damage(&mut out, &damage, font);
+        put_damage(&mut out, &damage);
         assert!(rt; out.finish().is_ok());
         assert_eq!(rt; device.inner().held(), text.as_bytes(), "{content:?}");
     }

@@ -25,7 +25,8 @@ const HI_WHY: &[u8] = b"size: 2 x 1\n\
     players: own-colours\n\
     players differ: own-colours, 2 times, first at 0\n\
     taller screens: same\n\
-    fix: anscheck mend\n";
+    fix: anscheck mend\n\
+    everywhere: anscheck mend --name-colours\n";
 
 /// Gives one byte a read, and fails at one of the reads.
 #[derive(Clone, Copy)]

@@ -19,6 +19,7 @@ const CUT: Mended = Mended {
         first: 131,
     }),
     given_record: None,
+    width: None,
     edits: Edits {
         returns: None,
         told: Told {
