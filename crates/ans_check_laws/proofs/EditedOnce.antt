@@ -142,7 +142,7 @@ one_texts (t ∷ ts) (u ∷ us) (a ∷ xs) (b ∷ zs) h g e =
 may_read : (mixed : Bool) (z : Size) (content : List ℕ) (tokens : List TokenKind) (texts : List (List ℕ))
     → MayGo mixed z content tokens texts → ReadsAs content tokens texts
 may_read false z content tokens texts h = h.reads
-may_read true z content tokens texts h = h
+may_read true z content tokens texts h = h.reads
 
 one_row_ends : (mixed : Bool) (z : Size) (content a b : List ℕ) (s t : Option Times)
     → AreRowEndsOut mixed z content a s → AreRowEndsOut mixed z content b t → a ≡ b
