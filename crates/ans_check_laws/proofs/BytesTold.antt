@@ -1,5 +1,6 @@
 -- What is told of the sequences that were taken out of a file are bytes of it.
-use Rattle.std.proofs.Common.{◌≡◌, inl, inr, ℕ, ◌+◌, ◌-◌, ◌/◌, ◌%◌, Bool, true, false, refl, sym, subst, arith, zero, suc, ◌<◌, ◌≤◌}
+use Rattle.std.proofs.Common.{◌≡◌, inl, inr, ℕ, ◌+◌, ◌-◌, ◌/◌, ◌%◌, Bool, true, false, refl, sym, subst, arith}
+use Rattle.std.proofs.Common.{zero, suc, ◌<◌, ◌≤◌}
 use Rattle.std.proofs.Common.{List, [], ◌∷◌, ◌++◌, length, take, drop, codes, Option, Some, None, All, replicate, fold}
 use Rattle.std.specs.Prelude.{if◌then◌else◌, MatchBool, min, slice_index_or, nat_lt, ◌&&◌}
 use Rattle.std.specs.List.{list_all}
@@ -207,7 +208,8 @@ gone_are_bytes before from (g ∷ more) bytes left end h (kept, rest, later, aft
     let whole : All IsByte (kept ++ (g.text ++ rest)) = subst (λ (v : List ℕ). All IsByte v) first.whole h in
     let behind : All IsByte (g.text ++ rest) = all_right IsByte kept (g.text ++ rest) whole in
     All-cons HasBytes g more (all_left IsByte g.text rest behind)
-    (gone_are_bytes (switched after g.kind g.text) (g.place + length g.text) more rest later end (all_right IsByte g.text rest behind) takes)
+    (gone_are_bytes (switched after g.kind g.text) (g.place + length g.text) more rest later end
+    (all_right IsByte g.text rest behind) takes)
 
 excerpt_is_bytes : (text : List ℕ) → All IsByte text → All IsByte (excerpt_of text).bytes
 excerpt_is_bytes text h =

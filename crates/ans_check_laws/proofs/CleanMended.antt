@@ -1,6 +1,6 @@
 -- What mending says is clean.
 use Rattle.std.proofs.Common.{◌≡◌, refl, ℕ, Bool, true, false, List, Option, Some, None, All}
-use Rattle.std.specs.Prelude.{flat_map, IfSome, codes, if◌then◌else◌}
+use Rattle.std.specs.Prelude.{flat_map, IfSome}
 use Rattle.std.specs.List.{list_all}
 use Rattle.ans_model.specs.Bytes.{IsByte}
 use Rattle.ans_model.specs.Text.FaultText.{fault_line}
@@ -71,19 +71,14 @@ idle_clean false text plain = clean_nil
 crlf_plain : (asked : Mends) → list_all is_plain (crlf_reason asked) ≡ true
 crlf_plain asked = go asked.mixed
   where
-    go : (mixed : Bool) → list_all is_plain
-        (if mixed then codes "--crlf: nothing done, no line feed lacks a return\n"
-        else codes "--crlf: nothing done, it needs line feeds and no return (--mixed: those without one)\n") ≡ true
+    go : (mixed : Bool) → list_all is_plain (crlf_reason (record asked { mixed = mixed })) ≡ true
     go true = refl
     go false = refl
 
 rows_plain : (asked : Mends) → list_all is_plain (rows_reason asked) ≡ true
 rows_plain asked = go asked.mixed
   where
-    go : (mixed : Bool) → list_all is_plain
-        (if mixed then codes "--join-rows: nothing done, no full row has a line end\n"
-        else codes "--join-rows: nothing done, it needs two full rows, each with a line end (--mixed: those with one)\n")
-        ≡ true
+    go : (mixed : Bool) → list_all is_plain (rows_reason (record asked { mixed = mixed })) ≡ true
     go true = refl
     go false = refl
 

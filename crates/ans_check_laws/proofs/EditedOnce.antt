@@ -224,8 +224,8 @@ module _ (mends : Mends) (z : Size) (file a b : List ℕ) (x y : Edits) (h : IsE
   same_joined : h.joined ≡ g.joined
   same_joined =
       one_if mends.join_rows h.out h.joined g.joined
-      (λ joined times. HasFullRows mends.mixed (sized z.width most_lines) h.out joined times) (λ times. times ≡ None) x.row_ends
-      y.row_ends
+      (λ joined times. HasFullRows mends.mixed (sized z.width most_lines) h.out joined times)
+      (λ times. times ≡ None) x.row_ends y.row_ends
       (one_in_file (has_record h.out) h.out h.joined g.joined x.row_ends y.row_ends
       (AreRowEndsOut mends.mixed (sized z.width most_lines) (content_in h.out))
       (λ v w. one_row_ends mends.mixed (sized z.width most_lines) (content_in h.out) v w x.row_ends y.row_ends))
@@ -265,7 +265,8 @@ one_least width bytes n m h g = elim (cases_lt n m) [
 
 -- hints of what is read as these tokens are the same
 module _ (z : Size) (flag : Bool) (bytes behind : List ℕ) (tokens : List TokenKind) (a b : Hints)
-    (reads : Reads bytes tokens) (of_a : AreHintsOf z flag bytes behind a) (of_b : AreHintsOf z flag bytes behind b) where
+    (reads : Reads bytes tokens) (of_a : AreHintsOf z flag bytes behind a)
+    (of_b : AreHintsOf z flag bytes behind b) where
   same_hints : a ≡ b
   same_hints =
       let h = of_a tokens reads.0 reads.1 in

@@ -80,7 +80,8 @@ module _ (file : List ℕ) (apart : FileParts) (accepts : Accepts file apart) wh
           ap (drop (length (take n body))) is ∙ drop-append_seam (take n body) (drop n body) in
           is ∙ ap (λ (v : List ℕ). take n body ++ v) (sym rest)
 
-module _ (mends : Mends) (no_rows : mends.join_rows ≡ false) (no_repair : mends.repair_record ≡ false) (file : List ℕ) (apart : FileParts)
+module _ (mends : Mends) (no_rows : mends.join_rows ≡ false) (no_repair : mends.repair_record ≡ false)
+    (file : List ℕ) (apart : FileParts)
     (accepts : Accepts file apart) (picture : Picture)
     (good : GoodWith (stated_size apart.record_bytes) none_known (content apart.body) picture)
     (no_returns : mends.crlf ≡ true → wants_returns mends.mixed (content apart.body) ≡ false)

@@ -1,5 +1,6 @@
 -- A file that is mended is not changed by being mended again in the same way.
-use Rattle.std.proofs.Common.{◌≡◌, ◌⊎◌, ◌∷◌, ◌%◌, inl, inr, ℕ, ◌+◌, ◌-◌, ◌≤◌, ◌<◌, ◌==◌, Bool, true, false, List, [], ◌++◌}
+use Rattle.std.proofs.Common.{◌⊎◌, ◌∷◌, ◌%◌}
+use Rattle.std.proofs.Common.{◌≡◌, inl, inr, ℕ, ◌+◌, ◌-◌, ◌≤◌, ◌<◌, ◌==◌, Bool, true, false, List, [], ◌++◌}
 use Rattle.std.proofs.Common.{length, take, drop, refl, sym, ap, ap₂, ◌∙◌, arith, append_assoc, subst, subst₂}
 use Rattle.std.proofs.Common.{true≢false}
 use Rattle.std.specs.Prelude.{if◌then◌else◌, IsTrue, ◌↔◌, ◌&&◌, bytes_eq, codes, Option, Some, None, MatchBool}
@@ -15,7 +16,8 @@ use Rattle.ans_model.specs.Sequence.Reads.{Reads}
 use Rattle.ans_players.specs.Situations.{spelled}
 use Rattle.ans_sauce.specs.Found.{body_in, front_in, record_in}
 use Rattle.ans_sauce.proofs.LaidParts.{laid_body, laid_record}
-use Rattle.ans_sauce.specs.Fields.{four_bytes, overwritten, two_bytes, with_file_size, with_lines, with_non_blink, with_record}
+use Rattle.ans_sauce.specs.Fields.{four_bytes, overwritten, two_bytes, with_file_size, with_lines}
+use Rattle.ans_sauce.specs.Fields.{with_non_blink, with_record}
 use Rattle.ans_sauce.proofs.ResizedFiles.{its_length, resized_again, resized_file_size}
 use Rattle.ans_sauce.proofs.ContentLemmas.{content_unmarked}
 use Rattle.ans_sauce.proofs.RecordLemmas.{content_before, front_shorter, has_by, length_front, record_behind}
@@ -39,7 +41,8 @@ use Rattle.ans_mend.specs.LastEnds.{AreLastEndsOut}
 use Rattle.ans_mend.specs.TakingOut.{nothing_told}
 use Rattle.ans_mend.specs.declared.outcome.Edits.{Edits}
 use Rattle.ans_check_laws.proofs.FieldsStay.{bytes_at, bytes_put, bytes_stay, put_same}
-use Rattle.ans_check_laws.proofs.RecordsKept.{field_in, flag_byte, iced_content, iced_same, its_size, lined_field, same_had}
+use Rattle.ans_check_laws.proofs.RecordsKept.{field_in, flag_byte, iced_content, iced_same, its_size}
+use Rattle.ans_check_laws.proofs.RecordsKept.{lined_field, same_had}
 use Rattle.ans_check_laws.proofs.RecordsKept.{set_if, set_record, step_record, step_same, taken_field, taken_same}
 use Rattle.ans_mend.specs.Columns.{with_columns, with_width}
 use Rattle.std.specs.Option.{option_map_or}
@@ -432,8 +435,10 @@ module _ (mends : Mends) (file : List ℕ) (mended : Mended) (draft : List ℕ) 
           (flag_again (record_in taken) (record_in written) (flags (record_in taken))
           (field_of_out 105 1 (inr (omega arith)) (inr (omega arith))
           ∙ ap (field_in 105 1) (h.steps.is_edited.sequences.2 ∙ on_taken)
-          ∙ ap (bytes_at 105 1) (set_record 105 (flag_byte true (record_in taken)) taken (its_size taken has_taken) (omega arith))
-          ∙ bytes_put 105 (flag_byte true (record_in taken)) (record_in taken) (omega (arith, its_size taken has_taken))))
+          ∙ ap (bytes_at 105 1)
+          (set_record 105 (flag_byte true (record_in taken)) taken (its_size taken has_taken) (omega arith))
+          ∙ bytes_put 105 (flag_byte true (record_in taken)) (record_in taken)
+          (omega (arith, its_size taken has_taken))))
         where
           on_taken : iced h.asked taken ≡ with_record (with_non_blink true (record_in taken)) taken
           on_taken =
@@ -550,7 +555,8 @@ module _ (mends : Mends) (file : List ℕ) (mended : Mended) (draft : List ℕ) 
     stays : k.settled ≡ with_end_mark written
     stays =
         settled_stays mends no_rows no_repair written h.apart h.accepts h.picture h.from_every
-        (shown_wants_none no_rows keeps) (λ asks. names_stay asks laws) (width_stays no_repair) ice_stays again draft_again k
+        (shown_wants_none no_rows keeps) (λ asks. names_stay asks laws) (width_stays no_repair) ice_stays again
+        draft_again k
 
     settled_is_written : k.settled ≡ written
     settled_is_written = stays ∙ marked_stays written h.apart h.accepts.laid h.ended
@@ -579,7 +585,8 @@ module _ (mends : Mends) (file : List ℕ) (mended : Mended) (draft : List ℕ) 
         k.content_is ∙ ap₂ (λ (b : Bool) (v : List ℕ). front_bytes b ++ v) no_front content_stays in
         let opened_again : opened k.asked k.based ≡ written =
         opened_stays mends no_rows no_repair written h.apart h.accepts h.picture h.from_every
-        (shown_wants_none no_rows keeps) (λ asks. names_stay asks laws) (width_stays no_repair) ice_stays again draft_again k in
+        (shown_wants_none no_rows keeps) (λ asks. names_stay asks laws) (width_stays no_repair) ice_stays again
+        draft_again k in
         let stated : file_size (record_in written) ≡ size =
         ap file_size (laid_record written h.apart h.accepts.laid) ∙ states_size room in
         let counted : length (content_in written) ≡ length shown =

@@ -63,7 +63,8 @@ iced_content mends file = go mends.ice (has_record file) refl
     go : (ice recorded : Bool) → has_record file ≡ recorded
         → content_in (if ice && recorded then with_record (with_non_blink true (record_in file)) file else file)
         ≡ content_in file
-    go true true has = set_content 105 (flag_byte true (record_in file)) file (its_size file has) (omega arith) (inl (omega arith))
+    go true true has =
+        set_content 105 (flag_byte true (record_in file)) file (its_size file has) (omega arith) (inl (omega arith))
     go true false has = refl
     go false recorded has = refl
 
