@@ -16,7 +16,6 @@ use Rattle.ans_mend.specs.IdleText.{idle_join_rows, idle_least, idle_line, idle_
 use Rattle.ans_mend.specs.IdleText.{idle_take_out, idle_text, rows_reason}
 use Rattle.ans_mend.specs.MendedText.{comments_line, flag_line, front_line, help_text, helped, mended_text}
 use Rattle.ans_mend.specs.MendedText.{offers_of}
-use Rattle.ans_mend.specs.declared.helping.Offers.{Offers}
 use Rattle.ans_mend.specs.MendedText.{record_line, width_line}
 use Rattle.ans_mend.specs.MendedText.{tail_line, taken_line, times_line, unmended_text}
 use Rattle.ans_mend.specs.declared.outcome.Mended.{Mended}
@@ -115,16 +114,17 @@ mended_clean m bytes =
 
 -- ---- why there is none
 
-helped_clean : (offers : Offers) (way : Help) → IsCleanText (helped offers way)
-helped_clean offers help.Look = search clean_lines depth 20
-helped_clean offers way = search clean_lines depth 20
+helped_clean : (asked without_help : Mends) (way : Help) → IsCleanText (helped (offers_of asked without_help) way)
+helped_clean asked without_help help.Look = search clean_lines depth 20
+helped_clean asked without_help way = search clean_lines depth 20
 
-help_clean : (offers : Offers) (cause : Cause) → IsCleanText (help_text offers cause)
-help_clean offers cause = helped_clean offers (fault_help cause)
+help_clean : (asked without_help : Mends) (cause : Cause)
+    → IsCleanText (help_text (offers_of asked without_help) cause)
+help_clean asked without_help cause = helped_clean asked without_help (fault_help cause)
 
 pub unmended_clean : (asked without_help : Mends) (reason : Unmended)
     → IsCleanText (unmended_text asked without_help reason)
 unmended_clean asked without_help (unmended.Refused fault) =
     clean_append (fault_line fault) (help_text (offers_of asked without_help) fault.cause)
-    (search clean_lines depth 20) (help_clean (offers_of asked without_help) fault.cause)
+    (search clean_lines depth 20) (help_clean asked without_help fault.cause)
 unmended_clean asked without_help reason = search clean_lines depth 20
