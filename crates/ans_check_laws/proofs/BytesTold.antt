@@ -1,5 +1,6 @@
 -- What is told of the sequences that were taken out of a file are bytes of it.
 use Rattle.std.proofs.Common.{◌≡◌, inl, inr, ℕ, ◌+◌, ◌-◌, ◌/◌, ◌%◌, Bool, true, false, refl, sym, subst, arith}
+use Rattle.std.proofs.Common.{zero, suc, ◌<◌, ◌≤◌}
 use Rattle.std.proofs.Common.{List, [], ◌∷◌, ◌++◌, length, take, drop, codes, Option, Some, None, All, replicate, fold}
 use Rattle.std.specs.Prelude.{if◌then◌else◌, MatchBool, min, slice_index_or, nat_lt, ◌&&◌}
 use Rattle.std.specs.List.{list_all}
@@ -10,23 +11,27 @@ use Rattle.std.proofs.lemmas.List.Elements.{All-tail, All-head, All-nil, All-con
 use Rattle.std.proofs.lemmas.List.Elements.{All-set, All-replicate, All-get_or}
 use Rattle.ans_model.specs.Bytes.{IsByte, blank, end_mark}
 use Rattle.ans_model.specs.File.Layout.{content}
+use Rattle.ans_model.specs.File.Record.{comment_count, number}
 use Rattle.ans_model.specs.File.Refusals.{has_record}
 use Rattle.ans_sauce.specs.Found.{body_in, front_in, record_in}
 use Rattle.ans_forms.specs.declared.kinds.Before.{Before}
 use Rattle.ans_forms.specs.declared.kinds.TheConstants.Before as before
 use Rattle.ans_sauce.specs.Contents.{content_in, with_content}
-use Rattle.ans_sauce.specs.Fields.{two_bytes, with_lines, with_record}
+use Rattle.ans_sauce.specs.Fields.{overwritten, two_bytes, with_lines, with_record}
 use Rattle.ans_mend.specs.LineEnds.{wants_returns, with_line_ends, with_returns}
 use Rattle.ans_mend.specs.MendedText.{mended_text}
 use Rattle.ans_mend.specs.NewRecord.{new_record, takes_record, with_new_record}
 use Rattle.ans_mend.specs.Tail.{IsTailCut}
 use Rattle.ans_mend.specs.TakingOut.{AreTakenOut, Gone, TakesOut, TakesOutOf, excerpt_of, index_of, nothing_told}
-use Rattle.ans_mend.specs.TakingOut.{one_more, told_with}
+use Rattle.ans_mend.specs.TakingOut.{one_more, switched, told_with}
 use Rattle.ans_mend.specs.declared.outcome.Mended.{Mended}
 use Rattle.ans_mend.specs.declared.taking_out.TakenOut.{TakenOut}
 use Rattle.ans_mend.specs.declared.taking_out.Told.{Told}
 use Rattle.ans_model.specs.declared.mends.Mends.{Mends}
-use Rattle.ans_mend.specs.Mending.{IsMended, first_lines, lacks_lines, opened, returned}
+use Rattle.ans_mend.specs.Mending.{IsMended, first_lines, lacks_lines, opened, record_added, repaired}
+use Rattle.ans_mend.specs.Mending.{returned, widened}
+use Rattle.ans_mend.specs.Columns.{with_columns, with_width}
+use Rattle.ans_mend.specs.Recounted.{blocks, blocks_from, comments_for, comments_in, is_block, recounted, with_comments}
 use Rattle.ans_check_laws.specs.CleanTexts.{IsCleanText}
 use Rattle.ans_check_laws.proofs.CleanPieces.{all_left, all_right}
 use Rattle.ans_check_laws.proofs.CleanMended.{QuotesBytes, mended_clean}
@@ -72,15 +77,86 @@ cut_is_bytes file cut (inl (place, tail, is)) h =
     subst (λ (v : List ℕ). All IsByte v) (sym is) (All-take IsByte (place + 128) file h)
 cut_is_bytes file cut (inr (none, is)) h = subst (λ (v : List ℕ). All IsByte v) (sym is) h
 
-recorded_is_bytes : (width : Option ℕ) (file : List ℕ) → All IsByte file
+added_is_bytes : (width : Option ℕ) (file : List ℕ) → All IsByte file
     → All IsByte (option_map_or (λ w. with_new_record w file) width file)
-recorded_is_bytes None file h = h
-recorded_is_bytes (Some width) file h = go (takes_record file)
+added_is_bytes None file h = h
+added_is_bytes (Some width) file h = go (takes_record file)
   where
     go : (takes : Bool) → All IsByte (if takes then content file ++ end_mark ∷ new_record width else file)
     go true =
         All-append IsByte (content file) (end_mark ∷ new_record width) (All-take IsByte _ file h)
         (All-cons IsByte end_mark (new_record width) (omega arith) (record_is_bytes width))
+    go false = h
+
+-- other bytes in a record
+overwritten_is_bytes : (offset : ℕ) (bytes file : List ℕ) → All IsByte bytes → All IsByte file
+    → All IsByte (with_record (overwritten offset bytes (record_in file)) file)
+overwritten_is_bytes offset bytes file put h =
+    let its : All IsByte (record_in file) = All-drop IsByte (length file - 128) file h in
+    All-append IsByte (front_in file) (overwritten offset bytes (record_in file))
+    (All-take IsByte (length file - 128) file h)
+    (All-append IsByte (take offset (record_in file)) (bytes ++ drop (offset + length bytes) (record_in file))
+    (All-take IsByte offset (record_in file) its)
+    (All-append IsByte bytes (drop (offset + length bytes) (record_in file)) put
+    (All-drop IsByte (offset + length bytes) (record_in file) its)))
+
+widened_is_bytes : (mends : Mends) (file : List ℕ) → All IsByte file → All IsByte (widened mends file)
+widened_is_bytes mends file h = go mends.columns
+  where
+    by_test : (width : ℕ) (has : Bool)
+        → All IsByte (if has then with_record (with_width width (record_in file)) file else file)
+    by_test width true = overwritten_is_bytes 96 (two_bytes width) file (two_are_bytes width) h
+    by_test width false = h
+
+    go : (width : Option ℕ) → All IsByte (option_map_or (λ w. with_columns w file) width file)
+    go None = h
+    go (Some width) = by_test width (has_record file)
+
+-- the number of a block is a byte
+blocks_are_bytes : (front : List ℕ) (number count : ℕ) → number + count ≤ 256
+    → All IsByte (blocks_from front number count)
+blocks_are_bytes front number zero within = All-nil IsByte
+blocks_are_bytes front number (suc count) within =
+    All-append IsByte (if is_block front number then number ∷ [] else []) (blocks_from front (number + 1) count)
+    (here (is_block front number)) (blocks_are_bytes front (number + 1) count (omega (arith, within)))
+  where
+    here : (is : Bool) → All IsByte (if is then number ∷ [] else [])
+    here true = All-cons IsByte number [] (omega (arith, within)) (All-nil IsByte)
+    here false = All-nil IsByte
+
+all_blocks : (front : List ℕ) → All IsByte (blocks front)
+unfolding blocks
+all_blocks front = blocks_are_bytes front 1 255 (omega arith)
+
+comments_are_bytes : (count : ℕ) (numbers : List ℕ) → IsByte count → All IsByte numbers
+    → IsByte (comments_for count numbers)
+comments_are_bytes count [] byte h = omega arith
+comments_are_bytes count (number ∷ []) byte h = All-head IsByte number [] h
+comments_are_bytes count (number ∷ other ∷ more) byte h = byte
+
+repaired_is_bytes : (mends : Mends) (file : List ℕ) → All IsByte file → All IsByte (repaired mends file)
+repaired_is_bytes mends file h = go mends.repair_record
+  where
+    counted : IsByte (comment_count (record_in file))
+    counted =
+        one_byte (drop 104 (record_in file))
+        (All-drop IsByte 104 (record_in file) (All-drop IsByte (length file - 128) file h))
+      where
+        one_byte : (bytes : List ℕ) → All IsByte bytes → number (take 1 bytes) < 256
+        one_byte [] h = omega arith
+        one_byte (b ∷ bytes) h = let byte : b < 256 = All-head IsByte b bytes h in omega (arith, byte)
+
+    by_test : (has : Bool)
+        → All IsByte (if has then with_record (with_comments (comments_in file) (record_in file)) file else file)
+    by_test true =
+        overwritten_is_bytes 104 (comments_in file ∷ []) file
+        (All-cons IsByte (comments_in file) []
+        (comments_are_bytes (comment_count (record_in file)) (blocks (front_in file)) counted
+        (all_blocks (front_in file))) (All-nil IsByte)) h
+    by_test false = h
+
+    go : (repairs : Bool) → All IsByte (if repairs then recounted file else file)
+    go true = by_test (has_record file)
     go false = h
 
 opened_is_bytes : (asked : Mends) (file : List ℕ) → All IsByte file → All IsByte (opened asked file)
@@ -109,15 +185,15 @@ returned_is_bytes : (asked : Mends) (file : List ℕ) → All IsByte file → Al
 returned_is_bytes asked file h = go asked.crlf
   where
     by_test : (wants : Bool)
-        → All IsByte (if wants then with_content (with_returns (content_in file)) file else file)
+        → All IsByte (if wants then with_content (with_returns 0 (content_in file)) file else file)
     by_test true =
-        All-append IsByte (with_returns (content_in file)) (drop (length (content_in file)) file)
-        (put_bytes (content_in file) (content_is_bytes file h))
+        All-append IsByte (with_returns 0 (content_in file)) (drop (length (content_in file)) file)
+        (put_bytes 0 (content_in file) (content_is_bytes file h))
         (All-drop IsByte (length (content_in file)) file h)
     by_test false = h
 
-    go : (ends : Bool) → All IsByte (if ends then with_line_ends file else file)
-    go true = by_test (has_record file && wants_returns (content_in file))
+    go : (ends : Bool) → All IsByte (if ends then with_line_ends asked.mixed file else file)
+    go true = by_test (has_record file && wants_returns asked.mixed (content_in file))
     go false = h
 
 -- ---- what goes
@@ -125,14 +201,15 @@ returned_is_bytes asked file h = go asked.crlf
 abbrev HasBytes : Gone → Type 0
 HasBytes g = All IsByte g.text
 
-gone_are_bytes : (before : Before) (from : ℕ) (gone : List Gone) (bytes left : List ℕ) → All IsByte bytes
-    → TakesOut before from gone bytes left → All HasBytes gone
-gone_are_bytes before from [] bytes left h takes = All-nil HasBytes
-gone_are_bytes before from (g ∷ more) bytes left h (kept, rest, later, after, first, place, is, takes) =
+gone_are_bytes : (before : Before) (from : ℕ) (gone : List Gone) (bytes left : List ℕ) (end : Before)
+    → All IsByte bytes → TakesOut before from gone bytes left end → All HasBytes gone
+gone_are_bytes before from [] bytes left end h takes = All-nil HasBytes
+gone_are_bytes before from (g ∷ more) bytes left end h (kept, rest, later, after, first, place, is, takes) =
     let whole : All IsByte (kept ++ (g.text ++ rest)) = subst (λ (v : List ℕ). All IsByte v) first.whole h in
     let behind : All IsByte (g.text ++ rest) = all_right IsByte kept (g.text ++ rest) whole in
     All-cons HasBytes g more (all_left IsByte g.text rest behind)
-    (gone_are_bytes after (g.place + length g.text) more rest later (all_right IsByte g.text rest behind) takes)
+    (gone_are_bytes (switched after g.kind g.text) (g.place + length g.text) more rest later end
+    (all_right IsByte g.text rest behind) takes)
 
 excerpt_is_bytes : (text : List ℕ) → All IsByte text → All IsByte (excerpt_of text).bytes
 excerpt_is_bytes text h =
@@ -178,34 +255,40 @@ module _ (mends : Mends) (file draft : List ℕ) (mended : Mended) (bytes : All 
   based_is_bytes : All IsByte h.based
   based_is_bytes =
       subst (λ (v : List ℕ). All IsByte v) (sym h.based_is)
-      (recorded_is_bytes mends.add_record h.cut (cut_is_bytes file h.cut h.is_cut bytes))
+      (repaired_is_bytes mends (widened mends (record_added mends h.cut))
+      (widened_is_bytes mends (record_added mends h.cut)
+      (added_is_bytes mends.add_record h.cut (cut_is_bytes file h.cut h.is_cut bytes))))
 
   looked_at_is_bytes : All IsByte looked_at
   looked_at_is_bytes =
       returned_is_bytes h.asked (opened h.asked h.based) (opened_is_bytes h.asked h.based based_is_bytes)
 
+  -- what is left of its sequences, before its flag is set
+  abbrev taken : List ℕ
+  taken = h.steps.is_edited.sequences.0
+
   none_quotes : told ≡ nothing_told → All QuotesBytes told.kinds
   none_quotes is = subst (λ (v : Told). All QuotesBytes v.kinds) (sym is) nothing_quotes
 
-  some_quote : TakesOutOf looked_at h.steps.is_edited.out told → All QuotesBytes told.kinds
+  some_quote : TakesOutOf looked_at taken told → All QuotesBytes told.kinds
   some_quote t =
       subst (λ (v : Told). All QuotesBytes v.kinds) (sym t.told_is)
       (told_quotes nothing_told t.gone nothing_quotes
-      (gone_are_bytes before.NOTHING 0 t.gone (content_in looked_at) t.left
+      (gone_are_bytes before.NOTHING 0 t.gone (content_in looked_at) t.left t.end
       (content_is_bytes looked_at looked_at_is_bytes) t.takes_out))
 
   pub told_bytes : All QuotesBytes told.kinds
-  told_bytes = go h.asked.take_out h.steps.is_edited.sequences
+  told_bytes = go h.asked.take_out h.steps.is_edited.sequences.1
     where
       of_file : (recorded : Bool)
-          → MatchBool recorded (TakesOutOf looked_at h.steps.is_edited.out told)
-          ((h.steps.is_edited.out ≡ looked_at) × (told ≡ nothing_told))
+          → MatchBool recorded (TakesOutOf looked_at taken told)
+          ((taken ≡ looked_at) × (told ≡ nothing_told))
           → All QuotesBytes told.kinds
       of_file true t = some_quote t
       of_file false t = none_quotes t.1
 
-      go : (takes : Bool) → MatchBool takes (AreTakenOut looked_at h.steps.is_edited.out told)
-          ((h.steps.is_edited.out ≡ looked_at) × (told ≡ nothing_told)) → All QuotesBytes told.kinds
+      go : (takes : Bool) → MatchBool takes (AreTakenOut looked_at taken told)
+          ((taken ≡ looked_at) × (told ≡ nothing_told)) → All QuotesBytes told.kinds
       go true t = of_file (has_record looked_at) t
       go false t = none_quotes t.1
 

@@ -1,6 +1,6 @@
 -- What `why` says of a file is clean.
 use Rattle.std.proofs.Common.{◌≡◌, inl, inr, ℕ, Bool, refl, subst, List, [], ◌∷◌, ◌++◌, length, Option, Some, None}
-use Rattle.std.specs.Prelude.{◌==◌, IfSome, codes, decimal, true}
+use Rattle.std.specs.Prelude.{◌==◌, IfSome, codes, decimal, true, false, not}
 use Rattle.std.specs.List.{list_all}
 use Rattle.std.proofs.lemmas.Option.{slice_get_within, get_or_from_slice_get}
 use Rattle.std.proofs.lemmas.List.Elements.{All-nil, All-get_or}
@@ -30,6 +30,18 @@ use Rattle.ans_pens.specs.Evidence.{ShowsNamed}
 use Rattle.ans_why.specs.HintRows.{Hint, Words, words_for}
 use Rattle.ans_why.specs.HintRows as row
 use Rattle.ans_why.specs.HintsText.{counted_line, counted_words, first_at, hint_line, hints_text, wider_line}
+use Rattle.ans_why.specs.HintsText.{latin_told, mark_line, pass_hints_text, text_lines, told_text}
+use Rattle.ans_why.specs.HintsText.{wider_told}
+use Rattle.ans_why.specs.TextDamage.{lost_told}
+use Rattle.ans_why.specs.WidthsText.{exchanged_line, fitting_line, fitting_lines, lines_words, widths_lines}
+use Rattle.ans_why.specs.PlayersText.{remedy_line}
+use Rattle.ans_why.specs.declared.text_damage.TextDamage.{TextDamage}
+use Rattle.ans_why.specs.declared.why.RecordRefusal.{RecordRefusal}
+use Rattle.ans_hints.specs.RowEnds.{are_all_ended, wider_rows}
+use Rattle.ans_hints.specs.declared.row_ends.WiderRows.{WiderRows}
+use Rattle.ans_hints.specs.declared.other_widths.OtherWidths.{OtherWidths}
+use Rattle.ans_kinds.specs.declared.players.Players.{Players}
+use Rattle.ans_kinds.specs.declared.players.Players.TheVariants.{Agreeing, Any, InNamedColours}
 use Rattle.ans_hints.specs.Hints.{much_dark}
 use Rattle.ans_hints.specs.declared.hints.Hints.{Hints}
 use Rattle.ans_pens.specs.declared.times.Times.{Times}
@@ -37,6 +49,7 @@ use Rattle.ans_why.specs.Blamed.{AreToBlame}
 use Rattle.ans_why.specs.Explained.{IsShown, IsReliance, IsSaidOfLines, IsTrueOf, Why}
 use Rattle.ans_why.specs.WhyText.{after_end_mark_text, blamed_line, blamed_text, fix_line, shown_lines, reliance_lines}
 use Rattle.ans_why.specs.WhyText.{enough_lines, known_line, found_line, lines_line, taller_line, torn_text, why_text}
+use Rattle.ans_why.specs.WhyText.{file_lines, returns_text, wide_told}
 use Rattle.ans_why.specs.declared.known_bytes.Known.{Known}
 use Rattle.ans_why.specs.declared.known_bytes.Known.TheVariants.{Music}
 use Rattle.ans_why.specs.declared.known_bytes.Known.TheVariants as known
@@ -51,7 +64,8 @@ use Rattle.ans_check_laws.specs.CleanTexts.{IsCleanText}
 use Rattle.ans_check_laws.proofs.CleanLines.{clean_lines, fault_told_clean, parts_are_bytes}
 use Rattle.ans_check_laws.proofs.CleanPlayers.{players_clean}
 use Rattle.ans_check_laws.proofs.CleanPieces.{clean_bool, clean_option, AreBytes, bytes_left, bytes_right, clean_nil}
-use Rattle.ans_check_laws.proofs.CleanPieces.{clean_append, clean_decimal, clean_if, clean_pieces, is_plain, plain_text}
+use Rattle.ans_check_laws.proofs.CleanPieces.{clean_append, clean_decimal, clean_flat_map, clean_if}
+use Rattle.ans_check_laws.proofs.CleanPieces.{clean_pieces, is_plain, plain_text}
 
 -- ---- bytes of a file
 
@@ -183,19 +197,87 @@ hint_clean hint a b c d e = record {
   advice_more = plain_text hint.advice.more e;
 }
 
-hints_clean : (hints : Hints) (font : List ℕ) → AreBytes font → IsCleanText (hints_text hints font)
-hints_clean hints font bytes =
-    let feeds = counted_clean row.bare_line_feeds hints.loose_line_feeds (hint_clean _ refl refl refl refl refl) in
-    let ended = counted_clean row.ended_rows hints.row_ends.ended (hint_clean _ refl refl refl refl refl) in
+feeds_hint : (mixed : Bool) → IsCleanHint (row.bare_line_feeds mixed)
+feeds_hint true = hint_clean _ refl refl refl refl refl
+feeds_hint false = hint_clean _ refl refl refl refl refl
+
+ended_hint : (mixed : Bool) → IsCleanHint (row.ended_rows mixed)
+ended_hint true = hint_clean _ refl refl refl refl refl
+ended_hint false = hint_clean _ refl refl refl refl refl
+
+told_clean : (hints : Hints) (wider : Option WiderRows) (font : List ℕ) → AreBytes font
+    → IsCleanText (told_text hints wider font)
+told_clean hints wider font bytes =
+    let feeds = counted_clean (row.bare_line_feeds hints.row_ends.returns) hints.loose_line_feeds
+    (feeds_hint hints.row_ends.returns) in
+    let ended = counted_clean (row.ended_rows (not (are_all_ended hints.row_ends))) hints.row_ends.ended
+    (ended_hint (not (are_all_ended hints.row_ends))) in
     let over = counted_clean row.overprints hints.row_ends.overprints (hint_clean _ refl refl refl refl refl) in
     let wide = counted_clean row.wide_characters hints.wide_characters (hint_clean _ refl refl refl refl refl) in
     let two = counted_clean row.two_byte_letters hints.two_byte_letters (hint_clean _ refl refl refl refl refl) in
-    let latin = counted_clean row.latin_letters hints.latin_letters (hint_clean _ refl refl refl refl refl) in
+    let latin = counted_clean row.latin_letters (latin_told font hints.latin_letters)
+    (hint_clean _ refl refl refl refl refl) in
     let boards = counted_clean row.board_codes hints.board_codes (hint_clean _ refl refl refl refl refl) in
     let modern = counted_clean row.modern_colours hints.later_colours (hint_clean _ refl refl refl refl refl) in
     let blinking = counted_clean row.blinking hints.blinking_glyphs (hint_clean _ refl refl refl refl refl) in
     let grey = counted_clean row.dark_grey (much_dark hints) (hint_clean _ refl refl refl refl refl) in
     search (clean_option wider_line, clean_lines) depth 30 fits 5000
+
+hints_clean : (hints : Hints) (font : List ℕ) → AreBytes font → IsCleanText (hints_text hints font)
+hints_clean hints font bytes = told_clean hints (wider_rows hints.row_ends) font bytes
+
+pass_hints_clean : (hints : Hints) (font : List ℕ) → AreBytes font → IsCleanText (pass_hints_text hints font)
+pass_hints_clean hints font bytes = told_clean hints (wider_told hints) font bytes
+
+-- ---- damage, other widths, and the command for everywhere
+
+mark_clean : (mark : Bool) → IsCleanText (mark_line mark)
+mark_clean true = plain_text (mark_line true) refl
+mark_clean false = clean_nil
+
+text_clean : (damage : TextDamage) → IsCleanText (text_lines damage)
+text_clean damage =
+    clean_append (counted_line row.lost_escapes (lost_told damage)) _
+    (counted_clean row.lost_escapes (lost_told damage) (hint_clean _ refl refl refl refl refl))
+    (clean_append (counted_line row.shown_escapes damage.shown_escapes) _
+    (counted_clean row.shown_escapes damage.shown_escapes (hint_clean _ refl refl refl refl refl))
+    (clean_append (counted_line row.short_escapes damage.short_escapes) _
+    (counted_clean row.short_escapes damage.short_escapes (hint_clean _ refl refl refl refl refl))
+    (clean_append (counted_line row.converted damage.converted) _
+    (counted_clean row.converted damage.converted (hint_clean _ refl refl refl refl refl))
+    (clean_append (counted_line row.lone_returns damage.returns) (mark_line damage.mark)
+    (counted_clean row.lone_returns damage.returns (hint_clean _ refl refl refl refl refl))
+    (mark_clean damage.mark)))))
+
+file_damage_clean : (said : RecordRefusal) → IsCleanText (file_lines said)
+file_damage_clean said =
+    clean_append (text_lines said.damage) (counted_line row.wide_characters (wide_told said)) (text_clean said.damage)
+    (counted_clean row.wide_characters (wide_told said) (hint_clean _ refl refl refl refl refl))
+
+lines_words_clean : (lines : ℕ) → IsCleanText (lines_words lines)
+lines_words_clean lines =
+    clean_if (lines == 1) _ _ (plain_text (codes " stated line comes out: --columns ") refl)
+    (plain_text (codes " stated lines come out: --columns ") refl)
+
+fitting_clean : (lines : ℕ) (width : Option ℕ) → IsCleanText (fitting_line lines width)
+fitting_clean lines None = clean_nil
+fitting_clean lines (Some width) =
+    hint_line_clean (codes "with " ++ (decimal width ++ (codes " columns the "
+    ++ (decimal lines ++ (lines_words lines ++ decimal width))))) (search (lines_words_clean, clean_lines) depth 20)
+
+exchanged_clean : (z : Size) (exchanged : Bool) → IsCleanText (exchanged_line z exchanged)
+exchanged_clean z false = clean_nil
+exchanged_clean z true = search clean_lines depth 20
+
+widths_clean : (z : Size) (widths : OtherWidths) → IsCleanText (widths_lines z widths)
+widths_clean z widths =
+    clean_append (fitting_lines z.lines widths.fitting) (exchanged_line z widths.exchanged)
+    (clean_flat_map (fitting_line z.lines) widths.fitting (fitting_clean z.lines)) (exchanged_clean z widths.exchanged)
+
+remedy_clean : (players : Players) → IsCleanText (remedy_line players)
+remedy_clean (Any class) = clean_nil
+remedy_clean (InNamedColours class times) = plain_text (remedy_line (InNamedColours class times)) refl
+remedy_clean (Agreeing used) = plain_text (remedy_line (Agreeing used)) refl
 
 -- ---- what is found
 
@@ -203,6 +285,11 @@ found_clean : (file : List ℕ) (found : Found) (cause : Cause) → AreBytes fil
     → IsCleanText (found_line found)
 found_clean file (found.Version version) cause bytes h =
     let of_file : AreBytes version.now = rw h.1 (search clean_pieces) in
+    search clean_lines depth 20
+found_clean file (found.Grown offset size returns) cause bytes h =
+    let text : IsCleanText (returns_text returns) = clean_if (returns == 1) _ _
+    (plain_text (codes " of them a return that a transfer as text may have put in") refl)
+    (plain_text (codes " of them returns that a transfer as text may have put in") refl) in
     search clean_lines depth 20
 found_clean file found cause bytes h = search (clean_bool after_end_mark_text, clean_lines) depth 20
 
@@ -222,12 +309,23 @@ known_clean (Some Music) = plain_text (known_line (Some Music)) refl
 known_clean (Some (known.Terminal what)) = terminal_clean what
 known_clean (Some is) = plain_text (known_line (Some is)) refl
 
-ruleset clean_answers = (hints_clean, known_clean, lines_clean, players_clean, clean_lines)
+ruleset clean_answers = (
+  hints_clean,
+  pass_hints_clean,
+  text_clean,
+  file_damage_clean,
+  widths_clean,
+  remedy_clean,
+  known_clean,
+  lines_clean,
+  players_clean,
+  clean_lines,
+)
 
-enough_clean : (file : List ℕ) (cause : Cause) (enough : Option Enough) → AreBytes file
-    → IsSaidOfLines file cause enough → IsCleanText (enough_lines enough)
-enough_clean file cause None bytes h = clean_nil
-enough_clean file cause (Some e) bytes h =
+enough_clean : (file : List ℕ) (cause : Cause) (damage : TextDamage) (enough : Option Enough) → AreBytes file
+    → IsSaidOfLines file cause enough → IsCleanText (enough_lines damage enough)
+enough_clean file cause damage None bytes h = clean_nil
+enough_clean file cause damage (Some e) bytes h =
     let font : AreBytes e.font.now = rw h.some.1.font (search clean_pieces) in
     search clean_answers depth 20
 
@@ -236,7 +334,7 @@ why_clean file (NoContent said) bytes h =
     let blamed = blamed_line_clean (codes "fault") said.fault [] (plain_text (codes "fault") refl)
     (record { each = All-nil IsByte }) in
     let found = found_clean file said.found said.fault.cause bytes h.found in
-    let enough = enough_clean file said.fault.cause said.enough bytes h.enough in
+    let enough = enough_clean file said.fault.cause said.damage said.enough bytes h.enough in
     search clean_answers depth 20
 why_clean file (Refused parts r) bytes (split, h) =
     let sauce = sauce_is_bytes file parts split bytes in

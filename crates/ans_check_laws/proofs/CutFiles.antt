@@ -275,18 +275,20 @@ module _ (file : List ℕ) (has : has_record file ≡ true) where
       ∙ sym (append_assoc new (drop (length c) before) (record_in file)) in
       ap record_in whole ∙ record_behind front (record_in file) (record_length file (recorded_long file has))
 
-  put_wanted : wants_returns c ≡ true → wants_returns (content_in (with_content (with_returns c) file)) ≡ false
-  put_wanted wants =
-      ap wants_returns (content_put (with_returns c) (put_unmarked c (content_unmarked (body_in file)))
-      (λ empty. ap with_returns empty))
-      ∙ ap wants_returns (sym (append-nil (with_returns c))) ∙ put_wants_none c [] wants
+  module _ (mixed : Bool) where
+    put_wanted : wants_returns mixed (content_in (with_content (with_returns 0 c) file)) ≡ false
+    put_wanted =
+        ap (wants_returns mixed) (content_put (with_returns 0 c) (put_unmarked 0 c (content_unmarked (body_in file)))
+        (λ empty. ap (with_returns 0) empty))
+        ∙ put_wants_none mixed c
 
-  -- where returns are put, none is wanted any more
-  pub returned_wants_none : wants_returns (content_in (with_line_ends file)) ≡ false
-  returned_wants_none = go (has_record file) (wants_returns c) has refl
-    where
-      go : (recorded wanted : Bool) → recorded ≡ true → wants_returns c ≡ wanted
-          → wants_returns (content_in (if recorded && wanted then with_content (with_returns c) file else file)) ≡ false
-      go true true is wants = put_wanted wants
-      go true false is none = none
-      go false wanted is e = absurd (true≢false (sym is))
+    -- where returns are put, none is wanted any more
+    pub returned_wants_none : wants_returns mixed (content_in (with_line_ends mixed file)) ≡ false
+    returned_wants_none = go (has_record file) (wants_returns mixed c) has refl
+      where
+        go : (recorded wanted : Bool) → recorded ≡ true → wants_returns mixed c ≡ wanted
+            → wants_returns mixed
+            (content_in (if recorded && wanted then with_content (with_returns 0 c) file else file)) ≡ false
+        go true true is wants = put_wanted
+        go true false is none = none
+        go false wanted is e = absurd (true≢false (sym is))

@@ -20,6 +20,8 @@ pub mod BytesTold
 pub mod WholeFiles
 pub mod MarkedContents
 pub mod CutFiles
+pub mod FieldsStay
+pub mod RecordsKept
 pub mod NothingGone
 pub mod MendedItself
 mod OneGoing

@@ -26,14 +26,16 @@ use Rattle.ans_mend.specs.LineEnds.{wants_returns, with_line_ends, with_returns}
 use Rattle.ans_mend.specs.NamedColours.{AreColoursNamed, HasNamedColours}
 use Rattle.ans_mend.specs.NewRecord.{holds_sauce, new_record, with_new_record}
 use Rattle.ans_mend.specs.Tail.{is_tail_byte}
-use Rattle.ans_mend.specs.TakingOut.{AreTakenOut, Gone, TakesOutOf, flagged, nothing_told, told_of}
+use Rattle.ans_mend.specs.TakingOut.{AreTakenOut, TakesOutOf, flagged, nothing_told}
 use Rattle.ans_mend.specs.declared.taking_out.Told.{Told}
 use Rattle.ans_mend.specs.declared.outcome.Mended.{Mended}
 use Rattle.ans_model.specs.declared.mends.Mends.{Mends}
 use Rattle.ans_mend.specs.Mending.{AreLastEndsGone, AreLinesFor, AreNamed, AreSequencesOut, IsEditedAsStated}
 use Rattle.ans_mend.specs.Mending.{IsMended, PassesAsStated, asks_for_lines, first_lines, lacks_lines, lined}
-use Rattle.ans_mend.specs.Mending.{TakesLines, opened, recorded, returned}
-use Rattle.ans_check_laws.proofs.NothingGone.{all_left, nothing_gone}
+use Rattle.ans_mend.specs.Mending.{TakesLines, iced, opened, recorded, repaired, returned, widened}
+use Rattle.ans_mend.specs.Recounted.{recounted}
+use Rattle.ans_forms.specs.declared.kinds.Before.{Before}
+use Rattle.ans_check_laws.proofs.NothingGone.{all_left, nothing_gone, says_nothing}
 use Rattle.ans_check_laws.proofs.WholeFiles.{nothing_cut}
 
 -- where nothing is asked for, nothing changes
@@ -78,12 +80,14 @@ module _ (file : List ℕ) (apart : FileParts) (accepts : Accepts file apart) wh
           ap (drop (length (take n body))) is ∙ drop-append_seam (take n body) (drop n body) in
           is ∙ ap (λ (v : List ℕ). take n body ++ v) (sym rest)
 
-module _ (mends : Mends) (no_rows : mends.join_rows ≡ false) (file : List ℕ) (apart : FileParts)
+module _ (mends : Mends) (no_rows : mends.join_rows ≡ false) (no_repair : mends.repair_record ≡ false)
+    (file : List ℕ) (apart : FileParts)
     (accepts : Accepts file apart) (picture : Picture)
     (good : GoodWith (stated_size apart.record_bytes) none_known (content apart.body) picture)
-    (no_returns : mends.crlf ≡ true → wants_returns (content apart.body) ≡ false)
+    (no_returns : mends.crlf ≡ true → wants_returns mends.mixed (content apart.body) ≡ false)
     (names_stay : mends.name_colours ≡ true → (left : List ℕ) (times : Option Times)
     → AreColoursNamed (content_in file) left times → left ≡ content_in file)
+    (width_stays : widened mends file ≡ file) (ice_stays : iced mends file ≡ file)
     (again : Mended) (draft : List ℕ) (k : IsMended mends file again draft) where
   has : has_record file ≡ true
   has = laid_has_record file apart accepts.laid
@@ -110,7 +114,9 @@ module _ (mends : Mends) (no_rows : mends.join_rows ≡ false) (file : List ℕ)
 
   based_stays : k.based ≡ file
   based_stays =
-      k.based_is ∙ ap (recorded mends) (nothing_cut file apart accepts k.cut k.is_cut) ∙ not_recorded mends.add_record
+      k.based_is ∙ ap (recorded mends) (nothing_cut file apart accepts k.cut k.is_cut)
+      ∙ ap (λ (v : List ℕ). repaired mends (widened mends v)) (not_recorded mends.add_record)
+      ∙ ap (repaired mends) width_stays ∙ ap (λ (b : Bool). if b then recounted file else file) no_repair
 
   none_lacking : (m : Mends) → lacks_lines m file ≡ false
   none_lacking m =
@@ -139,38 +145,46 @@ module _ (mends : Mends) (no_rows : mends.join_rows ≡ false) (file : List ℕ)
   returned_stays : returned k.asked file ≡ file
   returned_stays = go k.asked.crlf (sym (ap (λ (m : Mends). m.crlf) k.asked_is))
     where
-      go : (ends : Bool) → mends.crlf ≡ ends → (if ends then with_line_ends file else file) ≡ file
+      mixed_is : k.asked.mixed ≡ mends.mixed
+      mixed_is = ap (λ (m : Mends). m.mixed) k.asked_is
+
+      go : (ends : Bool) → mends.crlf ≡ ends → (if ends then with_line_ends k.asked.mixed file else file) ≡ file
       go true is =
-          let none : wants_returns (content_in file) ≡ false = ap wants_returns its_content ∙ no_returns is in
-          ap (λ (b : Bool). if b then with_content (with_returns (content_in file)) file else file)
-          (and_never (has_record file) (wants_returns (content_in file)) none)
+          let none : wants_returns k.asked.mixed (content_in file) ≡ false =
+          ap₂ (λ (b : Bool) (v : List ℕ). wants_returns b v) mixed_is its_content ∙ no_returns is in
+          ap (λ (b : Bool). if b then with_content (with_returns 0 (content_in file)) file else file)
+          (and_never (has_record file) (wants_returns k.asked.mixed (content_in file)) none)
       go false is = refl
 
   none_taken : (new : List ℕ) (told : Told) → TakesOutOf file new told → new ≡ file
   none_taken new told t =
       let nothing = nothing_gone z all_known (content_in file) picture file_good before.NOTHING 0 t.gone t.left
-      t.takes_out in
+      t.end t.takes_out in
       let none : told.bright_backgrounds ≡ None =
-      ap (λ (v : Told). v.bright_backgrounds) t.told_is
-      ∙ ap (λ (gone : List Gone). (told_of gone).bright_backgrounds) nothing.0 in
+      ap (λ (v : Told). v.bright_backgrounds) t.told_is ∙ ap (λ (b : Before). b.bright) nothing.3
+      ∙ says_nothing nothing.2 before.NOTHING refl refl in
       t.new_is ∙ ap₂ (λ (o : Option Bool) (left : List ℕ). flagged o (with_content left file)) none nothing.1
       ∙ same_content file apart accepts
 
   out_stays : edited_again.out ≡ file
   out_stays =
-      go k.asked.take_out
-      (subst (λ (v : List ℕ). AreSequencesOut k.asked v edited_again.out again.edits.told) returned_stays
-      edited_again.sequences)
+      sequences.2 ∙ ap (iced k.asked) (go k.asked.take_out sequences.1)
+      ∙ ap (λ (m : Mends). iced m file) k.asked_is ∙ ice_stays
     where
+      sequences : AreSequencesOut k.asked file edited_again.out again.edits.told
+      sequences =
+          subst (λ (v : List ℕ). AreSequencesOut k.asked v edited_again.out again.edits.told) returned_stays
+          edited_again.sequences
+
       of_file : (recorded : Bool) → has_record file ≡ recorded
-          → MatchBool recorded (TakesOutOf file edited_again.out again.edits.told)
-          ((edited_again.out ≡ file) × (again.edits.told ≡ nothing_told))
-          → edited_again.out ≡ file
-      of_file true is t = none_taken edited_again.out again.edits.told t
+          → MatchBool recorded (TakesOutOf file sequences.0 again.edits.told)
+          ((sequences.0 ≡ file) × (again.edits.told ≡ nothing_told))
+          → sequences.0 ≡ file
+      of_file true is t = none_taken sequences.0 again.edits.told t
       of_file false is t = t.0
 
-      go : (takes : Bool) → MatchBool takes (AreTakenOut file edited_again.out again.edits.told)
-          ((edited_again.out ≡ file) × (again.edits.told ≡ nothing_told)) → edited_again.out ≡ file
+      go : (takes : Bool) → MatchBool takes (AreTakenOut file sequences.0 again.edits.told)
+          ((sequences.0 ≡ file) × (again.edits.told ≡ nothing_told)) → sequences.0 ≡ file
       go true t = of_file (has_record file) refl t
       go false t = t.0
 

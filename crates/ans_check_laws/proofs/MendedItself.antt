@@ -45,7 +45,7 @@ not_opened file =
 
 pub not_edited : (z : Size) (file edited : List ℕ) (edits : Edits) → IsEdited no_mends.NONE z file edited edits
     → edited ≡ file
-not_edited z file edited edits h = h.named.0 ∙ h.ends.0 ∙ h.rows.0 ∙ h.sequences.0
+not_edited z file edited edits h = h.named.0 ∙ h.ends.0 ∙ h.rows.0 ∙ h.sequences.2 ∙ h.sequences.1.0
 
 not_asked : (lacks : Bool) (sauce bytes : List ℕ) (lines : ℕ) → TakesLines no_mends.NONE lacks sauce bytes lines → ⊥
 not_asked lacks sauce bytes lines (wants, inl given) = absurd (none_given given)

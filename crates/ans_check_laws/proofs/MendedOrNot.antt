@@ -42,7 +42,7 @@ module _ (mends : Mends) (lacks : Bool) (sauce bytes : List ℕ) (reason : Unmen
   without_number : (reason : Unmended) (n : ℕ) → TakesLines mends lacks sauce bytes n → AsksForLeast mends
       → IsWithoutNumber lacks sauce bytes reason → ⊥
   without_number Torn n (wants, inl given) asks why = none_or_some mends.lines n asks.0 given
-  without_number Torn n (wants, inr (least_asked, least)) asks (m, torn) = one_torn sauce bytes m n torn least
+  without_number Torn n (wants, inr (least_asked, least)) asks (m, torn) = one_torn lacks sauce bytes m n torn least
   without_number NoLines n (wants, inl given) asks why = none_or_some mends.lines n asks.0 given
   without_number NoLines n (wants, inr (least_asked, (within, least, torn))) asks (lack, never) =
       never n within least.enough

@@ -1,21 +1,23 @@
 -- A file that is mended is not changed by being mended again in the same way.
+use Rattle.std.proofs.Common.{◌⊎◌, ◌∷◌, ◌%◌}
 use Rattle.std.proofs.Common.{◌≡◌, inl, inr, ℕ, ◌+◌, ◌-◌, ◌≤◌, ◌<◌, ◌==◌, Bool, true, false, List, [], ◌++◌}
 use Rattle.std.proofs.Common.{length, take, drop, refl, sym, ap, ap₂, ◌∙◌, arith, append_assoc, subst, subst₂}
 use Rattle.std.proofs.Common.{true≢false}
 use Rattle.std.specs.Prelude.{if◌then◌else◌, IsTrue, ◌↔◌, ◌&&◌, bytes_eq, codes, Option, Some, None, MatchBool}
 use Rattle.std.proofs.lemmas.Bool.{cases_lt, eq-eqb, ne_eqb}
 use Rattle.std.proofs.lemmas.List.{length-append, length-drop, length-take-le, take-append-drop}
-use Rattle.ans_model.specs.Bytes.{longest_file}
+use Rattle.ans_model.specs.Bytes.{longest_file, most_lines}
 use Rattle.ans_model.specs.File.Layout.{content}
-use Rattle.ans_model.specs.File.Record.{file_size, stated_size}
+use Rattle.ans_model.specs.File.Record.{file_size, flags, number, stated_lines, stated_size}
 use Rattle.ans_model.specs.File.Refusals.{has_record}
-use Rattle.ans_model.specs.Screen.State.{Size, State}
+use Rattle.ans_model.specs.Screen.State.{Size, State, sized}
 use Rattle.ans_model.specs.Sequence.TokenKind.{TokenKind}
 use Rattle.ans_model.specs.Sequence.Reads.{Reads}
 use Rattle.ans_players.specs.Situations.{spelled}
 use Rattle.ans_sauce.specs.Found.{body_in, front_in, record_in}
 use Rattle.ans_sauce.proofs.LaidParts.{laid_body, laid_record}
-use Rattle.ans_sauce.specs.Fields.{four_bytes, with_file_size}
+use Rattle.ans_sauce.specs.Fields.{four_bytes, overwritten, two_bytes, with_file_size, with_lines}
+use Rattle.ans_sauce.specs.Fields.{with_non_blink, with_record}
 use Rattle.ans_sauce.proofs.ResizedFiles.{its_length, resized_again, resized_file_size}
 use Rattle.ans_sauce.proofs.ContentLemmas.{content_unmarked}
 use Rattle.ans_sauce.proofs.RecordLemmas.{content_before, front_shorter, has_by, length_front, record_behind}
@@ -31,7 +33,19 @@ use Rattle.ans_mend.specs.NamedColours.{AreColoursNamed, HasNamedColours, NamesC
 use Rattle.ans_mend.specs.declared.outcome.Mended.{Mended}
 use Rattle.ans_model.specs.declared.mends.Mends.{Mends}
 use Rattle.ans_mend.specs.Mending.{BeginsUnnamed, IsMended, WantsMending, end_mark_counted, front_bytes}
-use Rattle.ans_mend.specs.Mending.{lined, opened}
+use Rattle.ans_mend.specs.Mending.{asks_for_lines, first_lines, iced, lacks_lines, lined, opened, record_added}
+use Rattle.ans_mend.specs.Mending.{returned, widened}
+use Rattle.ans_mend.specs.Recounted.{recounted}
+use Rattle.ans_mend.specs.FullRows.{AreRowEndsOut}
+use Rattle.ans_mend.specs.LastEnds.{AreLastEndsOut}
+use Rattle.ans_mend.specs.TakingOut.{nothing_told}
+use Rattle.ans_mend.specs.declared.outcome.Edits.{Edits}
+use Rattle.ans_check_laws.proofs.FieldsStay.{bytes_at, bytes_put, bytes_stay, put_same}
+use Rattle.ans_check_laws.proofs.RecordsKept.{field_in, flag_byte, iced_content, iced_same, its_size}
+use Rattle.ans_check_laws.proofs.RecordsKept.{lined_field, same_had}
+use Rattle.ans_check_laws.proofs.RecordsKept.{set_if, set_record, step_record, step_same, taken_field, taken_same}
+use Rattle.ans_mend.specs.Columns.{with_columns, with_width}
+use Rattle.std.specs.Option.{option_map_or}
 use Rattle.ans_names_laws.specs.NameLaws.{NeverOwn, NoneOwnIsLeft}
 use Rattle.ans_check_laws.proofs.WholeFiles.{accepted_long}
 use Rattle.ans_check_laws.proofs.MarkedContents.{marked_stays}
@@ -245,6 +259,193 @@ module _ (mends : Mends) (file : List ℕ) (mended : Mended) (draft : List ℕ) 
       go true is = is
       go false is = ap has_record (sym (same h.asked.name_colours is h.steps.is_edited.named)) ∙ has_edited
 
+  -- ---- its record, step by step
+  abbrev joined : List ℕ
+  joined = h.steps.is_edited.joined
+
+  abbrev out : List ℕ
+  out = h.steps.is_edited.out
+
+  abbrev taken : List ℕ
+  taken = h.steps.is_edited.sequences.0
+
+  abbrev put_in : List ℕ
+  put_in = returned h.asked was
+
+  abbrev edits : Edits
+  edits = mended.edits
+
+  abbrev read_size : Size
+  read_size = stated_size (record_in was)
+
+  abbrev Ended : List ℕ → Type 0
+  Ended left = AreLastEndsOut read_size (content_in joined) left edits.last_ends
+
+  abbrev Joined : List ℕ → Type 0
+  Joined left =
+      AreRowEndsOut h.asked.mixed (sized read_size.width most_lines) (content_in out) left edits.row_ends
+
+  has_joined : has_record joined ≡ true
+  has_joined =
+      same_had joined ended (step_same h.asked.take_out joined ended Ended (edits.last_ends ≡ None)
+      (edits.last_ends ≡ None) h.steps.is_edited.ends) has_ended
+
+  has_out : has_record out ≡ true
+  has_out =
+      same_had out joined (step_same h.asked.join_rows out joined Joined (edits.row_ends ≡ None)
+      (edits.row_ends ≡ None) h.steps.is_edited.rows) has_joined
+
+  has_taken : has_record taken ≡ true
+  has_taken =
+      same_had taken out (λ none. h.steps.is_edited.sequences.2 ∙ iced_same h.asked taken none) has_out
+
+  has_put : has_record put_in ≡ true
+  has_put =
+      same_had put_in taken (taken_same 0 0 h.asked.take_out put_in taken edits.told (edits.told ≡ nothing_told)
+      (edits.told ≡ nothing_told) h.steps.is_edited.sequences.1) has_taken
+
+  put_same_if : (ends : Bool) → has_record was ≡ false
+      → (if ends then with_line_ends h.asked.mixed was else was) ≡ was
+  put_same_if true none =
+      ap (λ (b : Bool). if b && wants_returns h.asked.mixed (content_in was)
+      then with_content (with_returns 0 (content_in was)) was else was) none
+  put_same_if false none = refl
+
+  has_was : has_record was ≡ true
+  has_was = same_had was put_in (put_same_if h.asked.crlf) has_put
+
+  has_based : has_record h.based ≡ true
+  has_based =
+      same_had h.based was (λ none. ap (λ (b : Bool). if b && (stated_lines (record_in h.based) == 0
+      && asks_for_lines h.asked) then with_record (with_lines (first_lines h.asked) (record_in h.based)) h.based
+      else h.based) none) has_was
+
+  -- a field that is apart from those that are set
+  module _ (offset bytes : ℕ) (no_size : (offset + bytes ≤ 90) ⊎ (94 ≤ offset))
+      (no_lines : (offset + bytes ≤ 98) ⊎ (100 ≤ offset)) where
+    field_of_out : bytes_at offset bytes (record_in written) ≡ field_in offset bytes out
+    field_of_out =
+        ap (bytes_at offset bytes) (laid_record written h.apart h.accepts.laid ∙ its_record)
+        ∙ bytes_stay 90 (four_bytes size) (record_in h.settled) (omega (arith, record_size)) offset bytes no_size
+        ∙ ap (field_in offset bytes) h.steps.settled_is
+        ∙ ap (bytes_at offset bytes) (mark_record with_its_lines has_lined)
+        ∙ lined_field offset bytes h.steps.lines h.steps.edited has_edited no_lines
+        ∙ ap (bytes_at offset bytes)
+        (step_record h.asked.name_colours ended h.steps.edited
+        (λ left. AreColoursNamed (content_in ended) left times) (times ≡ None) (times ≡ None)
+        h.steps.is_edited.named has_ended
+        ∙ step_record h.asked.take_out joined ended Ended (edits.last_ends ≡ None)
+        (edits.last_ends ≡ None) h.steps.is_edited.ends has_joined
+        ∙ step_record h.asked.join_rows out joined Joined (edits.row_ends ≡ None)
+        (edits.row_ends ≡ None) h.steps.is_edited.rows has_out)
+
+    module _ (no_flag : (offset + bytes ≤ 105) ⊎ (106 ≤ offset)) where
+      returned_field : (ends : Bool)
+          → field_in offset bytes (if ends then with_line_ends h.asked.mixed was else was)
+          ≡ field_in offset bytes was
+      returned_field true = go (has_record was && wants_returns h.asked.mixed (content_in was))
+        where
+          go : (puts : Bool) → field_in offset bytes
+              (if puts then with_content (with_returns 0 (content_in was)) was else was)
+              ≡ field_in offset bytes was
+          go true = ap (bytes_at offset bytes) (record_stays was has_was (with_returns 0 (content_in was)))
+          go false = refl
+      returned_field false = refl
+
+      field_of_based : bytes_at offset bytes (record_in written) ≡ field_in offset bytes h.based
+      field_of_based =
+          field_of_out ∙ ap (field_in offset bytes) h.steps.is_edited.sequences.2
+          ∙ set_if offset bytes (h.asked.ice && has_record taken) 105 (flag_byte true (record_in taken)) taken has_taken
+          (omega arith) no_flag
+          ∙ taken_field offset bytes h.asked.take_out put_in taken edits.told (edits.told ≡ nothing_told)
+          (edits.told ≡ nothing_told) h.steps.is_edited.sequences.1 has_put no_flag
+          ∙ returned_field h.asked.crlf
+          ∙ set_if offset bytes (lacks_lines h.asked h.based) 98 (two_bytes (first_lines h.asked)) h.based has_based
+          (omega arith) no_lines
+
+  -- where bytes of the record are there, setting them changes nothing
+  set_again : (place : ℕ) (set : List ℕ) → bytes_at place (length set) (record_in written) ≡ set
+      → with_record (overwritten place set (record_in written)) written ≡ written
+  set_again place set is =
+      ap (λ (v : List ℕ). front_in written ++ v) (put_same place set (record_in written) is)
+      ∙ take-append-drop (length written - 128) written
+
+  -- the width that is asked for is there
+  width_stays : mends.repair_record ≡ false → widened mends written ≡ written
+  width_stays no_repair = go mends.columns refl
+    where
+      by_test : (width : ℕ) (has : Bool) → bytes_at 96 2 (record_in written) ≡ two_bytes width
+          → (if has then with_record (with_width width (record_in written)) written else written) ≡ written
+      by_test width true is = set_again 96 (two_bytes width) is
+      by_test width false is = refl
+
+      go : (columns : Option ℕ) → mends.columns ≡ columns
+          → option_map_or (λ width. with_columns width written) columns written ≡ written
+      go None is = refl
+      go (Some width) is =
+          by_test width (has_record written)
+          (field_of_based 96 2 (inr (omega arith)) (inl (omega arith)) (inl (omega arith))
+          ∙ ap (field_in 96 2) based_at ∙ ap (bytes_at 96 2) its
+          ∙ bytes_put 96 (two_bytes width) (record_in added) (omega (arith, long)))
+        where
+          added : List ℕ
+          added = record_added mends h.cut
+
+          based_at : h.based ≡ with_columns width added
+          based_at =
+              h.based_is ∙ ap (λ (b : Bool). if b then recounted (widened mends added) else widened mends added)
+              no_repair
+              ∙ ap (λ (columns : Option ℕ). option_map_or (λ w. with_columns w added) columns added) is
+
+          has_added : has_record added ≡ true
+          has_added =
+              same_had added h.based (λ none. based_at ∙ ap (λ (b : Bool). if b
+              then with_record (with_width width (record_in added)) added else added) none) has_based
+
+          long : length (record_in added) ≡ 128
+          long = its_size added has_added
+
+          its : record_in (with_columns width added) ≡ with_width width (record_in added)
+          its =
+              ap (λ (b : Bool). record_in (if b then with_record (with_width width (record_in added)) added
+              else added)) has_added
+              ∙ set_record 96 (two_bytes width) added long (omega arith)
+
+  -- and so is the flag
+  ice_stays : iced mends written ≡ written
+  ice_stays = go mends.ice refl
+    where
+      flag_again : (r s : List ℕ) (n : ℕ) → bytes_at 105 1 s ≡ (n - n % 2 + 1) ∷ []
+          → bytes_at 105 1 s ≡ (flags s - flags s % 2 + 1) ∷ []
+      flag_again r s n is =
+          let value : flags s ≡ n - n % 2 + 1 = ap number is ∙ omega arith in
+          is ∙ ap (λ (v : ℕ). v ∷ []) (omega (arith, value))
+
+      by_test : (has : Bool) → bytes_at 105 1 (record_in written)
+          ≡ (flags (record_in written) - flags (record_in written) % 2 + 1) ∷ []
+          → (if has then with_record (with_non_blink true (record_in written)) written else written) ≡ written
+      by_test true is = set_again 105 (flag_byte true (record_in written)) is
+      by_test false is = refl
+
+      go : (ice : Bool) → mends.ice ≡ ice → (if ice && has_record written
+          then with_record (with_non_blink true (record_in written)) written else written) ≡ written
+      go false is = refl
+      go true is =
+          by_test (has_record written)
+          (flag_again (record_in taken) (record_in written) (flags (record_in taken))
+          (field_of_out 105 1 (inr (omega arith)) (inr (omega arith))
+          ∙ ap (field_in 105 1) (h.steps.is_edited.sequences.2 ∙ on_taken)
+          ∙ ap (bytes_at 105 1)
+          (set_record 105 (flag_byte true (record_in taken)) taken (its_size taken has_taken) (omega arith))
+          ∙ bytes_put 105 (flag_byte true (record_in taken)) (record_in taken)
+          (omega (arith, its_size taken has_taken))))
+        where
+          on_taken : iced h.asked taken ≡ with_record (with_non_blink true (record_in taken)) taken
+          on_taken =
+              let ice_on : h.asked.ice ≡ true = ap (λ (m : Mends). m.ice) h.asked_is ∙ is in
+              ap₂ (λ (a b : Bool). if a && b then with_record (with_non_blink true (record_in taken)) taken
+              else taken) ice_on has_taken
+
   -- where names are asked for
   module _ (asks : mends.name_colours ≡ true) where
     pub put : (left : List ℕ) × AreColoursNamed (content_in ended) left times
@@ -304,59 +505,58 @@ module _ (mends : Mends) (file : List ℕ) (mended : Mended) (draft : List ℕ) 
         ap (λ (m : Mends). m.take_out) h.asked_is
         ∙ sym (ap (λ (b : Bool). b && mends.take_out) puts) ∙ keeps
 
-    ended_is : ended ≡ with_line_ends was
+    mixed_is : h.asked.mixed ≡ mends.mixed
+    mixed_is = ap (λ (m : Mends). m.mixed) h.asked_is
+
+    ended_is : ended ≡ iced h.asked (with_line_ends h.asked.mixed was)
     ended_is =
         let rows_off : h.asked.join_rows ≡ false =
         ap (λ (m : Mends). m.join_rows) h.asked_is ∙ no_rows in
         let ends_on : h.asked.crlf ≡ true = ap (λ (m : Mends). m.crlf) h.asked_is ∙ puts in
         (off h.asked.take_out _ keeps_all h.steps.is_edited.ends).0
         ∙ (off h.asked.join_rows _ rows_off h.steps.is_edited.rows).0
-        ∙ (off h.asked.take_out _ keeps_all h.steps.is_edited.sequences).0
-        ∙ ap (λ (b : Bool). if b then with_line_ends was else was) ends_on
+        ∙ h.steps.is_edited.sequences.2
+        ∙ ap (iced h.asked) ((off h.asked.take_out _ keeps_all h.steps.is_edited.sequences.1).0
+        ∙ ap (λ (b : Bool). if b then with_line_ends h.asked.mixed was else was) ends_on)
 
-    has_was : has_record was ≡ true
-    has_was = go (has_record was) refl
-      where
-        go : (recorded : Bool) → has_record was ≡ recorded → has_record was ≡ true
-        go true is = is
-        go false is =
-            let same : with_line_ends was ≡ was =
-            ap (λ (b : Bool). if b && wants_returns (content_in was)
-            then with_content (with_returns (content_in was)) was else was) is in
-            ap has_record (sym same ∙ sym ended_is) ∙ has_ended
+    ended_wants_none : wants_returns h.asked.mixed (content_in ended) ≡ false
+    ended_wants_none =
+        ap (wants_returns h.asked.mixed)
+        (ap content_in ended_is ∙ iced_content h.asked (with_line_ends h.asked.mixed was))
+        ∙ returned_wants_none was has_was h.asked.mixed
 
-    ended_wants_none : wants_returns (content_in ended) ≡ false
-    ended_wants_none = ap wants_returns (ap content_in ended_is) ∙ returned_wants_none was has_was
-
-    settled_wants_none : wants_returns (content_in h.settled) ≡ false
+    settled_wants_none : wants_returns h.asked.mixed (content_in h.settled) ≡ false
     settled_wants_none = go mends.name_colours refl
       where
-        go : (names : Bool) → mends.name_colours ≡ names → wants_returns (content_in h.settled) ≡ false
+        go : (names : Bool) → mends.name_colours ≡ names → wants_returns h.asked.mixed (content_in h.settled) ≡ false
         go true asks =
             let named = put asks in
-            ap wants_returns (left_is asks) ∙ named_wants (content_in ended) named.0 times named.1
-            ∙ ended_wants_none
+            ap (wants_returns h.asked.mixed) (left_is asks)
+            ∙ named_wants (content_in ended) named.0 times named.1 h.asked.mixed ended_wants_none
         go false none =
             let names_off : h.asked.name_colours ≡ false =
             ap (λ (m : Mends). m.name_colours) h.asked_is ∙ none in
-            ap wants_returns (same_content
+            ap (wants_returns h.asked.mixed) (same_content
             ∙ ap content_in (off h.asked.name_colours _ names_off h.steps.is_edited.named).0)
             ∙ ended_wants_none
 
-    shown_wants_none : wants_returns shown ≡ false
-    shown_wants_none = ap wants_returns h.content_is ∙ go mended.front
+    shown_wants_none : wants_returns mends.mixed shown ≡ false
+    shown_wants_none =
+        ap₂ (λ (b : Bool) (v : List ℕ). wants_returns b v) (sym mixed_is) h.content_is ∙ go mended.front
       where
-        go : (front : Bool) → wants_returns (front_bytes front ++ content_in h.settled) ≡ false
-        go true = wants_behind mending (content_in h.settled) refl refl ∙ settled_wants_none
+        go : (front : Bool) → wants_returns h.asked.mixed (front_bytes front ++ content_in h.settled) ≡ false
+        go true = wants_behind h.asked.mixed mending (content_in h.settled) refl refl ∙ settled_wants_none
         go false = settled_wants_none
 
   -- ---- mended again
-  module _ (laws : NamingLaws) (no_rows : mends.join_rows ≡ false) (keeps : KeepsReturns mends) (again : Mended)
+  module _ (laws : NamingLaws) (no_rows : mends.join_rows ≡ false) (no_repair : mends.repair_record ≡ false)
+      (keeps : KeepsReturns mends) (again : Mended)
       (draft_again : List ℕ) (k : IsMended mends written again draft_again) where
     stays : k.settled ≡ with_end_mark written
     stays =
-        settled_stays mends no_rows written h.apart h.accepts h.picture h.from_every
-        (shown_wants_none no_rows keeps) (λ asks. names_stay asks laws) again draft_again k
+        settled_stays mends no_rows no_repair written h.apart h.accepts h.picture h.from_every
+        (shown_wants_none no_rows keeps) (λ asks. names_stay asks laws) (width_stays no_repair) ice_stays again
+        draft_again k
 
     settled_is_written : k.settled ≡ written
     settled_is_written = stays ∙ marked_stays written h.apart h.accepts.laid h.ended
@@ -384,8 +584,9 @@ module _ (mends : Mends) (file : List ℕ) (mended : Mended) (draft : List ℕ) 
         let content_again : content k.apart.body ≡ shown =
         k.content_is ∙ ap₂ (λ (b : Bool) (v : List ℕ). front_bytes b ++ v) no_front content_stays in
         let opened_again : opened k.asked k.based ≡ written =
-        opened_stays mends no_rows written h.apart h.accepts h.picture h.from_every
-        (shown_wants_none no_rows keeps) (λ asks. names_stay asks laws) again draft_again k in
+        opened_stays mends no_rows no_repair written h.apart h.accepts h.picture h.from_every
+        (shown_wants_none no_rows keeps) (λ asks. names_stay asks laws) (width_stays no_repair) ice_stays again
+        draft_again k in
         let stated : file_size (record_in written) ≡ size =
         ap file_size (laid_record written h.apart h.accepts.laid) ∙ states_size room in
         let counted : length (content_in written) ≡ length shown =
@@ -407,11 +608,12 @@ module _ (mends : Mends) (file : List ℕ) (mended : Mended) (draft : List ℕ) 
         ∙ take-append-drop (length written - 128) written
 
 pub mending_twice : NamingLaws → (mends : Mends) (file draft draft_again : List ℕ) (mended again : Mended)
-    → mends.join_rows ≡ false → KeepsReturns mends → IsMended mends file mended draft
+    → mends.join_rows ≡ false → mends.repair_record ≡ false
+    → KeepsReturns mends → IsMended mends file mended draft
     → IsMended mends (front_bytes mended.front ++ draft) again draft_again
     → front_bytes again.front ++ draft_again ≡ front_bytes mended.front ++ draft
-mending_twice laws mends file draft draft_again mended again no_rows keeps h k =
-    twice_as_once mends file mended draft h laws no_rows keeps again draft_again k
+mending_twice laws mends file draft draft_again mended again no_rows no_repair keeps h k =
+    twice_as_once mends file mended draft h laws no_rows no_repair keeps again draft_again k
     (size_fits mends file mended draft h)
 
 -- ---- own colours

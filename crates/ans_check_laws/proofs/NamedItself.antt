@@ -34,7 +34,7 @@ names = record no_mends.NONE { name_colours = true }
 -- before its colours are named the file is as it was
 not_changed : (z : Size) (file edited : List ℕ) (edits : Edits) (e : IsEdited names z file edited edits)
     → e.ended ≡ file
-not_changed z file edited edits e = e.ends.0 ∙ e.rows.0 ∙ e.sequences.0
+not_changed z file edited edits e = e.ends.0 ∙ e.rows.0 ∙ e.sequences.2 ∙ e.sequences.1.0
 
 module _ (cells : CellsStay) (file draft : List ℕ) (apart : FileParts) (picture : Picture) (mended : Mended)
     (passes : Passes file all_known apart picture) (h : IsMended names file mended draft) where

@@ -1,7 +1,7 @@
 -- From what passes nothing is taken out.
 use Rattle.std.proofs.Common.{◌≡◌, inl, inr, ℕ, suc, Bool, true, false, refl, sym, ap, subst, ◌∙◌, arith}
-use Rattle.std.proofs.Common.{List, [], ◌∷◌, ◌++◌, length, take, drop, append_assoc, Some}
-use Rattle.std.specs.Prelude.{slice_get, slice_index, ◌&&◌, ◌-◌, ◌==◌, ◌⊎◌}
+use Rattle.std.proofs.Common.{List, [], ◌∷◌, ◌++◌, length, take, drop, append_assoc, Option, Some, None}
+use Rattle.std.specs.Prelude.{slice_get, slice_index, ◌&&◌, ◌-◌, ◌==◌, ◌⊎◌, nat_le, if◌then◌else◌}
 use Rattle.std.specs.List.{AllZip, concat, list_all}
 use Rattle.std.proofs.lemmas.Bool.{and_parts, cases_lt}
 use Rattle.std.proofs.lemmas.List.{get_or_past}
@@ -16,7 +16,7 @@ use Rattle.ans_model.specs.declared.fault.Cause.{Cause}
 use Rattle.ans_model.specs.declared.fault.Cause.TheVariants.{KeyReassigned, ScreenMode, ReportAsked}
 use Rattle.ans_model.specs.declared.start.Start.{Start}
 use Rattle.ans_model.proofs.Reading.{one_token_in_front, token_nonempty}
-use Rattle.ans_forms.specs.Unwanted.{BeginsStaying, GoesFirst, before_after, stays}
+use Rattle.ans_forms.specs.Unwanted.{BeginsStaying, GoesFirst, before_after, before_with, prints, stays}
 use Rattle.ans_forms.specs.declared.kinds.Before.{Before}
 use Rattle.ans_forms.specs.declared.kinds.Unwanted.{Unwanted}
 use Rattle.ans_forms.proofs.HereLemmas.{nothing_goes}
@@ -82,11 +82,26 @@ module _ (z : Size) (class : Start) (content : List ℕ) (picture : Picture)
         | inr begins ↦ first.refused begins
       ]
 
-  pub nothing_gone : (before : Before) (from : ℕ) (gone : List Gone) (left : List ℕ)
-      → TakesOut before from gone content left → (gone ≡ []) × (left ≡ content)
-  nothing_gone before from [] left takes = (refl, takes.1)
-  nothing_gone before from (g ∷ more) left (kept, rest, later, after, first, place, is, takes) =
+  -- and what comes before the end comes after tokens that stay
+  pub nothing_gone : (before : Before) (from : ℕ) (gone : List Gone) (left : List ℕ) (end : Before)
+      → TakesOut before from gone content left end
+      → (gone ≡ []) × (left ≡ content) × (tokens : List TokenKind) × (end ≡ before_after before tokens)
+  nothing_gone before from [] left end takes = (refl, takes.1, takes.0.nothing.tokens, takes.0.end_is)
+  nothing_gone before from (g ∷ more) left end (kept, rest, later, after, first, place, is, takes) =
       absurd (none_goes_first before after kept g.text rest g.kind first)
+
+-- ---- the switch for bright backgrounds
+
+-- where it was not taken out, it says nothing
+pub says_nothing : (tokens : List TokenKind) (before : Before) → before.switch ≡ None → before.bright ≡ None
+    → (before_after before tokens).bright ≡ None
+says_nothing [] before none dark = dark
+says_nothing (t ∷ tokens) before none dark =
+    says_nothing tokens (before_with before t) none (go (prints t && nat_le 0x80 before.attribute))
+  where
+    go : (bright : Bool) → ◌≡◌ {A = Option Bool} (if bright then before.switch else before.bright) None
+    go true = none
+    go false = dark
 
 -- ---- line ends
 

@@ -8,7 +8,8 @@ use Rattle.ans_model.specs.Sequence.TokenKind.{TokenKind, Keys}
 use Rattle.ans_model.specs.Sequence.Reads.{SpellsToken}
 use Rattle.ans_model.specs.Sequence.Spelling.{IsUnfinished}
 use Rattle.ans_model.proofs.Reading.{one_token_in_front, unfinished_no_token}
-use Rattle.ans_forms.specs.Unwanted.{AllStay, BeginsStaying, GoesFirst, IsOfKind, NothingGoes, ReassignsNone}
+use Rattle.ans_forms.specs.Unwanted.{AllStay, BeginsStaying, GoesFirst, IsOfKind, NothingGoes, NothingMore}
+use Rattle.ans_forms.specs.Unwanted.{ReassignsNone}
 use Rattle.ans_forms.specs.Unwanted.{before_after, before_behind, stays, unwanted_form}
 use Rattle.ans_forms.specs.declared.kinds.Before.{Before}
 use Rattle.ans_forms.specs.declared.kinds.Unwanted.{Unwanted}
@@ -194,3 +195,12 @@ module _ (before after : Before) (bytes kept : List ℕ) (kind : Unwanted) (text
       h.refused none.refused in
       none.none_goes kind text rest (sym run.2)
       (subst (λ (ts : List TokenKind). IsOfKind (before_after before ts) kind text rest) run.0 h.of_kind)
+
+-- where nothing goes, one thing comes before the end
+pub one_end : (before end end' : Before) (bytes : List ℕ) → NothingMore before bytes end
+    → NothingMore before bytes end' → end ≡ end'
+one_end before end end' bytes h g =
+    let run = one_run h.nothing.tokens g.nothing.tokens h.nothing.texts g.nothing.texts h.nothing.left g.nothing.left
+    h.nothing.all_stay g.nothing.all_stay (sym h.nothing.whole ∙ g.nothing.whole) h.nothing.refused
+    g.nothing.refused in
+    h.end_is ∙ ap (before_after before) run.0 ∙ sym g.end_is

@@ -67,12 +67,13 @@ pub fn what_passes_is_mended()
 {}
 
 /// Mending once is enough: if what is written is mended again in the same way, the same bytes are written. That is so
-/// whatever is asked for, names of colours too, with two exceptions. No line ends after full rows are taken out, of
-/// which a row may have more than one; and if returns are to be put, nothing is taken out with which the last return
-/// might go.
+/// whatever is asked for, names of colours, a width and the flag for bright backgrounds too, with three exceptions. No
+/// line ends after full rows are taken out, of which a row may have more than one. If returns are to be put, nothing is
+/// taken out with which the last return might go. And the record is not repaired: what is added or removed before it
+/// may make another block of comments of the bytes that are there.
 pub fn mending_once_is_enough()
     ensures { (mends : Mends) (file draft draft_again : List ℕ) (mended again : Mended)
-        → mends.join_rows ≡ false → KeepsReturns mends
+        → mends.join_rows ≡ false → mends.repair_record ≡ false → KeepsReturns mends
         → IsMended mends file mended draft
         → IsMended mends (front_bytes mended.front ++ draft) again draft_again
         → front_bytes again.front ++ draft_again ≡ front_bytes mended.front ++ draft }

@@ -65,7 +65,8 @@ pub fn names_are_shown_clean()
 pub fn what_mending_says_is_clean()
     ensures changes { (mends : Mends) (file draft : List ℕ) (mended : Mended)
         → All IsByte file → IsMended mends file mended draft → IsCleanText (mended_text mended) }
-    ensures reasons { (asked : Mends) (reason : Unmended) → IsCleanText (unmended_text asked reason) }
+    ensures reasons { (asked without_help : Mends) (reason : Unmended)
+        → IsCleanText (unmended_text asked without_help reason) }
 {}
 
 /// What redrawing says is clean: what was changed of a file, and why there is none.

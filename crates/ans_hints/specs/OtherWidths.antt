@@ -1,6 +1,6 @@
 -- Whether a record shows that its drawing was made for another width than the one that it states.
 use Rattle.std.specs.Prelude.{◌≡◌, ℕ, ◌*◌, ◌≤◌, ◌<◌, Bool, true, false, not, ◌&&◌, ◌||◌, ◌==◌, nat_eq, nat_le, nat_lt}
-use Rattle.std.specs.Prelude.{List, [], ◌∷◌, take, get_or, Option, None, is_some, MatchOption, if◌then◌else◌}
+use Rattle.std.specs.Prelude.{List, [], ◌∷◌, length, take, get_or, Option, None, is_some, MatchOption, if◌then◌else◌}
 use Rattle.std.specs.List.{list_any}
 use Rattle.ans_model.specs.Bytes.{most_columns}
 use Rattle.ans_pens.specs.Lines.{IsLeastLines}
@@ -50,6 +50,7 @@ are_exchanged width lines ends =
 -- What a record with this width and these lines shows of other widths, where the content has these hints on the stated
 -- width, with the lines that it needs there or with the stated ones. With 0 lines it states none.
 pub record AreOtherWidths (width lines : ℕ) (hints : Hints) (content : List ℕ) (result : OtherWidths) : Type 0 where
+  pub eight : length result.fitting ≡ 8
   pub fitting : (k : ℕ) → k < 8 → IsPlaceOf (get_or (tried_widths width) k 0)
       (MayFit width lines hints content
       × IsFitting width lines hints content (take k (tried_widths width)) (get_or (tried_widths width) k 0))

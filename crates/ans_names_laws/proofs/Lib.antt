@@ -1,7 +1,7 @@
 pub mod NothingNamed
-mod ColourTexts
+pub mod ColourTexts
 mod CutSequences
-mod NamedParts
+pub mod NamedParts
 mod NoneMissing
 mod NamedReading
 mod OmittedNumbers
