@@ -260,7 +260,7 @@ abbrev pub said_text : Naming → Ending → Option (List ℕ)
 said_text naming (Table counts) = Some (message_line (counts_text counts))
 said_text naming (Explained counts) = unread_counts_said counts
 said_text naming (Mended mended) = Some (mended_text mended)
-said_text naming (NotMended asked reason) = Some (unmended_text asked reason)
+said_text naming (NotMended asked reason) = Some (unmended_text asked asked reason)
 said_text naming (Redrawn redrawn) = Some (redrawn_text redrawn)
 said_text naming (NotRedrawn reason) = Some (unredrawn_text reason)
 said_text naming ending = option_map message_line (message_of naming ending)
