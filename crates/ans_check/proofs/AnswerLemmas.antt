@@ -20,7 +20,7 @@ use Rattle.std.specs.declared.io.ErrorKind.{ErrorKind}
 use Rattle.ans_report.specs.Message.{message_line}
 use Rattle.ans_table.specs.declared.counts.Counts.{Counts}
 use Rattle.ans_mend.specs.declared.outcome.Mended as outcome
-use Rattle.ans_mend.specs.declared.outcome.Unmended.{Unmended}
+use Rattle.ans_fix.specs.declared.without_help.Unhelped.{Unhelped}
 use Rattle.ans_redraw.specs.declared.outcome.Redrawn as redrawing
 use Rattle.ans_redraw.specs.declared.outcome.Unredrawn.{Unredrawn}
 use Rattle.ans_model.specs.declared.mends.Mends.{Mends}
@@ -67,7 +67,7 @@ said contents errors after naming NamedInput works h = h
 said contents errors after naming InputAmong works h = h
 said contents errors after naming UnreadNames works h = h
 said contents errors after naming (Mended mended) works h = h
-said contents errors after naming (NotMended asked reason) works h = h
+said contents errors after naming (NotMended asked unhelped) works h = h
 said contents errors after naming (Redrawn redrawn) works h = h
 said contents errors after naming (NotRedrawn reason) works h = h
 
@@ -90,7 +90,7 @@ says_as naming other NamedInput = refl
 says_as naming other InputAmong = refl
 says_as naming other UnreadNames = refl
 says_as naming other (Mended mended) = refl
-says_as naming other (NotMended asked reason) = refl
+says_as naming other (NotMended asked unhelped) = refl
 says_as naming other (Redrawn redrawn) = refl
 says_as naming other (NotRedrawn reason) = refl
 
@@ -153,13 +153,13 @@ why_of_several remaining contents is_file is_standard fails words (name ∷ next
 -- an ending of which no more is told says its message
 pub said_as_message : (naming : Naming) (ending : Ending) → ((counts : Counts) → ending ≡ Table counts → ⊥)
     → ((counts : Counts) → ending ≡ Explained counts → ⊥) → ((m : outcome.Mended) → ending ≡ Mended m → ⊥)
-    → ((asked : Mends) (reason : Unmended) → ending ≡ NotMended asked reason → ⊥)
+    → ((asked : Mends) (unhelped : Unhelped) → ending ≡ NotMended asked unhelped → ⊥)
     → ((r : redrawing.Redrawn) → ending ≡ Redrawn r → ⊥) → ((reason : Unredrawn) → ending ≡ NotRedrawn reason → ⊥)
     → said_text naming ending ≡ option_map message_line (message_of naming ending)
 said_as_message naming (Table counts) t e m n r u = absurd (t counts refl)
 said_as_message naming (Explained counts) t e m n r u = absurd (e counts refl)
 said_as_message naming (Mended mended) t e m n r u = absurd (m mended refl)
-said_as_message naming (NotMended asked reason) t e m n r u = absurd (n asked reason refl)
+said_as_message naming (NotMended asked unhelped) t e m n r u = absurd (n asked unhelped refl)
 said_as_message naming (Redrawn redrawn) t e m n r u = absurd (r redrawn refl)
 said_as_message naming (NotRedrawn reason) t e m n r u = absurd (u reason refl)
 said_as_message naming (Run answer) t e m n r u = refl

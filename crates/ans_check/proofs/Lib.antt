@@ -4,4 +4,3 @@ pub mod ServedLemmas
 pub mod AnswerLemmas
 pub mod ListingLemmas
 pub mod RowsLemmas
-pub mod MendFileLemmas

@@ -30,7 +30,7 @@ use Rattle.ans_check.specs.Ending.{ending_of_words}
 use Rattle.ans_check.specs.Listing.{IsListing, was_read_whole, names_in, listed_bytes}
 use Rattle.ans_redraw.specs.Redrawing.{TellsRedrawn}
 use Rattle.ans_check.specs.Served.{ServesAs}
-use Rattle.ans_mend.specs.Mending.{TellsMended}
+use Rattle.ans_fix.specs.Trials.{TellsFixed}
 use Rattle.ans_check.specs.Naming.{IsNaming, IsUnopened, first_called, front_text, is_guessed, names_standard, unnamed}
 use Rattle.ans_check.specs.Naming.{unopened_text}
 use Rattle.ans_check.specs.Table.{WritesTable}
@@ -205,7 +205,7 @@ EndsAsTold remaining contents is_file is_standard fails words (asked.One options
 EndsAsTold remaining contents is_file is_standard fails words (asked.Why names) output output_after ending =
     EndsWhy remaining contents is_file is_standard fails words (map string_bytes names.items) output output_after ending
 EndsAsTold remaining contents is_file is_standard fails words (asked.Mend mends file) output output_after ending =
-    EndsServed remaining contents is_file is_standard fails (TellsMended mends) (ending_of_mending mends)
+    EndsServed remaining contents is_file is_standard fails (TellsFixed mends) (ending_of_mending mends)
     (option_map string_bytes file) output output_after ending
 EndsAsTold remaining contents is_file is_standard fails words (asked.Redraw file) output output_after ending =
     EndsServed remaining contents is_file is_standard fails TellsRedrawn ending_of_redrawing
@@ -260,7 +260,7 @@ abbrev pub said_text : Naming → Ending → Option (List ℕ)
 said_text naming (Table counts) = Some (message_line (counts_text counts))
 said_text naming (Explained counts) = unread_counts_said counts
 said_text naming (Mended mended) = Some (mended_text mended)
-said_text naming (NotMended asked reason) = Some (unmended_text asked reason)
+said_text naming (NotMended asked unhelped) = Some (unmended_text asked unhelped.without_help unhelped.reason)
 said_text naming (Redrawn redrawn) = Some (redrawn_text redrawn)
 said_text naming (NotRedrawn reason) = Some (unredrawn_text reason)
 said_text naming ending = option_map message_line (message_of naming ending)

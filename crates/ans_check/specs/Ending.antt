@@ -4,7 +4,7 @@ use Rattle.clap.specs.Words.{kind_of}
 use Rattle.clap.specs.declared.error.ErrorKind.{ErrorKind}
 use Rattle.clap.specs.declared.error.ErrorKind.TheVariants.{DisplayHelp, DisplayVersion, OutOfMemory}
 use Rattle.ans_mend.specs.declared.outcome.Mended as outcome
-use Rattle.ans_mend.specs.declared.outcome.Unmended.{Unmended}
+use Rattle.ans_fix.specs.declared.without_help.Unhelped.{Unhelped}
 use Rattle.ans_redraw.specs.declared.outcome.Redrawn as redrawing
 use Rattle.ans_redraw.specs.declared.outcome.Unredrawn.{Unredrawn}
 use Rattle.ans_model.specs.declared.mends.Mends.{Mends}
@@ -36,7 +36,7 @@ ending_status (Table counts) = counts_status counts
 ending_status NamedInput = 2
 ending_status UnreadNames = 2
 ending_status (Mended mended) = 0
-ending_status (NotMended asked reason) = 1
+ending_status (NotMended asked unhelped) = 1
 ending_status (Redrawn redrawn) = 0
 ending_status (NotRedrawn reason) = 1
 
@@ -56,7 +56,7 @@ ending_message NamedInput =
 ending_message InputAmong = Some (codes "'-' is standard input, and cannot be one of several files")
 ending_message UnreadNames = Some (codes "cannot read the names")
 ending_message (Mended mended) = None
-ending_message (NotMended asked reason) = None
+ending_message (NotMended asked unhelped) = None
 ending_message (Redrawn redrawn) = None
 ending_message (NotRedrawn reason) = None
 
@@ -80,9 +80,9 @@ ending_of_checking (Ok checked.RefusedByStart) = MayPassCleared
 ending_of_checking (Err error) = Run (Err error)
 
 -- how the program ends at what came of mending, for which this was asked
-abbrev pub ending_of_mending : Mends → Result (Result outcome.Mended Unmended) RunError → Ending
+abbrev pub ending_of_mending : Mends → Result (Result outcome.Mended Unhelped) RunError → Ending
 ending_of_mending asked (Ok (Ok mended)) = Mended mended
-ending_of_mending asked (Ok (Err reason)) = NotMended asked reason
+ending_of_mending asked (Ok (Err unhelped)) = NotMended asked unhelped
 ending_of_mending asked (Err error) = Run (Err error)
 
 -- how the program ends at what came of redrawing

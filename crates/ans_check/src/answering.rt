@@ -164,7 +164,9 @@ fn put_said<E: Write>(out: &mut Outbox<'_, E>, naming: &Naming<'_>, ending: &End
         Ending::Table(counts) => put_counts(out, counts),
         Ending::Explained(counts) => put_unread_counts(out, counts),
         Ending::Mended(mended) => put_mended(out, mended),
-        Ending::NotMended(asked, reason) => put_unmended(out, asked, reason),
+        Ending::NotMended(asked, unhelped) => {
+            put_unmended(out, asked, &unhelped.without_help, &unhelped.reason)
+        }
         Ending::Redrawn(redrawn) => put_redrawn(out, redrawn),
         Ending::NotRedrawn(reason) => put_unredrawn(out, reason),
         _ => put_ending_message(out, naming, ending),

@@ -7,7 +7,8 @@ ghost use Rattle.ans_check.specs.Run.{status_of};
 
 use crate::check_file::Checked;
 use crate::errors::RunError;
-use ans_mend::{Mended, Unmended};
+use ans_fix::Unhelped;
+use ans_mend::Mended;
 use ans_options::{Mends, WordsError};
 use ans_redraw::{Redrawn, Unredrawn};
 use ans_table::{Counts, Unopened};
@@ -54,8 +55,9 @@ pub enum Ending {
     UnreadNames,
     /// A file was mended and written, and this was changed of it.
     Mended(Mended),
-    /// The file is not mended by what was asked for, for this reason, and nothing was written.
-    NotMended(Mends, Unmended),
+    /// The file is not mended by what was asked for, for this reason, and nothing was written. These flags would not
+    /// help it.
+    NotMended(Mends, Unhelped),
     /// A file was redrawn and written, and this was changed of it.
     Redrawn(Redrawn),
     /// The file is not redrawn, for this reason, and nothing was written.
@@ -92,12 +94,12 @@ impl Ending {
     }
 
     /// How the program ends at what came of mending a file, for which this was asked.
-    pub fn of_mending(asked: &Mends, answer: &Result<Result<Mended, Unmended>, RunError>) -> Ending
+    pub fn of_mending(asked: &Mends, answer: &Result<Result<Mended, Unhelped>, RunError>) -> Ending
         ensures { result ≡ ending_of_mending asked.now answer.now }
     {
         match answer {
             Ok(Ok(mended)) => Ending::Mended(*mended),
-            Ok(Err(reason)) => Ending::NotMended(*asked, *reason),
+            Ok(Err(unhelped)) => Ending::NotMended(*asked, *unhelped),
             Err(error) => Ending::Run(Err(*error)),
         }
     }

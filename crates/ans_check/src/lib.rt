@@ -33,6 +33,7 @@ mod task;
 mod why_rows;
 mod why_told;
 
+pub use ans_fix::Unhelped;
 pub use ans_kinds::{KindsUsed, Players};
 pub use ans_mend::{MendError, Mended, Unmended, mend_on};
 pub use ans_model::start::Start;

@@ -4,12 +4,13 @@ ghost use Rattle.std.specs.Prelude.{◌≡◌, false};
 ghost use Rattle.ans_write.specs.Tried.{has_failed};
 ghost use Rattle.ans_redraw.specs.Redrawing.{TellsRedrawn};
 ghost use Rattle.ans_check.specs.Served.{Serves, ServesAs};
-ghost use Rattle.ans_mend.specs.Mending.{TellsMended};
+ghost use Rattle.ans_fix.specs.Trials.{TellsFixed};
 
 use crate::errors::RunError;
 use crate::redraw_file::Redrawing;
 use crate::task::serve_task;
-use ans_mend::{Mended, Unmended};
+use ans_fix::Unhelped;
+use ans_mend::Mended;
 use ans_options::{Mends, Options};
 use ans_redraw::{Redrawn, Unredrawn};
 use ans_report::Tried;
@@ -36,7 +37,8 @@ pub fn serve<R: Read, W: Write>(
 /// Reads the whole input, mends it, and writes the mended file, of which the writer then hands on what it
 /// holds back. The file is judged whole before its first byte is written: it passes from every start, with
 /// the picture that its remaining content has from the cleared one. `Ok` says what was changed of it, in
-/// the order in which it was; or why it is not mended, and then nothing is written.
+/// the order in which it was; or why it is not mended and which
+/// flags would not help it, and then nothing is written.
 ///
 /// `Read` comes exactly where the reader failed in the call, `Write` exactly where the writer did, and
 /// `TooLong` as soon as more than 16,777,216 bytes were read. `Memory` comes where memory runs out for the
@@ -47,10 +49,10 @@ pub fn mend<R: Read, W: Write>(
     reader: &mut Tried<R>,
     writer: &mut Tried<W>,
     mends: &Mends,
-) -> Result<Result<Mended, Unmended>, RunError>
+) -> Result<Result<Mended, Unhelped>, RunError>
     requires reads { has_failed reader.old ≡ false }
     requires writes { has_failed writer.old ≡ false }
-    ensures { ServesAs R.remaining W.contents (TellsMended mends.now) reader.old reader.new writer.old writer.new
+    ensures { ServesAs R.remaining W.contents (TellsFixed mends.now) reader.old reader.new writer.old writer.new
         result }
 {
     serve_task(alloc, reader, writer, mends)

@@ -1,5 +1,5 @@
 -- What mending comes to, and which steps of it would not help a file.
-use Rattle.std.specs.Prelude.{◌≡◌, ℕ, Bool, true, false, ◌&&◌, ◌==◌, MatchBool, List, Result, Ok, Err}
+use Rattle.std.specs.Prelude.{◌≡◌, ℕ, Bool, true, false, ◌&&◌, ◌==◌, MatchBool, List, Result, Ok, Err, IfErr}
 use Rattle.ans_mend.specs.Mending.{TellsMended}
 use Rattle.ans_mend.specs.declared.outcome.Mended.{Mended}
 use Rattle.ans_mend.specs.declared.outcome.Unmended.{Unmended}
@@ -49,3 +49,14 @@ pub record IsUnhelped (asked : Mends) (file : List ℕ) (unhelped : Unhelped) : 
     take_out = unhelped.without_help.take_out;
     least_lines = unhelped.without_help.least_lines;
   }
+
+-- what was changed, or only why nothing was
+abbrev pub reason_alone : Result Mended Unhelped → Result Mended Unmended
+reason_alone (Ok mended) = Ok mended
+reason_alone (Err unhelped) = Err unhelped.reason
+
+-- What is reported of a file that was to be mended: what was changed of it, and the text is the mended file; or there
+-- is no text, for this reason, and these steps are no help.
+abbrev pub TellsFixed : Mends → List ℕ → Result Mended Unhelped → List ℕ → Type 0
+TellsFixed mends file answer text =
+    TellsMended mends file (reason_alone answer) text × IfErr answer (IsUnhelped mends file)

@@ -1,19 +1,19 @@
 //! Readers that fail while a file is mended.
 
 use super::plain_file;
-use ans_check::{Mends, RunError, Unmended, mend};
+use ans_check::{Mends, RunError, Unhelped, mend};
 use ans_report::Tried;
 use ans_samples::{FailingOnce, Failure, Narrow};
 use std::alloc::AllocError;
 use std::process::Abort;
 
 /// What came of mending: whether the file was put with the bytes at its start, or why there is none.
-type Came = Result<Result<bool, Unmended>, RunError>;
+type Came = Result<Result<bool, Unhelped>, RunError>;
 
 /// What mending by itself comes to. It fails where memory runs out, and nothing is then written.
 fn came(
     rt: &impl Abort,
-    answer: Result<Result<ans_check::Mended, Unmended>, RunError>,
+    answer: Result<Result<ans_check::Mended, Unhelped>, RunError>,
     calls: u64,
 ) -> Result<Came, AllocError> {
     if answer == Err(RunError::Memory) {

@@ -1,7 +1,8 @@
 //! How the program ends.
 use super::{CLEARED, expect_memory, plain_file};
 use ans_check::{
-    Counts, Ending, Mended, RunError, Unmended, Unopened, WordsError, options, serve, status,
+    Counts, Ending, Mended, RunError, Unhelped, Unmended, Unopened, WordsError, options, serve,
+    status,
 };
 use ans_mend::{Edits, NonBlink, Reset, Told};
 use ans_options::Mends;
@@ -56,6 +57,14 @@ const SOME_UNREAD: Counts = Counts {
     ..Counts::NONE
 };
 
+/// Not mended for this reason, and each flag may help.
+fn unhelped(reason: Unmended) -> Unhelped {
+    Unhelped {
+        reason,
+        without_help: Mends::NONE,
+    }
+}
+
 /// The endings that are looked at.
 fn endings() -> [Ending; 22] {
     [
@@ -80,7 +89,7 @@ fn endings() -> [Ending; 22] {
         Ending::NamedInput,
         Ending::UnreadNames,
         Ending::Mended(CUT),
-        Ending::NotMended(Mends::NONE, Unmended::Torn),
+        Ending::NotMended(Mends::NONE, unhelped(Unmended::Torn)),
     ]
 }
 
@@ -152,8 +161,8 @@ fn mending_has_its_endings(rt: HostRuntime) {
     let endings = [
         (Ok(Ok(CUT)), Ending::Mended(CUT)),
         (
-            Ok(Err(Unmended::NoLines)),
-            Ending::NotMended(Mends::NONE, Unmended::NoLines),
+            Ok(Err(unhelped(Unmended::NoLines))),
+            Ending::NotMended(Mends::NONE, unhelped(Unmended::NoLines)),
         ),
         (Err(RunError::TooLong), Ending::Run(Err(RunError::TooLong))),
     ];
