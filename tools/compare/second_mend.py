@@ -14,7 +14,7 @@ It mends by itself, step by step, from the words of the rules:
 
 The files are those of `mend_files.py`. Each is mended by itself, with each flag alone, and with some at random.
 Standard output, the status, and standard error are compared; if nothing is written, of standard error the first line,
-and of a file without a record what may help.
+and of a file without a record what may help. No flag is offered with which it is refused for the same reason.
 Of each file that is written it plays the content from eight starts of any kind: there is no fault, and the picture is
 the one that the changed content has from the cleared start, before its colours were named. From none of them arise
 other kinds than those that the changed content has from there, and from there the same, but that `own-colours` may be
@@ -596,6 +596,7 @@ def tried(program, file, asked, chance):
     wrong = [broken_promise(file, asked, chance, found)]
     if program:
         printed = printed_of(program, asked, file)
+        wrong.append(no_help_offered(program, file, asked, chance, found))
         if printed != expected:
             wrong.append(f"expected {shown_answer(expected)}\n  not {shown_answer(printed)}")
         elif expected[0] == 0 and expected[1] != file:
@@ -603,6 +604,19 @@ def tried(program, file, asked, chance):
             is_idle = again[:2] == (0, expected[1]) and all("nothing done" in line for line in again[2])
             wrong.append(None if is_idle else f"once more gives {shown_answer(again)}")
     return kinds, [what for what in wrong if what]
+
+
+def no_help_offered(program, file, asked, chance, found):
+    """The flags that are offered though with them the file is refused for the same reason at the same place; or None."""
+    if not isinstance(found, str):
+        return None
+    lines = subprocess.run([program, "mend", *words_of(asked)], input=file, capture_output=True).stderr.decode().splitlines()
+    offered = {flag for line in lines if line.startswith("try: ") for flag in re.findall(r"--[a-z-]+", line)}
+    fields = {"--crlf": "crlf", "--join-rows": "join_rows", "--take-out": "take_out", "--least-lines": "least_lines"}
+    reason = found.split("\n")[0]
+    idle = [flag for flag, field in fields.items() if flag in offered and reason == str(
+        finding(file, asked._replace(**{field: True}), chance)).split("\n")[0]]
+    return f"offers {idle}, which do not help" if idle else None
 
 
 def shown_wrong(asked, file, what):

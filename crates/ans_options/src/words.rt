@@ -161,7 +161,7 @@ It looks the same whatever was on the screen before. See 'anscheck help start'.
 ];
 
 /// The lines of `why`.
-pub(crate) static LINES: [WordRow; 19] = [
+pub(crate) static LINES: [WordRow; 20] = [
     (
         "size",
         "\
@@ -264,8 +264,18 @@ It writes a copy; give it another name, since the shell empties a file before
 it is read:
   anscheck mend FILE > FIXED
 The copy begins with ESC[?7h ESC[0;37;40m ESC[2J ESC[H ESC[s, and its picture
-is the one on a cleared screen. A drawing that is refused may need flags of
-'mend': the hints of 'why' name them (anscheck help hints).
+is the one on a cleared screen. Of a refused drawing the line has the flags that
+its findings call for. It is there only if a copy is written with them; else see
+the hints of 'why' (anscheck help hints).
+",
+    ),
+    (
+        "more",
+        "\
+more: the command that explains the fault of a refused drawing
+
+  anscheck help F21
+It says what the fault means, its usual causes, and what to do by hand.
 ",
     ),
     (

@@ -91,7 +91,7 @@ fn each_fault_and_each_note_has_its_name(rt: HostRuntime) -> Result<(), AllocErr
 }
 
 /// Words that the program prints or takes, each in two spellings.
-static WORDS: [[&str; 2]; 38] = [
+static WORDS: [[&str; 2]; 39] = [
     ["verdict", "Verdict"],
     ["pass", "PASS"],
     ["cleared", "CLEARED"],
@@ -118,6 +118,7 @@ static WORDS: [[&str; 2]; 38] = [
     ["ice", "Ice"],
     ["record", "RECORD"],
     ["everywhere", "EveryWhere"],
+    ["more", "MORE"],
     ["add-record", "ADD-RECORD"],
     ["wrap-at-once", "WRAP-AT-ONCE"],
     ["line-ends", "LINE-ENDS"],
