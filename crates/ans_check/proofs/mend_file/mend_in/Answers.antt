@@ -1,4 +1,4 @@
-use Rattle.std.proofs.Common.{◌≡◌, ◌∙◌, ℕ, List, [], ◌++◌, Ok, Err, take, length, ap, refl, subst, sym}
+use Rattle.std.proofs.Common.{◌≡◌, ◌∙◌, ℕ, List, [], ◌++◌, Ok, Err, ap, refl, subst}
 use Rattle.ans_mend.specs.Mending.{IsMended, IsReason, front_bytes}
 use Rattle.ans_write.proofs.PutsLemmas.{Puts-nothing}
 use Rattle.ans_check.proofs.ReportedLemmas.{is_put}
