@@ -20,6 +20,7 @@ use Rattle.ans_mend.specs.declared.outcome.Mended.{Mended}
 use Rattle.ans_mend.specs.declared.outcome.Unmended.{Unmended}
 use Rattle.ans_why.specs.Explained.{Why}
 use Rattle.ans_why.specs.OtherFiles.{known_file}
+use Rattle.ans_why.specs.WhyText.{told_hints}
 use Rattle.ans_why.specs.declared.text_damage.TextDamage.{TextDamage}
 use Rattle.ans_why.specs.declared.why.Enough.{Enough}
 use Rattle.ans_why.specs.declared.why.RecordRefusal.{RecordRefusal}
@@ -123,7 +124,7 @@ is_of_lines number = nat_le 19 number && nat_le number 21
 abbrev pub mends_of_content : Size → Refusal → ℕ → Option Mends
 mends_of_content z refusal number =
     if is_of_sequence number then Some (record no_mends { take_out = true })
-    else if is_of_lines number then Some (mends_of_rows z refusal.hints refusal.widths)
+    else if is_of_lines number then Some (mends_of_rows z (told_hints z.lines refusal) refusal.widths)
     else None
 
 -- a file that states no lines calls for the least number of them, and for what its rows do

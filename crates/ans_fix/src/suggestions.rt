@@ -13,7 +13,7 @@ use ans_model::limits::MAX_WIDTH;
 use ans_model::mends::Mends;
 use ans_model::size::Size;
 use ans_sauce::{Found, Judged};
-use ans_why::{Enough, Refusal, TextDamage, Why, known_file};
+use ans_why::{Enough, Refusal, TextDamage, Why, known_file, told_hints};
 
 /// Whether something happened to it on its way as a text that is mended by hand. Letters of Latin-1 are none of this.
 fn is_damaged(damage: &TextDamage) -> bool
@@ -158,7 +158,8 @@ fn mends_of_content(size: Size, refusal: &Refusal<'_>) -> Option<Mends>
         });
     }
     if 19 <= number && number <= 21 {
-        return Some(mends_of_rows(size, &refusal.hints, &refusal.widths));
+        let hints = told_hints(size.lines(), refusal);
+        return Some(mends_of_rows(size, &hints, &refusal.widths));
     }
     None
 }

@@ -22,7 +22,8 @@ use Rattle.ans_report.specs.FaultTold.{fault_told}
 pub use Rattle.ans_report.specs.Quoted.{quoted, quoted_byte}
 use Rattle.ans_hints.specs.Hints.{are_torn}
 use Rattle.ans_hints.specs.OtherWidths.{has_other_widths}
-use Rattle.std.specs.Prelude.{◌||◌}
+use Rattle.std.specs.Prelude.{◌||◌, ◌&&◌, ◌-◌, nat_le}
+use Rattle.std.specs.Option.{option_map_or}
 use Rattle.ans_hints.specs.declared.hints.Hints.{Hints}
 use Rattle.ans_pens.specs.declared.times.Times.{Times}
 use Rattle.ans_why.specs.HintRows.{wide_characters}
@@ -158,9 +159,27 @@ enough_lines damage None = []
 enough_lines damage (Some e) =
     hints_text (hints_beside damage e.hints) e.font.now ++ lines_line (Some e.lines) (are_torn e.hints)
 
+-- What is printed takes just the stated lines; the cursor alone goes below them.
+abbrev pub comes_out : ℕ → Refusal → Bool
+comes_out stated r = option_map_or (λ n. nat_le stated n && n - stated == r.hints.empty_rows) r.lines false
+
+-- nothing on rows over the edge
+abbrev pub without_over : Hints → Hints
+without_over hints = record hints {
+  row_ends = record hints.row_ends { over = record hints.row_ends.over { times = None } };
+}
+
+-- Empty rows at the end are not spoken of if not all is played, and rows over the edge are not if what is printed takes
+-- just the stated lines.
+abbrev pub told_hints : ℕ → Refusal → Hints
+told_hints stated r =
+    if comes_out stated r then without_over r.hints
+    else if is_some r.lines then r.hints
+    else record r.hints { empty_rows = 0 }
+
 -- the rows look broken, or like those of a drawing for another width
-abbrev pub looks_torn : Refusal → Bool
-looks_torn r = are_torn r.hints || has_other_widths r.widths
+abbrev pub looks_torn : ℕ → Refusal → Bool
+looks_torn stated r = are_torn (told_hints stated r) || has_other_widths r.widths
 
 -- characters of UTF-8 in three bytes, unless the hints report them
 abbrev pub wide_told : RecordRefusal → Option Times
@@ -201,18 +220,14 @@ pass_lines parts pass =
     ++ (pass_hints_text (hints_beside pass.damage pass.hints) (font_of parts)
     ++ (widths_lines (size_of parts) pass.widths ++ remedy_line pass.players)))))))))
 
--- Empty rows at the end are not spoken of if not all is played.
-abbrev pub told_hints : Refusal → Hints
-told_hints r = if is_some r.lines then r.hints else record r.hints { empty_rows = 0 }
-
 abbrev pub refusal_lines : Parts → Refusal → List ℕ
 refusal_lines parts r =
     fault_lines r.fault r.bytes.now
     ++ (known_line (first_known r.known (known_file (content_of parts)))
     ++ (named_line (codes "cursor") (place_text r.cursor)
     ++ (text_lines r.damage
-    ++ (hints_text (hints_beside r.damage (told_hints r)) (font_of parts)
-    ++ (widths_lines (size_of parts) r.widths ++ lines_line r.lines (looks_torn r))))))
+    ++ (hints_text (hints_beside r.damage (told_hints (size_of parts).lines r)) (font_of parts)
+    ++ (widths_lines (size_of parts) r.widths ++ lines_line r.lines (looks_torn (size_of parts).lines r))))))
 
 -- the size, and what is odd about the record
 abbrev pub heading_lines : Parts → List ℕ

@@ -34,4 +34,4 @@ pub use other_files::known_file;
 pub use terminal_letters::Terminal;
 pub use text_damage::TextDamage;
 pub use why::{Enough, Pass, RecordRefusal, Refusal, Reliance, Shown, Why};
-pub use why_text::{known_found, put_why};
+pub use why_text::{known_found, put_why, told_hints};

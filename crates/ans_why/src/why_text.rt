@@ -11,7 +11,8 @@ ghost use Rattle.ans_why.specs.WhyText.{reliance_lines, verdict_words, taller_li
 ghost use Rattle.ans_why.specs.WhyText.{after_end_mark_text, enough_lines, heading_lines, known_found, known_line};
 ghost use Rattle.ans_why.specs.OtherFiles.{first_known, known_file};
 ghost use Rattle.ans_why.specs.WhyText.{found_line, pass_lines, refusal_lines, told_hints, torn_text, why_text};
-ghost use Rattle.ans_why.specs.WhyText.{file_lines, hints_beside, looks_torn, returns_text, wide_told};
+ghost use Rattle.ans_why.specs.WhyText.{comes_out, file_lines, hints_beside, looks_torn, returns_text, wide_told};
+ghost use Rattle.ans_why.specs.WhyText.{without_over};
 
 use crate::hint_rows::WIDE_CHARACTERS;
 use crate::hints_text::{put_counted_line, put_damage, put_hints, put_pass_hints};
@@ -21,7 +22,7 @@ use crate::players_text::{is_same_class, put_players, put_remedy_line};
 use crate::text_damage::TextDamage;
 use crate::why::{Enough, Pass, Place, RecordRefusal, Refusal, Reliance, Shown, Why};
 use crate::widths_text::put_widths;
-use ans_hints::Hints;
+use ans_hints::{Hints, RowEnds, RowsOver};
 use ans_model::cell::Cell;
 use ans_model::fault::Fault;
 use ans_model::start::Start;
@@ -249,17 +250,41 @@ fn put_lines_line<W: Write>(out: &mut Outbox<'_, W>, lines: Option<u16>, torn: b
     out.put(b"\n");
 }
 
-/// Whether the rows of a refusal look broken, or those of a drawing for another width.
-fn looks_torn(refusal: &Refusal<'_>) -> bool
-    ensures { result ≡ looks_torn refusal.now }
+/// Whether what is printed takes just the stated lines, so that the cursor alone goes below them.
+fn comes_out(stated: usize, refusal: &Refusal<'_>) -> bool
+    ensures { result ≡ comes_out stated refusal.now }
 {
-    refusal.hints.are_torn() || refusal.widths.are_some()
+    match refusal.lines {
+        Some(lines) => {
+            stated <= lines as usize && lines as usize - stated == refusal.hints.empty_rows
+        }
+        None => false,
+    }
 }
 
-/// The hints of a refusal that are printed: none on empty rows, unless all of the content is played.
-fn told_hints(refusal: &Refusal<'_>) -> Hints
-    ensures { result ≡ told_hints refusal.now }
+fn without_over(hints: Hints) -> Hints
+    ensures { result ≡ without_over hints }
 {
+    Hints {
+        row_ends: RowEnds {
+            over: RowsOver {
+                times: None,
+                ..hints.row_ends.over
+            },
+            ..hints.row_ends
+        },
+        ..hints
+    }
+}
+
+/// The hints of a refusal that are printed, where so many lines are stated: none on empty rows, unless all of the
+/// content is played, and none on rows over the edge if what is printed takes just the stated lines.
+pub fn told_hints(stated: usize, refusal: &Refusal<'_>) -> Hints
+    ensures { result ≡ told_hints stated refusal.now }
+{
+    if comes_out(stated, refusal) {
+        return without_over(refusal.hints);
+    }
     match refusal.lines {
         Some(_) => refusal.hints,
         None => Hints {
@@ -269,6 +294,13 @@ fn told_hints(refusal: &Refusal<'_>) -> Hints
     }
 }
 
+/// Whether the rows of a refusal look broken, or those of a drawing for another width.
+fn looks_torn(stated: usize, refusal: &Refusal<'_>) -> bool
+    ensures { result ≡ looks_torn stated refusal.now }
+{
+    told_hints(stated, refusal).are_torn() || refusal.widths.are_some()
+}
+
 fn put_refused<W: Write>(out: &mut Outbox<'_, W>, parts: &Parts<'_>, refusal: &Refusal<'_>)
     ensures { Puts W.contents out.old out.new (refusal_lines parts.now refusal.now) }
 {
@@ -276,13 +308,14 @@ fn put_refused<W: Write>(out: &mut Outbox<'_, W>, parts: &Parts<'_>, refusal: &R
     put_known_line(out, first_known(refusal.known, known_file(parts.content())));
     put_place_line(out, b"cursor", refusal.cursor);
     put_damage(out, &refusal.damage);
+    let size = parts.size();
     put_hints(
         out,
-        &hints_beside(&refusal.damage, told_hints(refusal)),
+        &hints_beside(&refusal.damage, told_hints(size.lines(), refusal)),
         parts.sauce().font(),
     );
-    put_widths(out, parts.size(), &refusal.widths);
-    put_lines_line(out, refusal.lines, looks_torn(refusal));
+    put_widths(out, size, &refusal.widths);
+    put_lines_line(out, refusal.lines, looks_torn(size.lines(), refusal));
 }
 
 fn put_count<W: Write>(out: &mut Outbox<'_, W>, count: u64, thing: &[u8], what: &[u8])
