@@ -15,12 +15,14 @@ use std::process::Abort;
 
 /// Of a file that is mended a byte was cut off after the record, and nothing else was changed.
 const CUT: Mended = Mended {
+    asked: Mends::NONE,
     tail: Some(Times {
         count: 1,
         first: 131,
     }),
     given_record: None,
     width: None,
+    comments: None,
     edits: Edits {
         returns: None,
         told: Told {
