@@ -254,12 +254,10 @@ fn put_lines_line<W: Write>(out: &mut Outbox<'_, W>, lines: Option<u16>, torn: b
 fn comes_out(stated: usize, refusal: &Refusal<'_>) -> bool
     ensures { result ≡ comes_out stated refusal.now }
 {
-    match refusal.lines {
-        Some(lines) => {
-            stated <= lines as usize && lines as usize - stated == refusal.hints.empty_rows
-        }
-        None => false,
-    }
+    let Some(lines) = refusal.lines else {
+        return false;
+    };
+    stated <= lines as usize && lines as usize - stated == refusal.hints.empty_rows
 }
 
 fn without_over(hints: Hints) -> Hints
