@@ -19,7 +19,8 @@ It finds each line of that text except those on players by itself, from the word
   tokens count, on a screen of that many; on another refusal those up to the one to blame. What they are
   judged by may come after it.
 
-The lines on players are left to `second_players.py`.
+The lines on players are left to `second_players.py`. Where a line `fix:` of a refused file is, its command is run, and
+what it writes is checked; why there is none it does not ask.
 
 It follows the rules as this project states them, so it cannot tell a rule that both misread. Run it in
 `crates/anscheck`, on the built program, with a number that seeds the files and how many there shall be:
@@ -33,6 +34,7 @@ import collections
 import random
 import re
 import struct
+import subprocess
 import sys
 
 sys.dont_write_bytecode = True
@@ -457,7 +459,13 @@ class Hints:
         self.widest, self.empty, self.rows = rows.widest(), lines - 1 - max(printed), rows
         self.is_converted = bool(damage_of(content)["converted"])
         straight_down = self.offsets["loose line feed"] and not rows.returns
-        self.torn = bool(straight_down or rows.all_end() or self.widest or self.offsets["UTF-8"])
+        self.is_torn_besides = bool(straight_down or rows.all_end() or self.offsets["UTF-8"])
+        self.torn = self.is_torn_besides or bool(self.widest)
+
+    def leave_out_wider_rows(self):
+        """What is printed takes just the stated lines, so rows over the edge are none."""
+        self.offsets["wider row"], self.widest = [], None
+        self.torn = self.is_torn_besides
 
     def lines(self, record, all_is_played, passes=False):
         """The lines of the hints, and that of the font. Of a drawing that passes with its last lines empty, too, wider
@@ -564,6 +572,8 @@ def width_lines(content, width, lines, hints, least):
 def enough_lines(content, width, least, record):
     """The hints of all of the content on so many lines, and the line that says how many."""
     hints = Hints(content, len(content), width, least)
+    if record.lines and least - record.lines == hints.empty:
+        hints.leave_out_wider_rows()
     widths = width_lines(content, width, record.lines, hints, pens.least_lines)
     return hints.lines(record, True) + widths + [f"lines: {least}" + BROKEN * (hints.torn or bool(widths))]
 
@@ -1043,6 +1053,21 @@ def kinds_of(said):
             yield line
 
 
+def without_last_lines(program, file, lines):
+    """The lines without those on the command that fixes a refused file and on more help; these as they are if wrong.
+
+    The command has to write a file that passes, and the help is that of the fault."""
+    fault = next((re.search(r", (F\d+) ", line)[1] for line in lines if line.startswith("fault: ")), None)
+    if not fault or lines[-1] != f"more: anscheck help {fault}":
+        return lines
+    lines = lines[:-1]
+    if not lines[-1].startswith("fix: anscheck mend"):
+        return lines
+    made = subprocess.run([program, *lines[-1].split()[2:]], input=file, capture_output=True)
+    passes = made.returncode == 0 and subprocess.run([program, "check"], input=made.stdout, capture_output=True).returncode == 0
+    return lines[:-1] if passes else lines
+
+
 def main(program, seed, count):
     chance = random.Random(int(seed))
     seen, met, differing = collections.Counter(), set(), 0
@@ -1050,6 +1075,7 @@ def main(program, seed, count):
         file = a_file(chance)
         expected = why(chance, file)
         lines, status = printed_of([program, "why"], file)
+        lines = without_last_lines(program, file, lines)
         printed = [line for line in lines if not OF_PLAYERS.match(line)], status
         seen.update(kinds_of(expected[0]))
         met.update(line for line in expected[0] if line.startswith("needs: "))
