@@ -201,9 +201,9 @@ enum ans_answer ans_row_on(const uint8_t *file, size_t file_len, struct ans_scre
 enum ans_answer ans_why_on(const uint8_t *file, size_t file_len, struct ans_screen_row *rows, size_t rows_len,
                            uint8_t *bytes, size_t bytes_len, char *text, size_t text_len, size_t *length);
 enum ans_answer ans_mend_on(const uint8_t *file, size_t file_len, uint32_t classes, uint32_t add_record,
-                            uint32_t columns, uint32_t lines, struct ans_screen_row *rows, size_t rows_len, uint8_t *bytes, size_t bytes_len,
-                            uint8_t *draft, size_t draft_len, uint8_t *mended, size_t mended_len, size_t *size,
-                            char *text, size_t text_len, size_t *length);
+                            uint32_t columns, uint32_t lines, struct ans_screen_row *rows, size_t rows_len,
+                            uint8_t *bytes, size_t bytes_len, uint8_t *draft, size_t draft_len, uint8_t *mended,
+                            size_t mended_len, size_t *size, char *text, size_t text_len, size_t *length);
 enum ans_answer ans_redraw_on(const uint8_t *file, size_t file_len, struct ans_screen_row *rows, size_t rows_len,
                               uint8_t *bytes, size_t bytes_len, uint8_t *redrawn, size_t redrawn_len, size_t *size,
                               char *text, size_t text_len, size_t *length);
@@ -293,21 +293,21 @@ static inline enum ans_answer ans_why(const uint8_t *file, size_t file_len, void
 /* Fixes a file as `anscheck mend` does, so that it passes from every start, and gives the text of that.
  * `classes` is a sum of ANS_TAKE_OUT and those below it; other bits are ignored. `add_record` is the columns of the
  * record that is added to a file without one, 1 to 1024, or 0 for no record; `columns` those that the record is to
- * state, 1 to 1024, or 0 for no others; `lines` the number of lines that is set if the record has too few or none, 1 to
- * 8192, or 0 for none. `draft` and `mended` need file_len + ANS_MENDING_ROOM
- * bytes, with ANS_CRLF one more for each line feed of the file; and with ANS_NAME_COLOURS 9 * file_len + 8 instead of
- * file_len, or ANS_LONGEST_FILE if that is less.
+ * state, 1 to 1024, or 0 for no others; `lines` the number of lines that is set if the record has too few or none, 1
+ * to 8192, or 0 for none. `draft` and `mended` need file_len + ANS_MENDING_ROOM bytes, with ANS_CRLF one more for each
+ * line feed of the file; and with ANS_NAME_COLOURS 9 * file_len + 8 instead of file_len, or ANS_LONGEST_FILE if that is
+ * less.
  * `scratch` is for the screen of the fixed file, which may have another number of lines. ANS_MOST_SCRATCH is always
  * enough. If `columns` is 0 and ans_size answers ANS_PASS for the file, 8193 * (24 + 4 * its columns) is enough; and
- * without `lines` and ANS_LEAST_LINES what it says. For any other file 4120 bytes for each line of the fixed one, and for one line more,
- * are enough.
+ * without `lines` and ANS_LEAST_LINES what it says. For any other file 4120 bytes for each line of the fixed one, and
+ * for one line more, are enough.
  * ANS_PASS: `mended` begins with the fixed file, `size` says how many bytes it has, and the text says what was changed,
  * a line for each kind of change. If nothing had to be changed, the fixed file is the file, and the text is empty.
  * ANS_REFUSED: the file cannot be fixed this way, `size` is 0, and the text says why. After both `text` begins with
  * the text, and `length` says how many bytes it has. ANS_TOO_LONG. ANS_WRONG_NUMBER: the file is not too long, and
- * `add_record`, `columns` or `lines` is above its largest. ANS_NO_ROOM: `text` has fewer bytes than `length` then says, and
- * `mended` and `size` are as after ANS_PASS or ANS_REFUSED; or `length` is 0, and another array is too small. If there
- * is neither a fixed file nor a text, `size` and `length` are 0. */
+ * `add_record`, `columns` or `lines` is above its largest. ANS_NO_ROOM: `text` has fewer bytes than `length` then says,
+ * and `mended` and `size` are as after ANS_PASS or ANS_REFUSED; or `length` is 0, and another array is too small. If
+ * there is neither a fixed file nor a text, `size` and `length` are 0. */
 static inline enum ans_answer ans_mend(const uint8_t *file, size_t file_len, uint32_t classes, uint32_t add_record,
                                        uint32_t columns, uint32_t lines, void *scratch, size_t scratch_len,
                                        uint8_t *draft, size_t draft_len, uint8_t *mended, size_t mended_len,

@@ -145,7 +145,8 @@ int main(int argc, char **argv) {
     tell_texts(file_len);
     tell_mend(file_len, 0, 0);
     tell_mend(file_len,
-              ANS_TAKE_OUT | ANS_CRLF | ANS_JOIN_ROWS | ANS_LEAST_LINES | ANS_NAME_COLOURS | ANS_MIXED | ANS_ICE | ANS_RECORD,
+              ANS_TAKE_OUT | ANS_CRLF | ANS_JOIN_ROWS | ANS_LEAST_LINES | ANS_NAME_COLOURS | ANS_MIXED | ANS_ICE |
+                  ANS_RECORD,
               80);
     tell_redraw(file_len);
     return 0;

@@ -72,7 +72,7 @@ CALLS = {
     "ans_row_on": [*FILE, *SCREEN, POINTER(Row)],
     "ans_why_on": [*FILE, *SCREEN, *TEXT],
     "ans_record": [*FILE, *TEXT],
-    "ans_mend_on": [*FILE, c_uint32, c_uint32, c_uint32, *SCREEN, *BYTES, *BYTES, POINTER(c_size_t), *TEXT],
+    "ans_mend_on": [*FILE, *[c_uint32] * 4, *SCREEN, *BYTES, *BYTES, POINTER(c_size_t), *TEXT],
     "ans_redraw_on": [*FILE, *SCREEN, *BYTES, POINTER(c_size_t), *TEXT],
     "ans_copy_version": TEXT,
     "ans_copy_fault_text": [c_uint32, *TEXT],
@@ -129,8 +129,9 @@ class Checker:
         count = most + self.file[0].count(b"\n") + MENDING_ROOM
         screen = ((ScreenRow * MOST_ROWS)(), MOST_ROWS, *room(MOST_BYTES))
         mended, size = room(count), c_size_t()
+        asked = classes, add_record, 0, 0
         answer, text, length = text_of(
-            self.library.ans_mend_on, *self.file, classes, add_record, 0, 0, *screen, *room(count), *mended, byref(size))
+            self.library.ans_mend_on, *self.file, *asked, *screen, *room(count), *mended, byref(size))
         return answer, bytes(mended[0][: size.value]) if answer == PASS else b"", text, length
 
     def redraw_in(self, count):

@@ -129,8 +129,8 @@ unsafe extern "C" {
     ) -> u32;
     fn ans_mend_on(
         file: *const u8, file_len: usize, classes: u32, add_record: u32, columns: u32, lines: u32,
-        rows: *mut ScreenRow, rows_len: usize, bytes: *mut u8, bytes_len: usize, draft: *mut u8, draft_len: usize, mended: *mut u8,
-        mended_len: usize, size: &mut usize, text: *mut u8, text_len: usize, length: &mut usize,
+        rows: *mut ScreenRow, rows_len: usize, bytes: *mut u8, bytes_len: usize, draft: *mut u8, draft_len: usize,
+        mended: *mut u8, mended_len: usize, size: &mut usize, text: *mut u8, text_len: usize, length: &mut usize,
     ) -> u32;
     fn ans_redraw_on(
         file: *const u8, file_len: usize, rows: *mut ScreenRow, rows_len: usize, bytes: *mut u8, bytes_len: usize,

@@ -5,8 +5,9 @@ PROGRAM is the built anscheck, ARCHIVE the built libans_c.a. `tell` is built in 
 About each FILE (by default the drawings of conformance/ and of crates/anscheck/data, those of try/drawings.py and of
 tools/runs/made_drawings.py, and a file that is too long) each must say what the program says: the verdict and each
 cell from three classes of starts, what the file needs, all numbers of its row, the text of why, what the record says,
-the fixed file with its text, without options and with all of them, and the redrawn file with its text. With --sanitize
-`tell` is also built by cc with -fsanitize=address,undefined, and has to be silent.
+the fixed file with its text, without options and with all of them, and the redrawn file with its text. Left out are
+the lines that only the program has, since it tries what mends a file: `fix:` and `more:` of a refused one, and the
+flags to try. With --sanitize `tell` is also built by cc with -fsanitize=address,undefined, and has to be silent.
 
 Besides the drawings it tries that header, library, program, ans.pc and the package for JavaScript have one version;
 that the constant texts of the header are those of the crates, of the library and of the program; what the calls answer
@@ -43,6 +44,9 @@ LOW_GLYPHS = " ☺☻♥♦♣♠•◘○◙♂♀♪♫☼►◄↕‼¶§▬�
 QUOTED = {0: "<00>", 9: "<TAB>", 10: "<LF>", 13: "<CR>", 27: "<ESC>", 32: "<SP>"}
 # If a piece has no bytes, its start says nothing.
 NO_BYTES = re.compile(rb"^(bytes|comments|font|date|title|author|group) \d+ 0 $", re.MULTILINE)
+# The last lines of a refused file in a text of why, and the flags to try in what mending says, with its length.
+FIX = re.compile(rb"^(?:fix|more): .*\n", re.MULTILINE)
+FLAGS_TO_TRY = re.compile(rb"^(mended 1) \d+\n(.*\n)(?:try:|see anscheck why for the place,) .*\n", re.MULTILINE)
 TOO_LONG, LONGEST_FILE, LONGEST_QUOTE = 3, 16_777_216, 32
 STRICT = ["-O2", "-Wall", "-Wextra", "-Werror", "-pedantic", f"-I{HERE}"]
 LANGUAGES = {"C": ["cc", "-std=c99", *STRICT], "C++": ["c++", "-std=c++11", *STRICT, "-x", "c++"]}
@@ -175,10 +179,15 @@ def fields_lines(data, row):
     return text
 
 
+def without_fix(why):
+    """A text of why without the lines of a refused file that only the program has."""
+    return FIX.sub(b"", why) if b"verdict: refused\n" in why else why
+
+
 def row_lines(program, file, told_length):
     """What a caller has to say of a file's row, by what `table --json` and `why` say."""
     data, ran = Path(file).read_bytes(), run([program, "table", "--json", file])
-    row, why = json.loads(ran.stdout), run([program, "why", file]).stdout.decode()
+    row, why = json.loads(ran.stdout), without_fix(run([program, "why", file]).stdout).decode()
     head = f"row {int(row['verdict'] == 'refused')}\n"
     return "".join([head, passing_line(row), blame_lines(data, row, why, told_length), parts_lines(data, row),
                     fields_lines(data, row)]).encode()
@@ -207,7 +216,8 @@ def wanted(program, file, told_length=0):
     told.append(row_lines(program, file, told_length))
     for name, command in (("why", "why"), ("record", "sauce")):
         ran = run([program, command, file])
-        told.append(f"{name} {ran.returncode} {len(ran.stdout)}\n".encode() + ran.stdout)
+        text = without_fix(ran.stdout) if command == "why" else ran.stdout
+        told.append(f"{name} {ran.returncode} {len(text)}\n".encode() + text)
     for (classes, add_record), flags in CHANGES.items():
         ran = run([program, "mend", *flags, file])
         told.append(f"mend {classes} {add_record} {len(ran.stdout)}\n".encode() + ran.stdout)
@@ -239,9 +249,9 @@ def differing(callers, program, file, text=None):
     told = {language: run([*words, file]) for language, words in callers.items()}
     if text is None:
         lengths = re.findall(rb"^bytes \d+ (\d+)", next(iter(told.values())).stdout, re.MULTILINE)
-        text = wanted(program, file, int(lengths[0]) if lengths else 0)
+        text = FLAGS_TO_TRY.sub(rb"\1\n\2", wanted(program, file, int(lengths[0]) if lengths else 0))
     for language, ran in told.items():
-        came = NO_BYTES.sub(rb"\1 0 0 ", ran.stdout + ran.stderr)
+        came = FLAGS_TO_TRY.sub(rb"\1\n\2", NO_BYTES.sub(rb"\1 0 0 ", ran.stdout + ran.stderr))
         if came != text or ran.returncode:
             yield language, other_line(came, text)
 

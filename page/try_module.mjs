@@ -6,16 +6,17 @@
 // PROGRAM is the built `anscheck`. The module is the one inside page/check.html, and library/js/calls.js calls it.
 // About each drawing of conformance/ and crates/anscheck/data, and each that is named, it must say what PROGRAM says:
 // the lines of why, the record, what is needed, the row of its table, each cell from three classes of starts, the
-// drawing fixed in three ways, and the drawing redrawn. A folder means the .ans files in it. With --before the module
-// with 64-bit memory that page/build.sh kept must say the same. (Newer versions of Node need no flag for that.) The
-// last line is `N drawings, M differ`, and the status is 1 if one differs.
+// drawing fixed in three ways, and the drawing redrawn. Left out are the lines that only PROGRAM has, since it tries
+// what mends a file: `fix:` and `more:` of a refused one, and the flags to try. A folder means the .ans files in it.
+// With --before the module with 64-bit memory that page/build.sh kept must say the same. (Newer versions of Node need
+// no flag for that.) The last line is `N drawings, M differ`, and the status is 1 if one differs.
 import { spawnSync } from "node:child_process";
 import { readdirSync, readFileSync, statSync } from "node:fs";
 import { dirname, join } from "node:path";
 import { fileURLToPath } from "node:url";
 import { gunzipSync } from "node:zlib";
 import { Checker } from "../library/js/calls.js";
-import { jsonRow, toldLines, whyLines } from "../library/js/test/rows.js";
+import { jsonRow, toldLines, whyLines, withoutFix, withoutFlags } from "../library/js/test/rows.js";
 
 const PAGE = dirname(fileURLToPath(import.meta.url));
 const TOP = dirname(PAGE);
@@ -71,7 +72,8 @@ const rowText = (members, lines) => JSON.stringify([Object.entries(members).sort
 const nameOf = (command, flags) => [command, ...flags].join(" ");
 
 /** A file that is made, if one is, and what is said of it. */
-const made = (isMade, bytes, text) => `${isMade ? Buffer.from(bytes).toString("latin1") : "nothing"}\n${text}`;
+const made = (isMade, bytes, text) =>
+  `${isMade ? Buffer.from(bytes).toString("latin1") : "nothing"}\n${withoutFlags(text)}`;
 
 /** What a module says of a file, by the program's commands. */
 function saidBy(checker, file) {
@@ -99,7 +101,7 @@ const run = (program, words) => spawnSync(program, words, { maxBuffer: 1 << 28 }
 /** The same by the program. */
 function saidByProgram(program, path) {
   const printed = (...words) => run(program, [...words, path]).stdout.toString();
-  const said = { why: printed("why"), sauce: printed("sauce") };
+  const said = { why: withoutFix(printed("why")), sauce: printed("sauce") };
   for (const [, flags] of CLASSES) {
     const report = printed("check", ...flags, "--cells");
     said[nameOf("check", flags)] = report.split("\ncells:\n")[1] ?? report.split("verdict: refused\n")[1];
@@ -109,7 +111,7 @@ function saidByProgram(program, path) {
   said.needs = /(?:needs: |at \d+: F).*\n$/.exec(printed("needs"))[0];
   for (const words of [...MENDS.map(([, flags]) => ["mend", ...flags]), ["redraw"]]) {
     const { status, stdout, stderr } = run(program, [...words, path]);
-    said[words.join(" ")] = made(status === 0, stdout, stderr);
+    said[words.join(" ")] = made(status === 0, stdout, stderr.toString());
   }
   return said;
 }

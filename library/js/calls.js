@@ -93,7 +93,8 @@ class Checker {
 
   /**
    * The fixed file, and what was changed; or why there is none. What may be changed besides what is changed without
-   * being asked is a sum of CLASSES, the columns of a record to add, the columns and the lines to state, each 0 for none.
+   * being asked is a sum of CLASSES, the columns of a record to add, and the columns and the lines to state, each 0 for
+   * none.
    */
   mend(classes, addRecord, columns, lines) {
     return this.borrowing(() => {

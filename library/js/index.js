@@ -118,9 +118,9 @@ class Checker {
    * @param {Uint8Array | ArrayBuffer} file
    * @param {object} [options] what may be changed besides what is changed without being asked, as the flags of
    *   `anscheck mend`: `takeOut`, `crlf`, `joinRows`, `mixed`, `nameColours`, `ice`, `record` and `leastLines` are true
-   *   or false; `addRecord` is the columns of the record that is added to a file without one, 1 to 1024; `columns` those
-   *   that the record is to state, 1 to 1024; `lines` the number of lines that is set if the record has too few or none,
-   *   1 to 8192.
+   *   or false; `addRecord` is the columns of the record that is added to a file without one, 1 to 1024; `columns`
+   *   those that the record is to state, 1 to 1024; `lines` the number of lines that is set if the record has too few
+   *   or none, 1 to 8192.
    * @returns {object} `{ verdict: "pass", file, text }`: the fixed file as a `Uint8Array`, and what was changed, a line
    *   for each kind of change, or an empty text. Or `{ verdict: "refused", text }`: why the file cannot be fixed this
    *   way. Or `{ verdict: "too long" }`.

@@ -41,7 +41,7 @@ static enum ans_answer call(int which) {
     case 2: answer = ans_row_easily(file, file_len, &row); break;
     case 3: answer = ans_why_easily(file, file_len, &text); break;
     case 4: answer = ans_record_easily(file, file_len, &text); break;
-    case 5: answer = ans_mend_easily(file, file_len, 15, 80, 0, &made, &size, &text); break;
+    case 5: answer = ans_mend_easily(file, file_len, 255, 80, 0, 0, &made, &size, &text); break;
     case 6: answer = ans_redraw_easily(file, file_len, &made, &size, &text); break;
     }
     if (answer == ANS_NO_MEMORY && (made || text || picture.glyphs))

@@ -95,7 +95,7 @@ static enum ans_answer mend_on(size_t scratch_len, uint32_t classes, uint8_t *me
     if (!scratch || !draft)
         exit(2);
     *size = 0;
-    enum ans_answer answer = ans_mend(file, file_len, classes, 0, 0, scratch, scratch_len, draft, room, mended, room,
+    enum ans_answer answer = ans_mend(file, file_len, classes, 0, 0, 0, scratch, scratch_len, draft, room, mended, room,
                                       size, (char *)mended + room, ANS_LONGEST_TEXT, &length);
     memmove(mended + *size, mended + room, length);
     *size += length;
@@ -148,9 +148,9 @@ static void try_file(void) {
         try_too_little(&size);
         try_mending("ans_mend needs more than ans_size gives", size.scratch,
                     ANS_TAKE_OUT | ANS_CRLF | ANS_JOIN_ROWS | ANS_NAME_COLOURS);
-        try_mending("ans_mend needs more than all lines", 8193 * (24 + 4 * (size_t)size.columns), 31);
+        try_mending("ans_mend needs more than all lines", 8193 * (24 + 4 * (size_t)size.columns), 255);
     } else {
-        try_mending("a refused record, and ans_mend differs", ANS_MOST_SCRATCH, 31);
+        try_mending("a refused record, and ans_mend differs", ANS_MOST_SCRATCH, 255);
     }
     free(wanted);
 }

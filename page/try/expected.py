@@ -9,6 +9,7 @@ import tempfile
 
 RECORD, LINES, COMMENT_COUNT = 128, 98, 104
 FLAGS = 105
+FIX = re.compile(r"^(?:fix|more): .*\n", re.MULTILINE)
 
 
 def said(program, words, path):
@@ -56,10 +57,16 @@ def made(program, command, path):
     return run.stdout if run.returncode == 0 else None, run.stderr
 
 
+def lines_of_why(program, path):
+    """What why says, without the last lines of a refused file, which only the program has."""
+    text = said(program, ["why"], path)[0]
+    return FIX.sub("", text) if "verdict: refused\n" in text else text
+
+
 def expected(program, path):
     """What the program says of a drawing, in the form of the page."""
     mended, changes = made(program, "mend", path)
-    told = {"why": said(program, ["why"], path)[0], "record": record_lines(program, path), "changes": changes.decode()}
+    told = {"why": lines_of_why(program, path), "record": record_lines(program, path), "changes": changes.decode()}
     told["advice"] = advice(program, told["why"])
     told["redrawn"] = redrawn(program, path)
     told["picture"] = picture_of(program, path.read_bytes()) or refused_picture(program, path, told["why"])

@@ -48,9 +48,9 @@ uint32_t ans_record(uint64_t file, uint64_t file_len, uint64_t text, uint64_t te
 }
 
 uint32_t ans_mend_on(uint64_t file, uint64_t file_len, uint32_t classes, uint32_t add_record, uint32_t columns,
-                     uint32_t lines, uint64_t rows, uint64_t rows_len, uint64_t bytes, uint64_t bytes_len, uint64_t draft, uint64_t draft_len,
-                     uint64_t mended, uint64_t mended_len, uint64_t size, uint64_t text, uint64_t text_len,
-                     uint64_t length) {
+                     uint32_t lines, uint64_t rows, uint64_t rows_len, uint64_t bytes, uint64_t bytes_len,
+                     uint64_t draft, uint64_t draft_len, uint64_t mended, uint64_t mended_len, uint64_t size,
+                     uint64_t text, uint64_t text_len, uint64_t length) {
     *(uint64_t *)(uintptr_t)size = 0;
     return write("at 0: F1 no SAUCE record\n", text, length, REFUSED);
 }

@@ -58,18 +58,18 @@ GROUPS = [
     Group("`why`", """
         ans_model/Screen/Beginning ans_kinds/Mend ans_pens/Evidence ans_pens/Lines ans_pens/Taller ans_hints/Places
         ans_hints/Conditions ans_hints/Rows ans_pens/Counted ans_hints/RowEnds ans_hints/Hints ans_hints/OtherWidths
-        ans_forms/Pieces ans_sauce/Found ans_sauce/WithoutLines ans_why/Blamed ans_why/TerminalLetters ans_why/Known
-        ans_why/OtherFiles
-        ans_why/Explained ans_report/Counted ans_report/Quoted ans_report/FaultTold ans_why/Fonts ans_why/HintRows
-        ans_why/HintsText ans_why/PlayersText ans_why/WhyText ans_check/WhyRows""".split()),
+        ans_forms/Pieces ans_sauce/Grown ans_sauce/Found ans_sauce/WithoutLines ans_why/Blamed ans_why/TerminalLetters
+        ans_why/Known ans_why/OtherFiles ans_why/TextDamage ans_why/Explained ans_report/Counted ans_report/Quoted
+        ans_report/FaultTold ans_why/Fonts ans_why/HintRows ans_why/HintsText ans_why/WidthsText ans_why/PlayersText
+        ans_why/WhyText ans_fix/FlagsText ans_fix/Suggested ans_check/WhyTold ans_check/WhyRows""".split()),
     Group("`table`", """
         ans_table/Unopened ans_table/Findings ans_table/Labels ans_table/NameText ans_table/Columns ans_table/JsonRow
         ans_table/RowText ans_table/Counting ans_check/Listing ans_check/FileRows ans_check/Table""".split()),
     Group("`mend`", """
-        ans_model/MendFlags ans_mend/Drafts ans_sauce/Fields ans_mend/Tail ans_mend/EndMark ans_sauce/Contents
-        ans_mend/LineEnds ans_mend/NewRecord ans_forms/Unwanted ans_mend/TakingOut ans_hints/FullRowEnds
-        ans_mend/FullRows ans_mend/LastEnds ans_mend/NamedColours ans_mend/Mending ans_report/Changes
-        ans_mend/MendedText""".split()),
+        ans_model/MendFlags ans_mend/Drafts ans_sauce/Fields ans_mend/Tail ans_mend/Recounted ans_mend/EndMark
+        ans_sauce/Contents ans_mend/LineEnds ans_mend/NewRecord ans_mend/Columns ans_forms/Unwanted ans_mend/TakingOut
+        ans_hints/FullRowEnds ans_mend/FullRows ans_mend/LastEnds ans_mend/NamedColours ans_mend/Mending
+        ans_report/Changes ans_mend/IdleText ans_mend/MendedText ans_fix/Trials""".split()),
     Group("`redraw`", """
         ans_redraw/Colours ans_redraw/Form ans_redraw/RedrawnFile ans_redraw/Redrawing
         ans_redraw/RedrawnText""".split()),

@@ -1,4 +1,4 @@
-// A row beside what the program prints about the same file.
+// A row, and a text, beside what the program prints about the same file.
 
 /** The members that are there. */
 const present = (members) => Object.fromEntries(Object.entries(members).filter(([, value]) => value !== null));
@@ -56,13 +56,23 @@ function whyLines(row) {
 const NAMES = "verdict|needs|players|needs on all players|taller screens|fault|because|is|fix|lines";
 const KEPT = new RegExp(`^(?:${NAMES}): |^(?:cursor|from the (?:top left|bottom right)): row `);
 
-/** A line without the bytes of a fault, without what comes after a number of lines, and without what a sequence does. */
+/**
+ * A line without the bytes of a fault, without what comes after a number of lines, and without what a sequence does.
+ */
 const withoutMore = (line) => line.replace(/^(lines: \d+), but the rows look broken$/, "$1")
   .replace(/^((?:fault|because): at \d+, F[^:]*): .*$/, "$1")
   .replace(/^(is: a sequence of modern terminals): .*$/, "$1");
 
-/** Those lines of a text of `why`. A row says what is recognised only of a file that is refused. */
-const toldLines = (text) => text.split("\n").filter((line) => KEPT.test(line)).map(withoutMore)
-  .filter((line) => !line.startsWith("is: ") || text.includes("verdict: refused\n"));
+const isRefused = (text) => text.includes("verdict: refused\n");
 
-export { jsonRow, toldLines, whyLines };
+/** A text of `why` without the last lines of a refused file: only the program has them, as it tries what mends it. */
+const withoutFix = (text) => (isRefused(text) ? text.replace(/^(?:fix|more): .*\n/gm, "") : text);
+
+/** What mending says without the flags to try: only the program leaves out those that are no help. */
+const withoutFlags = (text) => text.replace(/^(?:try:|see anscheck why for the place,) .*\n/gm, "");
+
+/** Those lines of a text of `why`. A row says what is recognised only of a file that is refused. */
+const toldLines = (text) => withoutFix(text).split("\n").filter((line) => KEPT.test(line)).map(withoutMore)
+  .filter((line) => !line.startsWith("is: ") || isRefused(text));
+
+export { jsonRow, toldLines, whyLines, withoutFix, withoutFlags };
