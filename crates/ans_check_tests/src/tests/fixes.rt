@@ -64,7 +64,12 @@ static FIXES: [(&[u8], u16, u16, &[u8]); 18] = [
         3,
         b"fix: anscheck mend --columns 20\nmore: anscheck help F20\n",
     ),
-    (b"Hi!", 2, 1, b"lines: 2\nmore: anscheck help F20\n"),
+    (
+        b"Hi!",
+        2,
+        1,
+        b"lines: 2, but the rows look broken\nmore: anscheck help F20\n",
+    ),
     // nothing is wrong with the rows: more lines, or fewer line ends
     (
         b"ab\r\nc",

@@ -35,7 +35,7 @@ static FAULTS: [(Cause, &str); 4] = [
         once each; if there is no line end, and the stated lines come out on a common\n\
         width; or if columns and lines seem to be exchanged. Else look at the picture.\n\
         \n\
-        If only line ends, bytes 00h, places or modes follow, this removes them:\n\
+        If only line ends and bytes 00h follow, this removes them:\n\
         \x20 anscheck mend --take-out FILE > FIXED\n",
     ),
     (
