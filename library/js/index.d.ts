@@ -123,7 +123,7 @@ export interface Row {
   known: string | null;
   /** For F5 and F19 to F21 the smallest number of lines with which the file passes from the cleared start. */
   lines: number | null;
-  /** Whether it relies on something and `why` has the line `fix: anscheck mend`. */
+  /** Whether it passes, relies on something, and `why` has the line `fix: anscheck mend`. */
   mends: boolean;
   /** How many bytes the content has, if the record and the layout are accepted. */
   content: number | null;
@@ -191,7 +191,10 @@ export interface Checker {
   needs(file: Bytes): Needs | Refused | TooLong;
   /** What `anscheck why` and `anscheck table` say of a file, in numbers and words. */
   row(file: Bytes): Row | TooLong;
-  /** What `anscheck why` prints: where and why a file is refused, or what it relies on and how to fix it. */
+  /**
+   * What `anscheck why` prints: where and why a file is refused, or what it relies on and how to fix it. The lines
+   * `fix:` and `more:` of a refused file are left out.
+   */
   why(file: Bytes): Text | TooLong;
   /** What `anscheck sauce` prints: what a file's record says, or why it is refused. */
   record(file: Bytes): Text | TooLong;

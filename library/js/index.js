@@ -89,7 +89,8 @@ class Checker {
   }
 
   /**
-   * What `anscheck why` prints about a file: where and why it is refused, or what it relies on and how to fix it.
+   * What `anscheck why` prints about a file: where and why it is refused, or what it relies on and how to fix it. The
+   * lines `fix:` and `more:` of a refused file are left out.
    *
    * @param {Uint8Array | ArrayBuffer} file
    * @returns {object} `{ verdict, text }`: "pass" or "refused" from the cleared start, and lines that each end in a
