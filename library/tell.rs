@@ -348,6 +348,6 @@ fn main() -> io::Result<()> {
         ans_record(file.as_ptr(), file.len(), text.as_mut_ptr(), text.len(), length)
     })?;
     checker.put_mend(out, 0, 0)?;
-    checker.put_mend(out, 31, 80)?;
+    checker.put_mend(out, 255, 80)?;
     checker.put_redraw(out)
 }
