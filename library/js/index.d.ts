@@ -156,7 +156,7 @@ export interface NotMade {
 
 /** What may be changed to fix a file besides what is changed without being asked: the flags of `anscheck mend`. */
 export interface MendOptions {
-  /** Remove refused sequences, such as screen modes, and as few line ends and bytes 00h at the very end as must go. */
+  /** Remove refused sequences, such as screen modes, and what draws nothing at the very end, as little as must go. */
   takeOut?: boolean;
   /** Turn line feeds into CR LF, if the drawing has no CR. */
   crlf?: boolean;

@@ -363,16 +363,20 @@ def take_ends_of_full_rows_out(draft, some_are_enough):
         draft.content = without(draft.content, [(at, at + 1) for end in ends for at in end])
 
 
+LAST_END = re.compile(rb"(\r\n|\r|\n|\0|\x1b\[[0-?]*[Hfhlmsu])\Z")
+
+
 def take_last_line_ends_out(draft, lines):
-    """As few line ends and bytes 00h at the very end as have to go for the content to pass."""
-    rest, count = draft.content, 0
+    """As little of what draws nothing at the very end as has to go for the content to pass, of sequences at most 8."""
+    rest, count, sequences = draft.content, 0, 0
     while not passes(rest, draft.width(), lines):
-        end = re.search(rb"(\r\n|\r|\n|\0)\Z", rest)
-        if not end:
+        end = LAST_END.search(rest)
+        sequences += bool(end) and end[0].startswith(b"\x1b")
+        if not end or sequences > 8:
             return
         rest, count = rest[:end.start()], count + 1
-    several = "s or bytes 00h" if count > 1 else " or byte 00h"
-    draft.say_of_each("last line ends", "removed {} line end" + several + " at the end", [len(rest)] * count)
+    what = " line ends, bytes 00h or sequences" if count > 1 else " line end, byte 00h or sequence"
+    draft.say_of_each("last line ends", "removed {}" + what + " at the end", [len(rest)] * count)
     draft.content = rest
 
 

@@ -55,6 +55,7 @@ FONTS_OF_437 = [
     for name in [b"IBM VGA", b"IBM VGA50", b"IBM VGA25G", b"IBM EGA", b"IBM EGA43"] for page in [b"", b" 437"]
 ]
 LATER_COLOURS = {38, 48, *range(90, 98), *range(100, 108)}
+OFF_SWITCHES = {22, 27, 39, 49}
 CONVERT = ": convert the text to code page 437"
 # Of each hint: its name here, what comes before the count, and what comes after the count and after the offset, of
 # one thing and of more.
@@ -75,6 +76,9 @@ COUNTED_HINTS = [
                         "bulletin-board colour codes (|07, @X1F) are printed as text"), ("", "")),
     ("later colour", "", ("sequence uses modern colours (38, 48, 90 to 97, 100 to 107)",
                           "sequences use modern colours (38, 48, 90 to 97, 100 to 107)"), ("", "")),
+    ("off switch", "", ("sequence uses modern off switches (22, 27, 39, 49)",
+                        "sequences use modern off switches (22, 27, 39, 49)"),
+     (": write ESC[0m and the colours that stay",) * 2),
     ("blinking", "", ("character blinks", "characters blink"),
      ("; if it should have a bright background: --ice", "; if they should have bright backgrounds: --ice")),
     ("dark grey", "", ("character is dark grey on black", "characters are dark grey on black"),
@@ -401,7 +405,9 @@ def hints_of_token(token, machine, content, offset, end):
         is_loose = machine.column > 0 and content[end:end + 1] != b"\r"
         return {"loose line feed": offset} if is_loose else {}
     if token[0] == "colours":
-        return {"later colour": offset} if LATER_COLOURS & set(token[1]) else {}
+        if LATER_COLOURS & set(token[1]):
+            return {"later colour": offset}
+        return {"off switch": offset} if OFF_SWITCHES & set(token[1]) else {}
     if token[0] != "glyph":
         return {}
     found = {

@@ -269,7 +269,7 @@ def full_rows_and_up(p):
 
 for what, piece in [
     ("line ends at the end", CRLF * 3), ("zeros at the end", bytes(7)), ("a place below at the end", b"\x1b[30;1H"),
-    ("a mode at the end", b"\x1b[?7h\x1b[?25h"), ("an unfinished sequence at the end", b"\x1b[0;3"),
+    ("a mode at the end", b"\x1b[?7h\x1b[?25h"), ("a screen mode at the end", b"\x1b[0m\x1b[=7h\r\n"), ("an unfinished sequence at the end", b"\x1b[0;3"),
 ]:
     edited(what, lambda content, p, piece=piece: content + piece)
 for what, piece in [

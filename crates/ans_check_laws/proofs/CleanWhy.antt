@@ -219,6 +219,7 @@ told_clean hints wider font bytes =
     (hint_clean _ refl refl refl refl refl) in
     let boards = counted_clean row.board_codes hints.board_codes (hint_clean _ refl refl refl refl refl) in
     let modern = counted_clean row.modern_colours hints.later_colours (hint_clean _ refl refl refl refl refl) in
+    let off = counted_clean row.off_switches hints.off_switches (hint_clean _ refl refl refl refl refl) in
     let blinking = counted_clean row.blinking hints.blinking_glyphs (hint_clean _ refl refl refl refl refl) in
     let grey = counted_clean row.dark_grey (much_dark hints) (hint_clean _ refl refl refl refl refl) in
     search (clean_option wider_line, clean_lines) depth 30 fits 5000

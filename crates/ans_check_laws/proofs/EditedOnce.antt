@@ -21,7 +21,7 @@ use Rattle.ans_hints.specs.Hints.{are_torn}
 use Rattle.ans_hints.specs.OtherWidths.{AreOtherWidths, IsPlaceOf, has_other_widths, tried_widths}
 use Rattle.ans_hints.specs.declared.other_widths.OtherWidths.{OtherWidths}
 use Rattle.std.proofs.lemmas.List.{ext_get_or}
-use Rattle.ans_mend.specs.LastEnds.{LeavesMost}
+use Rattle.ans_mend.specs.LastEnds.{LeavesMost, most_sequences}
 use Rattle.ans_pens.specs.Lines.{IsLeastLines}
 use Rattle.ans_hints.specs.declared.hints.Hints.{Hints}
 use Rattle.ans_pens.specs.declared.times.Times.{Times}
@@ -161,7 +161,8 @@ one_row_ends mixed z content a b s t (inr (none, is, no_times)) (inr (never, is_
 
 -- ---- line ends at the end
 
-one_count : (z : Size) (bytes : List ℕ) (m n : ℕ) → LeavesMost z bytes m → LeavesMost z bytes n → m ≡ n
+one_count : (z : Size) (bytes : List ℕ) (m n : ℕ) → LeavesMost most_sequences z bytes m
+    → LeavesMost most_sequences z bytes n → m ≡ n
 one_count z bytes m n h g = elim (cases_lt m n) [
   | inl fewer ↦ absurd (h.most n fewer g.leaves g.passes)
   | inr up ↦ elim (cases_lt n m) [

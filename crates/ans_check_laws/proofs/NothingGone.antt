@@ -20,7 +20,8 @@ use Rattle.ans_forms.specs.Unwanted.{BeginsStaying, GoesFirst, before_after, bef
 use Rattle.ans_forms.specs.declared.kinds.Before.{Before}
 use Rattle.ans_forms.specs.declared.kinds.Unwanted.{Unwanted}
 use Rattle.ans_forms.proofs.HereLemmas.{nothing_goes}
-use Rattle.ans_mend.specs.LastEnds.{LeavesMost, LeavesOutEnds, is_line_end}
+use Rattle.ans_mend.proofs.SequencesLeft.{leaves_within}
+use Rattle.ans_mend.specs.LastEnds.{LeavesMost, LeavesOutEnds, is_line_end, most_sequences}
 use Rattle.ans_mend.specs.TakingOut.{Gone, TakesOut}
 
 -- ---- tokens
@@ -123,14 +124,14 @@ whole_leaves bytes = record {
     go false h = refl
 
 -- where the whole passes, the whole stays
-pub all_left : (z : Size) (content : List ℕ) (count : ℕ) → IsGood z all_known content → LeavesMost z content count
-    → take count content ≡ content
+pub all_left : (z : Size) (content : List ℕ) (count : ℕ) → IsGood z all_known content
+    → LeavesMost most_sequences z content count → take count content ≡ content
 all_left z content count good leaves = elim (cases_lt count (length content)) [
   | inl fewer ↦
-      absurd (leaves.most (length content) fewer (whole_leaves content)
+      absurd (leaves.most (length content) fewer (inl (whole_leaves content))
       (subst (IsGood z all_known) (sym (take-length content)) good))
   | inr all ↦
-      let within = leaves.leaves.within in
+      let within = leaves_within most_sequences content count leaves.leaves in
       let same : count ≡ length content = omega (arith, all, within) in
       ap (λ (n : ℕ). take n content) same ∙ take-length content
 ]

@@ -51,7 +51,7 @@ is_damaged damage =
 
 -- ---- by the rows of a drawing
 
--- the number, if a record may state so many columns
+-- the number, if a record may state that many columns
 abbrev pub allowed : ℕ → Option ℕ
 allowed count = if nat_le count most_columns then Some count else None
 

@@ -28,7 +28,7 @@ fn is_damaged(damage: &TextDamage) -> bool
         || damage.returns.is_some()
 }
 
-/// The number, if a record may state so many columns.
+/// The number, if a record may state that many columns.
 fn allowed(count: usize) -> Option<u16>
     ensures { result ≡ allowed count }
 {

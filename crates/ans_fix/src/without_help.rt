@@ -34,24 +34,29 @@ fn is_same_reason(one: &Unmended, other: &Unmended) -> bool
     }
 }
 
-/// Whether a step was asked for already, or the file is not mended for the same reason with it.
-fn is_without_help(
+/// What is tried on copies: a file, what was asked for, and why it is not mended with that.
+#[derive(Clone, Copy)]
+struct Trial<'a> {
     alloc: Global,
-    file: &[u8],
-    asked: &Mends,
-    step: MendStep,
-    is_asked: bool,
-    reason: &Unmended,
-) -> Result<bool, AllocError>
-    requires { length file.now ≤ longest_file }
-    ensures { IfOk result (IsHelpKnown asked.now file.now reason.now step is_asked) }
-{
-    if is_asked {
-        return Ok(true);
-    }
-    match tried(alloc, file, &asked.with(step, true))? {
-        Ok(_) => Ok(false),
-        Err(again) => Ok(is_same_reason(&again, reason)),
+    file: &'a [u8],
+    asked: &'a Mends,
+    reason: &'a Unmended,
+}
+
+impl Trial<'_> {
+    /// Whether a step was asked for already, or the file is not mended for the same reason with it.
+    fn is_without_help(&self, step: MendStep, is_asked: bool) -> Result<bool, AllocError>
+        requires { length self.now.file.now ≤ longest_file }
+        ensures { IfOk result
+            (IsHelpKnown self.now.asked.now self.now.file.now self.now.reason.now step is_asked) }
+    {
+        if is_asked {
+            return Ok(true);
+        }
+        match tried(self.alloc, self.file, &self.asked.with(step, true))? {
+            Ok(_) => Ok(false),
+            Err(again) => Ok(is_same_reason(&again, self.reason)),
+        }
     }
 }
 
@@ -68,38 +73,19 @@ impl Unhelped {
         ensures unhelped { IfOk result (IsUnhelped asked.now file.now) }
         ensures reason { IfOk result (λ unhelped. unhelped.reason ≡ reason) }
     {
-        let crlf = is_without_help(alloc, file, asked, MendStep::Crlf, asked.crlf, &reason)?;
-        let join_rows = is_without_help(
+        let trial = Trial {
             alloc,
             file,
             asked,
-            MendStep::JoinRows,
-            asked.join_rows,
-            &reason,
-        )?;
-        let take_out = is_without_help(
-            alloc,
-            file,
-            asked,
-            MendStep::TakeOut,
-            asked.take_out,
-            &reason,
-        )?;
-        let least_lines = is_without_help(
-            alloc,
-            file,
-            asked,
-            MendStep::LeastLines,
-            asked.least_lines,
-            &reason,
-        )?;
+            reason: &reason,
+        };
         Ok(Unhelped {
             reason,
             without_help: Mends {
-                crlf,
-                join_rows,
-                take_out,
-                least_lines,
+                crlf: trial.is_without_help(MendStep::Crlf, asked.crlf)?,
+                join_rows: trial.is_without_help(MendStep::JoinRows, asked.join_rows)?,
+                take_out: trial.is_without_help(MendStep::TakeOut, asked.take_out)?,
+                least_lines: trial.is_without_help(MendStep::LeastLines, asked.least_lines)?,
                 ..*asked
             },
         })

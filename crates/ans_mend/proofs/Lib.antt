@@ -30,3 +30,4 @@ mod MendRoomLemmas
 mod EditLemmas
 mod DraftRoomLemmas
 mod FrontsPass
+pub mod SequencesLeft

@@ -1,7 +1,10 @@
--- Line ends and bytes 00h at the very end of a content that are taken out.
-use Rattle.std.specs.Prelude.{◌≡◌, ◌⊎◌, ℕ, ◌+◌, ◌-◌, ◌<◌, ◌≤◌, Bool, false, ◌&&◌, ◌||◌, ◌==◌, List, [], ◌∷◌, length}
-use Rattle.std.specs.Prelude.{take, drop, Option, None, Some, IsTrue, MatchBool, slice_index, if◌then◌else◌}
+-- What draws nothing at the very end of a content and is taken out: line ends, bytes 00h and sequences.
+use Rattle.std.specs.Prelude.{◌≡◌, ◌⊎◌, ℕ, zero, suc, ◌+◌, ◌-◌, ◌<◌, ◌≤◌, Bool, false, ◌&&◌, ◌||◌, ◌==◌, List, [], ◌∷◌}
+use Rattle.std.specs.Prelude.{length, take, drop, not, Option, None, Some, IsTrue, MatchBool, slice_index, nat_le}
+use Rattle.std.specs.Prelude.{if◌then◌else◌}
+use Rattle.std.specs.Int.{is_in_range}
 use Rattle.std.specs.List.{list_all}
+use Rattle.ans_model.specs.Bytes.{bracket, escape}
 use Rattle.ans_model.specs.File.Refusals.{has_record}
 use Rattle.ans_model.specs.Screen.State.{Size}
 use Rattle.ans_model.specs.Screen.StartClass.{all_known}
@@ -24,26 +27,80 @@ pub record LeavesOutEnds (bytes : List ℕ) (count : ℕ) : Type 0 where
   pub ends : IsTrue (list_all is_line_end (drop count bytes))
   pub whole : splits_line_end bytes count ≡ false
 
+-- ---- sequences at the end
+
+-- the letter of a place, a mode or colours, or of what saves or restores the cursor
+abbrev pub is_quiet_letter : ℕ → Bool
+is_quiet_letter b =
+    b == 0x48 || b == 0x66 || b == 0x68 || b == 0x6C || b == 0x6D || b == 0x73 || b == 0x75
+
+-- a digit, or what separates or marks numbers
+abbrev pub is_parameter : ℕ → Bool
+is_parameter b = is_in_range 0x30 0x3F b
+
+-- from where on there are only parameters before this offset
+abbrev pub parameters_from : List ℕ → ℕ → ℕ
+parameters_from bytes zero = 0
+parameters_from bytes (suc end) = if is_parameter (slice_index bytes end) then parameters_from bytes end else suc end
+
+-- ESC and `[` are before this offset
+abbrev pub begins_before : List ℕ → ℕ → Bool
+begins_before bytes at =
+    nat_le 2 at && (slice_index bytes (at - 2) == escape && slice_index bytes (at - 1) == bracket)
+
+-- where the sequence begins that ends before this offset: ESC, `[`, parameters, and such a letter
+abbrev pub sequence_before : List ℕ → ℕ → Option ℕ
+sequence_before bytes zero = None
+sequence_before bytes (suc last) =
+    if is_quiet_letter (slice_index bytes last) && begins_before bytes (parameters_from bytes last)
+    then Some (parameters_from bytes last - 2) else None
+
+-- The last sequence begins here. At most line ends and bytes 00h follow it.
+pub record EndsInSequence (bytes : List ℕ) (start : ℕ) : Type 0 where
+  pub end : ℕ
+  pub within : end ≤ length bytes
+  pub begins : sequence_before bytes end ≡ Some start
+  pub ends : IsTrue (list_all is_line_end (drop end bytes))
+
+-- This many of the first bytes stay, and what goes has at most this number of sequences.
+abbrev pub LeavesOut : ℕ → List ℕ → ℕ → Type 0
+LeavesOut zero bytes count = LeavesOutEnds bytes count
+LeavesOut (suc more) bytes count =
+    LeavesOutEnds bytes count
+    ⊎ ((start : ℕ) × EndsInSequence bytes start × LeavesOut more (take start bytes) count)
+
+-- how many sequences may go
+abbrev pub most_sequences : ℕ
+most_sequences = 8
+
+-- ---- what is left
+
 -- they pass from the cleared start
 abbrev pub FrontPasses : Size → List ℕ → ℕ → Type 0
 FrontPasses z bytes count = IsGood z all_known (take count bytes)
 
--- As few line ends go as must for what is left to pass from the cleared start.
-pub record LeavesMost (z : Size) (bytes : List ℕ) (count : ℕ) : Type 0 where
-  pub leaves : LeavesOutEnds bytes count
+-- As few of these go, with at most this number of sequences, as must for what is left to pass from the cleared start.
+pub record LeavesMost (sequences : ℕ) (z : Size) (bytes : List ℕ) (count : ℕ) : Type 0 where
+  pub leaves : LeavesOut sequences bytes count
   pub passes : FrontPasses z bytes count
-  pub most : (more : ℕ) → count < more → LeavesOutEnds bytes more → ¬ FrontPasses z bytes more
+  pub most : (more : ℕ) → count < more → LeavesOut sequences bytes more → ¬ FrontPasses z bytes more
 
 -- It does not pass, however many of them go.
-abbrev pub NeverPasses : Size → List ℕ → Type 0
-NeverPasses z bytes = (count : ℕ) → LeavesOutEnds bytes count → ¬ FrontPasses z bytes count
+abbrev pub NeverPasses : ℕ → Size → List ℕ → Type 0
+NeverPasses sequences z bytes = (count : ℕ) → LeavesOut sequences bytes count → ¬ FrontPasses z bytes count
 
--- how many line ends the bytes are: a return with its line feed after it is one, and every other byte is one
+-- A line end, a byte 00h or a sequence begins with the byte, after the last one: a return and its line feed are one
+-- line end.
+abbrev pub begins_end : ℕ → ℕ → Bool
+begins_end last b = (is_line_end b || b == escape) && not (last == 0x0D && b == 0x0A)
+
+-- how many of them there are
+abbrev pub ends_after : ℕ → List ℕ → ℕ
+ends_after last [] = 0
+ends_after last (b ∷ bytes) = (if begins_end last b then 1 else 0) + ends_after b bytes
+
 abbrev pub line_ends : List ℕ → ℕ
-line_ends [] = 0
-line_ends (b ∷ []) = 1
-line_ends (b ∷ next ∷ bytes) =
-    1 + (if b == 0x0D && next == 0x0A then line_ends bytes else line_ends (next ∷ bytes))
+line_ends bytes = ends_after 0 bytes
 
 -- this many, from this offset on
 abbrev pub times_at : ℕ → ℕ → Option Times
@@ -52,14 +109,14 @@ times_at count first = if count == 0 then None else Some (record { count = count
 -- as few as must go are taken out of a content, so often
 pub record TakesLastEnds (z : Size) (content left : List ℕ) (times : Option Times) : Type 0 where
   pub count : ℕ
-  pub leaves : LeavesMost z content count
+  pub leaves : LeavesMost most_sequences z content count
   pub left_is : left ≡ take count content
   pub times_are : times ≡ times_at (line_ends (drop count content)) count
 
 -- they are, where the content then passes from the cleared start on a screen of this size; and else none is
 abbrev pub AreLastEndsOut : Size → List ℕ → List ℕ → Option Times → Type 0
 AreLastEndsOut z content left times =
-    TakesLastEnds z content left times ⊎ (NeverPasses z content × (left ≡ content) × (times ≡ None))
+    TakesLastEnds z content left times ⊎ (NeverPasses most_sequences z content × (left ≡ content) × (times ≡ None))
 
 -- the same of the content of a file that has a record
 abbrev pub HasFewerEnds : Size → List ℕ → List ℕ → Option Times → Type 0

@@ -110,8 +110,8 @@ mended_text m =
     ++ (flag_line (has_switch m) m.non_blink.was m.non_blink.is
     ++ (times_line (codes "removed ") (codes " line end after a full row") (codes " line ends after full rows")
     m.edits.row_ends
-    ++ (times_line (codes "removed ") (codes " line end or byte 00h at the end")
-    (codes " line ends or bytes 00h at the end") m.edits.last_ends
+    ++ (times_line (codes "removed ") (codes " line end, byte 00h or sequence at the end")
+    (codes " line ends, bytes 00h or sequences at the end") m.edits.last_ends
     ++ (times_line (codes "named the colours of ") (codes " sequence") (codes " sequences") m.edits.named_colours
     ++ (reset_line (codes "lines ") m.lines
     ++ (end_mark_line m.end_mark
@@ -183,7 +183,7 @@ try_text = codes "try:"
 abbrev pub which_text : List ℕ
 which_text = codes " (anscheck why says which)\n"
 
--- what comes after so many of them
+-- what comes after that many of them
 abbrev pub after_offers : ℕ → List ℕ
 after_offers count = if count == 1 then codes "\n" else which_text
 

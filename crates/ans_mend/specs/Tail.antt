@@ -1,12 +1,12 @@
 -- What follows a record and is none of the drawing.
-use Rattle.std.specs.Prelude.{◌≡◌, ◌⊎◌, ℕ, ◌+◌, IsTrue, Bool, false, ◌&&◌, ◌||◌, ◌==◌, nat_lt, List, [], ◌∷◌, length}
-use Rattle.std.specs.Prelude.{take, drop, not, Some, slice_index, if◌then◌else◌}
+use Rattle.std.specs.Prelude.{◌≡◌, ◌⊎◌, ℕ, ◌+◌, IsTrue, Bool, false, ◌&&◌, ◌||◌, ◌==◌, nat_lt, List, take, drop, not, Some}
 use Rattle.std.specs.List.{list_all}
 use Rattle.ans_model.specs.Bytes.{most_columns, most_lines}
 use Rattle.ans_model.specs.File.Layout.{is_end_mark}
 use Rattle.ans_model.specs.File.Record.{data_type, file_type, tinfo}
 use Rattle.ans_model.specs.File.Refusals.{has_record}
 use Rattle.ans_sauce.specs.Found.{IsLastRecord, record_in}
+use Rattle.ans_sauce.specs.Grown.{is_grown}
 
 -- 00h, a line feed, a return, an end mark: what transfers and editors put after a file
 abbrev pub is_tail_byte : ℕ → Bool
@@ -16,15 +16,6 @@ is_tail_byte b = b == 0x00 || b == 0x0A || b == 0x0D || is_end_mark b
 abbrev pub ends_in_ansi : List ℕ → Bool
 ends_in_ansi file = has_record file && (data_type (record_in file) == 1 && file_type (record_in file) == 1)
 
--- how many line feeds of the bytes follow a return
-abbrev pub pairs : List ℕ → ℕ
-pairs [] = 0
-pairs (b ∷ bytes) = (if b == 0x0D && slice_index bytes 0 == 0x0A then 1 else 0) + pairs bytes
-
--- A transfer as text puts a return before each line feed of a record, which is then longer by its pairs.
-abbrev pub is_grown_record : List ℕ → Bool
-is_grown_record bytes = nat_lt 0 (pairs bytes) && length bytes == 128 + pairs bytes
-
 -- a record states more columns or lines than the profile allows
 abbrev pub is_beyond_limits : List ℕ → Bool
 is_beyond_limits record_bytes = nat_lt most_columns (tinfo 1 record_bytes) || nat_lt most_lines (tinfo 2 record_bytes)
@@ -33,9 +24,9 @@ is_beyond_limits record_bytes = nat_lt most_columns (tinfo 1 record_bytes) || na
 -- all together are no grown record.
 abbrev pub ends_in_tail : List ℕ → Bool
 ends_in_tail bytes =
-    list_all is_tail_byte (drop 128 bytes) && not (is_grown_record bytes) && not (is_beyond_limits (take 128 bytes))
+    list_all is_tail_byte (drop 128 bytes) && not (is_grown bytes) && not (is_beyond_limits (take 128 bytes))
 
--- The file ends in no such record, and from the last record of version 00 that counts, which is here, it ends in a tail.
+-- The file ends in no such record. From the last record of version 00 that counts, which is here, it ends in a tail.
 pub record HasTail (file : List ℕ) (place : ℕ) : Type 0 where
   pub other_end : ends_in_ansi file ≡ false
   pub last : IsLastRecord file (Some place)

@@ -114,7 +114,7 @@ const TRY: &[u8] = b"try:";
 /// What comes after them if there are several.
 const WHICH: &[u8] = b" (anscheck why says which)\n";
 
-/// What comes after so many of them.
+/// What comes after that many of them.
 fn after_offers(count: usize) -> &'static [u8]
     ensures { result.now ≡ after_offers count }
 {

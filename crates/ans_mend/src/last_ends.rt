@@ -1,11 +1,13 @@
-//! Line ends and bytes 00h at the very end of a content that are removed.
+//! What draws nothing at the very end of a content and is removed: line ends, bytes 00h and sequences.
 
 ghost use Rattle.std.specs.Prelude.{◌≡◌, ℕ, ◌<◌, ◌≤◌, true, false, IfNone, IfSome, length, drop};
 ghost use Rattle.std.specs.List.{list_all};
 ghost use Rattle.ans_model.specs.Bytes.{longest_file};
 ghost use Rattle.ans_mend.specs.Drafts.{memory_of};
-ghost use Rattle.ans_mend.specs.LastEnds.{FrontPasses, HasFewerEnds, LeavesMost, NeverPasses, is_line_end, line_ends};
-ghost use Rattle.ans_mend.specs.LastEnds.{splits_line_end, times_at};
+ghost use Rattle.ans_mend.specs.LastEnds.{EndsInSequence, FrontPasses, HasFewerEnds, LeavesMost, NeverPasses};
+ghost use Rattle.ans_mend.specs.LastEnds.{begins_before, begins_end, is_line_end, is_parameter, is_quiet_letter};
+ghost use Rattle.ans_mend.specs.LastEnds.{line_ends, most_sequences, parameters_from, sequence_before, splits_line_end};
+ghost use Rattle.ans_mend.specs.LastEnds.{times_at};
 
 use crate::draft::Draft;
 use crate::keeping::keep;
@@ -65,11 +67,11 @@ fn most_passing(size: Size, bytes: &[u8], enough: usize) -> usize
 }
 
 /// How many bytes of a content are left if as few line ends and bytes 00h at its very end go as must for it to
-/// pass from the cleared start. None if it does not pass, however many go. It takes no memory.
-pub fn count_passing(size: Size, content: &[u8]) -> Option<usize>
+/// pass from the cleared start. None if it does not pass, however many go.
+fn count_before_line_ends(size: Size, content: &[u8]) -> Option<usize>
     requires { length content.now ≤ longest_file }
-    ensures some { IfSome result (LeavesMost size content.now) }
-    ensures none { IfNone result (NeverPasses size content.now) }
+    ensures some { IfSome result (LeavesMost 0 size content.now) }
+    ensures none { IfNone result (NeverPasses 0 size content.now) }
 {
     if is_good(size, content) {
         return Some(content.len());
@@ -85,7 +87,100 @@ pub fn count_passing(size: Size, content: &[u8]) -> Option<usize>
     Some(count)
 }
 
-/// How many line ends and bytes 00h the bytes are, if they are only these: a return and a line feed are one.
+fn is_quiet_letter(byte: u8) -> bool
+    ensures { result ≡ is_quiet_letter byte }
+{
+    matches!(byte, b'H' | b'f' | b'h' | b'l' | b'm' | b's' | b'u')
+}
+
+fn is_parameter(byte: u8) -> bool
+    ensures { result ≡ is_parameter byte }
+{
+    matches!(byte, 0x30..=0x3F)
+}
+
+/// From where on there are only parameters before an offset.
+fn parameters_from(bytes: &[u8], end: usize) -> usize
+    requires { end ≤ length bytes.now }
+    ensures start { result ≡ parameters_from bytes.now end }
+    ensures within { result ≤ end }
+{
+    let mut start = end;
+    'parameters: while start > 0 && is_parameter(bytes[start - 1]) {
+        start -= 1;
+    }
+    start
+}
+
+/// Whether ESC and `[` are before an offset.
+fn begins_before(bytes: &[u8], at: usize) -> bool
+    requires { at ≤ length bytes.now }
+    ensures { result ≡ begins_before bytes.now at }
+{
+    at >= 2 && bytes[at - 2] == 0x1B && bytes[at - 1] == b'['
+}
+
+/// Where the sequence begins that ends before an offset, if it is one that draws nothing.
+fn sequence_before(bytes: &[u8], end: usize) -> Option<usize>
+    requires { end ≤ length bytes.now }
+    ensures { result ≡ sequence_before bytes.now end }
+{
+    if end == 0 || !is_quiet_letter(bytes[end - 1]) {
+        return None;
+    }
+    let start = parameters_from(bytes, end - 1);
+    if begins_before(bytes, start) {
+        Some(start - 2)
+    } else {
+        None
+    }
+}
+
+/// Where the last sequence begins, if it draws nothing and at most line ends and bytes 00h follow it.
+fn last_sequence(bytes: &[u8]) -> Option<usize>
+    ensures some { IfSome result (EndsInSequence bytes.now) }
+    ensures none { IfNone result ((start : ℕ) → ¬ EndsInSequence bytes.now start) }
+{
+    sequence_before(bytes, count_before_ends(bytes))
+}
+
+/// The same as [`count_passing`], if at most that many sequences go.
+fn count_before_sequences(size: Size, content: &[u8], sequences: usize) -> Option<usize>
+    requires { length content.now ≤ longest_file }
+    ensures some { IfSome result (LeavesMost sequences size content.now) }
+    ensures none { IfNone result (NeverPasses sequences size content.now) }
+{
+    let count = count_before_line_ends(size, content);
+    if count.is_some() || sequences == 0 {
+        return count;
+    }
+    let start = last_sequence(content)?;
+    count_before_sequences(size, &content[..start], sequences - 1)
+}
+
+/// How many sequences at most go.
+const MOST_SEQUENCES: usize = 8;
+
+/// How many bytes of a content are left if as few line ends, bytes 00h and sequences that draw nothing go from its
+/// very end as must for it to pass from the cleared start. None if it does not pass, however many go; of sequences at
+/// most 8 go. It takes no memory.
+pub fn count_passing(size: Size, content: &[u8]) -> Option<usize>
+    requires { length content.now ≤ longest_file }
+    ensures some { IfSome result (LeavesMost most_sequences size content.now) }
+    ensures none { IfNone result (NeverPasses most_sequences size content.now) }
+{
+    count_before_sequences(size, content, MOST_SEQUENCES)
+}
+
+/// Whether a line end, a byte 00h or a sequence begins with a byte, after the last one.
+fn begins_end(last: u8, byte: u8) -> bool
+    ensures { result ≡ begins_end last byte }
+{
+    (is_line_end(byte) || byte == 0x1B) && !(last == b'\r' && byte == b'\n')
+}
+
+/// How many line ends, bytes 00h and sequences there are, if the bytes are only these: a return and a line feed are
+/// one.
 pub fn count_line_ends(bytes: &[u8]) -> usize
     ensures count { result ≡ line_ends bytes.now }
     ensures within { result ≤ length bytes.now }
@@ -93,7 +188,7 @@ pub fn count_line_ends(bytes: &[u8]) -> usize
     let mut count = 0;
     let mut last = 0;
     for byte in bytes {
-        if !(last == b'\r' && *byte == b'\n') {
+        if begins_end(last, *byte) {
             count += 1;
         }
         last = *byte;
@@ -111,7 +206,7 @@ pub(crate) fn times_at(count: usize, first: usize) -> Option<Times>
     Some(Times { count, first })
 }
 
-/// How many line ends the bytes after an offset are, and that offset.
+/// How many line ends, bytes 00h and sequences come after an offset, and that offset.
 fn ends_behind(content: &[u8], left: usize) -> Option<Times>
     requires { left ≤ length content.now }
     ensures { result ≡ times_at (line_ends (drop left content.now)) left }
@@ -120,9 +215,9 @@ fn ends_behind(content: &[u8], left: usize) -> Option<Times>
 }
 
 impl<'a> Draft<'a> {
-    /// Removes as few line ends and bytes 00h at the very end of the content of a file that has a record as must go for
-    /// it to pass from the cleared start on a screen of this size, if it then does. Returns how many, and
-    /// the offset of the first, in bytes from the file's start.
+    /// Removes as few line ends, bytes 00h and sequences that draw nothing, at the very end of the content of a file
+    /// that has a record, as must go for it to pass from the cleared start on a screen of this size, if it then does.
+    /// Returns how many, and the offset of the first, in bytes from the file's start.
     pub(crate) fn take_out_last_ends(&mut self, size: Size) -> Option<Times>
         requires { length self.old.file ≤ longest_file }
         ensures file { HasFewerEnds size self.old.file self.new.file result }

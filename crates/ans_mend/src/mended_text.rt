@@ -193,8 +193,8 @@ pub fn put_mended<W: Write>(out: &mut Outbox<'_, W>, mended: &Mended)
     put_times_line(
         out,
         b"removed ",
-        b" line end or byte 00h at the end",
-        b" line ends or bytes 00h at the end",
+        b" line end, byte 00h or sequence at the end",
+        b" line ends, bytes 00h or sequences at the end",
         &mended.edits.last_ends,
     );
     put_times_line(

@@ -6,14 +6,14 @@ ghost use Rattle.ans_model.specs.File.Record.{field, number};
 ghost use Rattle.ans_mend.specs.Drafts.{memory_of};
 ghost use Rattle.ans_mend.specs.LastEnds.{times_at};
 ghost use Rattle.ans_mend.specs.Tail.{HasTail, IsTailCut, ends_in_ansi, ends_in_tail, is_beyond_limits};
-ghost use Rattle.ans_mend.specs.Tail.{is_grown_record, is_tail_byte, pairs};
+ghost use Rattle.ans_mend.specs.Tail.{is_tail_byte};
 
 use crate::draft::Draft;
 use crate::last_ends::times_at;
 use ans_model::limits::{MAX_LINES, MAX_WIDTH};
 use ans_pens::Times;
 use ans_sauce::fields::{RECORD_SIZE, TINFO_1, TINFO_2};
-use ans_sauce::{cut_record, last_record_place};
+use ans_sauce::{cut_record, grown_by, last_record_place};
 
 fn is_tail_byte(byte: u8) -> bool
     ensures { result ≡ is_tail_byte byte }
@@ -34,30 +34,6 @@ fn ends_in_ansi(file: &[u8]) -> bool
         Some((_, sauce)) => sauce.is_character_ansi(),
         None => false,
     }
-}
-
-/// How many line feeds follow a return.
-fn count_pairs(bytes: &[u8]) -> usize
-    ensures count { result ≡ pairs bytes.now }
-    ensures within { result ≤ length bytes.now }
-{
-    let mut count = 0;
-    let mut last = 0;
-    for byte in bytes {
-        if last == b'\r' && *byte == b'\n' {
-            count += 1;
-        }
-        last = *byte;
-    }
-    count
-}
-
-/// Whether the bytes may be a record in which a transfer as text put returns before line feeds.
-fn is_grown_record(bytes: &[u8]) -> bool
-    ensures { result ≡ is_grown_record bytes.now }
-{
-    let pairs = count_pairs(bytes);
-    pairs > 0 && bytes.len() - pairs == RECORD_SIZE
 }
 
 /// A number of two bytes of a record, the least first.
@@ -82,7 +58,7 @@ fn ends_in_tail(bytes: &[u8]) -> bool
     ensures { result ≡ ends_in_tail bytes.now }
 {
     let (sauce, tail) = bytes.split_at(RECORD_SIZE);
-    is_tail(tail) && !is_grown_record(bytes) && !is_beyond_limits(sauce)
+    is_tail(tail) && grown_by(bytes).is_none() && !is_beyond_limits(sauce)
 }
 
 /// Where the tail of a file begins, if it has one: after the last record.

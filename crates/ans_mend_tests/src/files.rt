@@ -281,7 +281,7 @@ static MIXED: [Row; 6] = [
         mends: TAKE_OUT,
         mended: Some((b"ab\x1a", &[(90, b"\x1b")])),
         text: ended!(
-            "removed 2 line ends or bytes 00h at the end, first at 2\n",
+            "removed 2 line ends, bytes 00h or sequences at the end, first at 2\n",
             "27"
         ),
     },

@@ -1,4 +1,4 @@
-//! How many line ends go at the very end of small contents.
+//! How many line ends, bytes 00h and sequences go at the very end of small contents.
 
 ghost use Rattle.std.specs.Prelude.{◌≤◌, length};
 ghost use Rattle.ans_model.specs.Bytes.{longest_file, most_columns, most_lines};
@@ -19,8 +19,9 @@ macro_rules! rows {
     };
 }
 
-/// A content, the width and the lines, how many bytes are left if it passes then, and how many line ends go.
-static ENDED: [(&[u8], usize, usize, Option<usize>, usize); 42] = rows! {
+/// A content, the width and the lines, how many bytes are left if it passes then, and how many line ends,
+/// bytes 00h and sequences go.
+static ENDED: [(&[u8], usize, usize, Option<usize>, usize); 52] = rows! {
     b"ab\0\0", 2 x 1 => Some(2), 2;
     b"ab\r\n\0\r\n\0", 2 x 1 => Some(2), 4;
     b"a\r\n\0", 2 x 1 => Some(3), 1;
@@ -49,7 +50,17 @@ static ENDED: [(&[u8], usize, usize, Option<usize>, usize); 42] = rows! {
     b"abc\r\n", 2 x 1 => None, 0;
     b"a\r\nb", 2 x 1 => None, 0;
     b"a\n\nb\n\n", 2 x 1 => None, 0;
-    b"a\n\n\x1b[0m", 2 x 1 => None, 0;
+    b"a\n\n\x1b[0m", 2 x 1 => Some(2), 2;
+    b"a\x1b[9;1H", 2 x 1 => Some(1), 1;
+    b"a\x1b[9;1H\x1b[0m\r\n", 2 x 1 => Some(1), 3;
+    b"a\x1b[0m\x1b[9;1f\x1b[u", 2 x 1 => Some(5), 2;
+    b"ab\x1b[=7h\0", 2 x 1 => Some(2), 2;
+    b"ab\r\n\x1b[?7h", 2 x 1 => Some(2), 2;
+    b"a\x1b[9H\x1b[m\x1b[m\x1b[m\x1b[m\x1b[m\x1b[m\x1b[m", 2 x 1 => Some(1), 8;
+    b"a\x1b[9H\x1b[m\x1b[m\x1b[m\x1b[m\x1b[m\x1b[m\x1b[m\x1b[m", 2 x 1 => None, 0;
+    b"a\x1b[9;1Hb", 2 x 1 => None, 0;
+    b"a\x1b[9Ha\x1b[m", 2 x 1 => None, 0;
+    b"a\x1b[9n\x1b[m", 2 x 1 => None, 0;
     b"a\x1b[\n", 2 x 1 => None, 0;
     b"a\x1b[6n\r\n", 2 x 1 => None, 0;
     b"ab\r\n", 2 x 2 => Some(4), 0;

@@ -105,7 +105,7 @@ const SAID_ONCE: &[u8] = b"cut off 1 byte after the record, at 137\n\
     removed <ESC>[?33h at 0\n\
     set the non-blink flag\n\
     removed 1 line end after a full row, at 2\n\
-    removed 1 line end or byte 00h at the end, at 7\n\
+    removed 1 line end, byte 00h or sequence at the end, at 7\n\
     named the colours of 1 sequence, at 12\n\
     lines 2, was 1\n\
     added an end mark at 9\n\
@@ -175,7 +175,7 @@ const SAID_OFTEN: &[u8] = b"cut off 2 bytes after the record, at 2724\n\
     removed <ESC> at 131\n\
     cleared the non-blink flag\n\
     removed 24 line ends after full rows, first at 81\n\
-    removed 3 line ends or bytes 00h at the end, first at 1999\n\
+    removed 3 line ends, bytes 00h or sequences at the end, first at 1999\n\
     named the colours of 5 sequences, first at 12\n\
     lines 8192, was 0\n\
     added an end mark at 16777215\n\

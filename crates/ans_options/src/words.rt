@@ -394,6 +394,7 @@ hints: what is worth a look; no hint changes the verdict
   UTF-8, Latin-1             convert the text to code page 437
   bulletin-board codes       save it with colour sequences, such as ESC[0;36m
   modern colours             use the 16 of DOS: 30 to 37, 40 to 47, 1 and 5
+  modern off switches        write ESC[0m and the colours that stay
   characters blink           leave it, or anscheck mend --ice FILE > FIXED
   dark grey on black         leave it, or use a lighter colour
   the font                   leave it, or use characters that all fonts share
@@ -515,7 +516,8 @@ take-out: remove sequences for which the drawing is refused
   ESC[5n ESC[6n ESC[c   questions to the terminal
   a reassigned key      with all between its quotes
   the last sequence     if it is unfinished and there is no quote in it
-  at the very end       line ends and bytes 00h, as few as must go
+  at the very end       line ends, bytes 00h, places, colours and modes, as few
+                        as must go
 
 All other sequences stay, and the drawing stays refused for them:
   anscheck mend --take-out FILE > FIXED

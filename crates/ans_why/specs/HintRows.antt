@@ -39,6 +39,10 @@ no_advice = always []
 abbrev pub convert : Words
 convert = always (codes ": convert the text to code page 437")
 
+-- what to write for a switch that only later terminals know
+abbrev pub reset_instead : Words
+reset_instead = always (codes ": write ESC[0m and the colours that stay")
+
 abbrev pub if_bright : Words
 if_bright = record {
   one = codes "; if it should have a bright background: --ice";
@@ -103,6 +107,11 @@ abbrev pub modern_colours : Hint
 modern_colours =
     hint (codes "sequence uses modern colours (38, 48, 90 to 97, 100 to 107)")
     (codes "sequences use modern colours (38, 48, 90 to 97, 100 to 107)") no_advice
+
+abbrev pub off_switches : Hint
+off_switches =
+    hint (codes "sequence uses modern off switches (22, 27, 39, 49)")
+    (codes "sequences use modern off switches (22, 27, 39, 49)") reset_instead
 
 abbrev pub blinking : Hint
 blinking = hint (codes "character blinks") (codes "characters blink") if_bright

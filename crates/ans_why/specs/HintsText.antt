@@ -80,7 +80,8 @@ foreign_hints hints field =
 abbrev pub colour_hints : Hints → List ℕ
 colour_hints hints =
     counted_line row.modern_colours hints.later_colours
-    ++ (counted_line row.blinking hints.blinking_glyphs ++ counted_line row.dark_grey (much_dark hints))
+    ++ (counted_line row.off_switches hints.off_switches
+    ++ (counted_line row.blinking hints.blinking_glyphs ++ counted_line row.dark_grey (much_dark hints)))
 
 -- the hints of a content, of wider rows only these, and that of the font, by the record's field
 abbrev pub told_text : Hints → Option WiderRows → List ℕ → List ℕ

@@ -106,7 +106,7 @@ lone_returns bytes = if list_any is_line_feed bytes then None
 abbrev pub begins_with_mark : List ℕ → Bool
 begins_with_mark bytes = starts_with nat_eq bytes (0xEF ∷ 0xBB ∷ 0xBF ∷ [])
 
--- What is told of a content. Sequences that lost their ESC are told if there is no ESC at all.
+-- What is reported of a content. Sequences that lost their ESC are reported if there is no ESC at all.
 pub record IsDamage (bytes : List ℕ) (damage : TextDamage) : Type 0 where
   pub lost : damage.lost_escapes ≡ times_unless (list_any is_escape bytes) 4 lost_escape bytes
   pub shown : damage.shown_escapes ≡ times_unless (list_any is_escape bytes) 2 shown_escape bytes
@@ -116,7 +116,7 @@ pub record IsDamage (bytes : List ℕ) (damage : TextDamage) : Type 0 where
   pub returns : damage.returns ≡ lone_returns bytes
   pub mark : damage.mark ≡ begins_with_mark bytes
 
--- Where ESC became two characters it is not told as lost too.
+-- If ESC became two characters it is not reported as lost too.
 abbrev pub lost_told : TextDamage → Option Times
 lost_told damage = if is_some damage.shown_escapes then None else damage.lost_escapes
 

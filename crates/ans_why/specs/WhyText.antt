@@ -159,7 +159,7 @@ enough_lines damage None = []
 enough_lines damage (Some e) =
     hints_text (hints_beside damage e.hints) e.font.now ++ lines_line (Some e.lines) (are_torn e.hints)
 
--- What is printed takes just the stated lines; the cursor alone goes below them.
+-- What is printed takes exactly the stated lines; only the cursor goes below them.
 abbrev pub comes_out : ℕ → Refusal → Bool
 comes_out stated r = option_map_or (λ n. nat_le stated n && n - stated == r.hints.empty_rows) r.lines false
 

@@ -154,6 +154,19 @@ pub(crate) const MODERN_COLOURS: HintRow = HintRow {
     advice: NO_ADVICE,
 };
 
+/// What switches something off only on modern terminals.
+pub(crate) const OFF_SWITCHES: HintRow = HintRow {
+    before: b"",
+    what: Wording {
+        one: b"sequence uses modern off switches (22, 27, 39, 49)",
+        more: b"sequences use modern off switches (22, 27, 39, 49)",
+    },
+    advice: Wording {
+        one: b": write ESC[0m and the colours that stay",
+        more: b": write ESC[0m and the colours that stay",
+    },
+};
+
 /// Characters that blink.
 pub(crate) const BLINKING: HintRow = HintRow {
     before: b"",

@@ -11,7 +11,7 @@ ghost use Rattle.ans_write.specs.Puts.{Puts};
 use crate::font::{font_name, has_other_code_page, is_latin_font};
 use crate::hint_rows::{
     BLINKING, BOARD_CODES, CONVERTED, DARK_GREY, HintRow, LATIN_LETTERS, LONE_RETURNS,
-    LOST_ESCAPES, MODERN_COLOURS, OVERPRINTS, ROWS_OVER, SHORT_ESCAPES, SHOWN_ESCAPES,
+    LOST_ESCAPES, MODERN_COLOURS, OFF_SWITCHES, OVERPRINTS, ROWS_OVER, SHORT_ESCAPES, SHOWN_ESCAPES,
     TWO_BYTE_LETTERS, WIDE_CHARACTERS, Wording, bare_line_feeds, ended_rows,
 };
 use crate::text_damage::TextDamage;
@@ -137,6 +137,7 @@ fn put_colour_hints<W: Write>(out: &mut Outbox<'_, W>, hints: &Hints)
     ensures { Puts W.contents out.old out.new (colour_hints hints.now) }
 {
     put_counted_line(out, &MODERN_COLOURS, hints.later_colours);
+    put_counted_line(out, &OFF_SWITCHES, hints.off_switches);
     put_counted_line(out, &BLINKING, hints.blinking_glyphs);
     put_counted_line(out, &DARK_GREY, hints.much_dark());
 }

@@ -250,7 +250,7 @@ fn put_lines_line<W: Write>(out: &mut Outbox<'_, W>, lines: Option<u16>, torn: b
     out.put(b"\n");
 }
 
-/// Whether what is printed takes just the stated lines, so that the cursor alone goes below them.
+/// Whether what is printed takes exactly the stated lines, so that only the cursor goes below them.
 fn comes_out(stated: usize, refusal: &Refusal<'_>) -> bool
     ensures { result ≡ comes_out stated refusal.now }
 {
@@ -275,8 +275,8 @@ fn without_over(hints: Hints) -> Hints
     }
 }
 
-/// The hints of a refusal that are printed, where so many lines are stated: none on empty rows, unless all of the
-/// content is played, and none on rows over the edge if what is printed takes just the stated lines.
+/// The hints of a refusal that are printed, by the number of stated lines: none on empty rows, unless all of the
+/// content is played, and none on rows over the edge if what is printed takes exactly the stated lines.
 pub fn told_hints(stated: usize, refusal: &Refusal<'_>) -> Hints
     ensures { result ≡ told_hints stated refusal.now }
 {

@@ -88,6 +88,18 @@ macro_rules! text {
     (modern $n:tt $at:tt) => {
         concat!("hint: ", $n, " sequences use modern colours (38, 48, 90 to 97, 100 to 107), first at ", $at, "\n")
     };
+    (off 1 $at:tt) => {
+        concat!(
+            "hint: 1 sequence uses modern off switches (22, 27, 39, 49), at ", $at,
+            ": write ESC[0m and the colours that stay\n"
+        )
+    };
+    (off $n:tt $at:tt) => {
+        concat!(
+            "hint: ", $n, " sequences use modern off switches (22, 27, 39, 49), first at ", $at,
+            ": write ESC[0m and the colours that stay\n"
+        )
+    };
     (blinks 1 $at:tt) => {
         concat!(
             "hint: 1 character blinks, at ", $at, "; if it should have a bright background: --ice\n"
@@ -262,10 +274,12 @@ static WIDE_CHARACTERS: [Row; 15] = rows! {
     screen(9 x 1, b"\xe2\x1b[0m\x96\x88") => nothing;
 };
 
-static COLOURS: [Row; 13] = rows! {
+static COLOURS: [Row; 15] = rows! {
     screen(9 x 1, b"\x1b[37;90mA\x1b[48m\x1b[107;38m") => modern(3, 0);
     screen(9 x 1, b"A\x1b[97;100m") => modern(1, 1);
-    screen(9 x 1, b"A\x1b[37;39;47;49;89;98;99;108m") => nothing;
+    screen(9 x 1, b"A\x1b[37;47;89;98;99;108m") => nothing;
+    screen(9 x 1, b"A\x1b[37;39;47;49m") => off(1, 1);
+    screen(9 x 1, b"\x1b[22mA\x1b[27mA\x1b[0m") => off(2, 0);
     screen(9 x 1, b"\x1b[5mab\x1b[0mc") => blinks(2, 4);
     screen(3 x 3, b"\x1b[5mabcdefg") => blinks(7, 4);
     screen(9 x 1, b"a\x1b[5m\t\x1b[K\x1b[0m") => nothing;

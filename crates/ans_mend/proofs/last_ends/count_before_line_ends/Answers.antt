@@ -8,7 +8,7 @@ use Rattle.std.specs.Prelude.{◌==◌}
 use Rattle.ans_model.specs.Screen.State.{Size}
 use Rattle.ans_mend.specs.LastEnds.{FrontPasses, LeavesMost, is_line_end, splits_line_end}
 use Rattle.ans_mend.proofs.FrontsPass.{passes_with_fewer}
-use Rattle.ans_mend.proofs.last_ends.count_passing.Goals as goal
+use Rattle.ans_mend.proofs.last_ends.count_before_line_ends.Goals as goal
 
 -- behind an offset from which on they are line ends they still are
 ends_later : (bytes : List ℕ) (from more : ℕ) → list_all is_line_end (drop from bytes) ≡ true
@@ -67,7 +67,7 @@ whole_before bytes k splits = elim (cases_Bool (splits_line_end bytes (k - 1))) 
 -- where the most that pass split a line end, that goes as a whole
 most_with_return : (z : Size) (bytes : List ℕ) (from k : ℕ) → splits_line_end bytes k ≡ true → k ≤ length bytes
     → from ≤ k - 1 → list_all is_line_end (drop from bytes) ≡ true → FrontPasses z bytes k
-    → ((more : ℕ) → k < more → more ≤ length bytes → ¬ FrontPasses z bytes more) → LeavesMost z bytes (k - 1)
+    → ((more : ℕ) → k < more → more ≤ length bytes → ¬ FrontPasses z bytes more) → LeavesMost 0 z bytes (k - 1)
 most_with_return z bytes from k splits within le ends passes most = record {
   leaves = record {
     within = omega (arith, within);
