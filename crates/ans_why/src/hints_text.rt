@@ -11,8 +11,8 @@ ghost use Rattle.ans_write.specs.Puts.{Puts};
 use crate::font::{font_name, has_other_code_page, is_latin_font};
 use crate::hint_rows::{
     BLINKING, BOARD_CODES, CONVERTED, DARK_GREY, HintRow, LATIN_LETTERS, LONE_RETURNS,
-    LOST_ESCAPES, MODERN_COLOURS, OFF_SWITCHES, OVERPRINTS, ROWS_OVER, SHORT_ESCAPES, SHOWN_ESCAPES,
-    TWO_BYTE_LETTERS, WIDE_CHARACTERS, Wording, bare_line_feeds, ended_rows,
+    LOST_ESCAPES, MODERN_COLOURS, OFF_SWITCHES, OVERPRINTS, ROWS_OVER, SHORT_ESCAPES,
+    SHOWN_ESCAPES, TWO_BYTE_LETTERS, WIDE_CHARACTERS, Wording, bare_line_feeds, ended_rows,
 };
 use crate::text_damage::TextDamage;
 use ans_hints::{Hints, WiderRows};
