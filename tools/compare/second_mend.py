@@ -188,6 +188,18 @@ def with_comments_counted(file, is_asked, said):
     return file[:-24] + bytes([number]) + file[-23:]
 
 
+def without_older_record(file, is_asked, said):
+    """The file without an older record, where nothing but that stands between its first end mark and its comments."""
+    if not is_asked or len(file) < 128 or file[-128:-123] != b"SAUCE":
+        return file
+    content, _, after = body_of(file, record_of(file)).partition(b"\x1a")
+    if len(after) < 128 or not after.startswith(b"SAUCE00") or after[128:].strip(b"\0\n\r\x1a"):
+        return file
+    begin = len(content) + 1
+    said.append(("older record", f"removed {len(after)} bytes of an older record, at {begin}"))
+    return file[:begin] + file[begin + len(after):]
+
+
 def idle_flags(asked, said, old_flags, is_stated_new):
     """The lines on flags that were asked for and did nothing."""
     kinds = {what for what, _ in said}
@@ -199,7 +211,7 @@ def idle_flags(asked, said, old_flags, is_stated_new):
     rows = [
         ("add-record", asked.width and "added a record" not in kinds, "the file has a record"),
         ("columns", asked.columns and "columns" not in kinds, "the record states them"),
-        ("record", asked.record and "comments" not in kinds, "the number of comments stays"),
+        ("record", asked.record and not kinds & {"comments", "older record"}, "the number of comments stays"),
         ("crlf", asked.crlf and "returns" not in kinds, some[0]),
         ("take-out", asked.take_out and not taken, "nothing of that kind is refused"),
         ("ice", asked.ice and old_flags & 1, "the flag is set"),
@@ -468,7 +480,8 @@ def mended(file, asked, chance):
     file = without_tail(file, said)
     given = with_record(file, asked.width, said) if asked.width else None
     least_is_asked = asked.least_lines or bool(given) and not asked.lines
-    based = with_comments_counted(with_columns(given or file, asked.columns, said), asked.record, said)
+    counted = with_comments_counted(with_columns(given or file, asked.columns, said), asked.record, said)
+    based = without_older_record(counted, asked.record, said)
     draft = draft_of(based, bool(given or asked.lines or asked.least_lines), said)
     draft.file()
     draft.is_iced = asked.ice

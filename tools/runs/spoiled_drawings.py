@@ -215,7 +215,7 @@ def comments_gone(p):
     return file_of(p, content_of(p), comments=2)
 
 
-@way("an older record", by_hand=r"is: an older record")
+@way("an older record")
 def older_record(p):
     content = content_of(p)
     old = record(80, len(p.rows), len(content))

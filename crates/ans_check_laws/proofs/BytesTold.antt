@@ -13,7 +13,7 @@ use Rattle.ans_model.specs.Bytes.{IsByte, blank, end_mark}
 use Rattle.ans_model.specs.File.Layout.{content}
 use Rattle.ans_model.specs.File.Record.{comment_count, number}
 use Rattle.ans_model.specs.File.Refusals.{has_record}
-use Rattle.ans_sauce.specs.Found.{body_in, front_in, record_in}
+use Rattle.ans_sauce.specs.Found.{after_end_mark, body_in, front_in, record_in}
 use Rattle.ans_forms.specs.declared.kinds.Before.{Before}
 use Rattle.ans_forms.specs.declared.kinds.TheConstants.Before as before
 use Rattle.ans_sauce.specs.Contents.{content_in, with_content}
@@ -31,6 +31,7 @@ use Rattle.ans_model.specs.declared.mends.Mends.{Mends}
 use Rattle.ans_mend.specs.Mending.{IsMended, first_lines, lacks_lines, opened, record_added, repaired}
 use Rattle.ans_mend.specs.Mending.{returned, widened}
 use Rattle.ans_mend.specs.Columns.{with_columns, with_width}
+use Rattle.ans_mend.specs.OlderRecord.{has_older, older_place, without_older}
 use Rattle.ans_mend.specs.Recounted.{blocks, blocks_from, comments_for, comments_in, is_block, recounted, with_comments}
 use Rattle.ans_check_laws.specs.CleanTexts.{IsCleanText}
 use Rattle.ans_check_laws.proofs.CleanPieces.{all_left, all_right}
@@ -134,6 +135,18 @@ comments_are_bytes count [] byte h = omega arith
 comments_are_bytes count (number ∷ []) byte h = All-head IsByte number [] h
 comments_are_bytes count (number ∷ other ∷ more) byte h = byte
 
+without_older_is_bytes : (file : List ℕ) → All IsByte file → All IsByte (without_older file)
+without_older_is_bytes file h = go (has_older file)
+  where
+    end : ℕ
+    end = older_place file + length (after_end_mark file)
+
+    go : (has : Bool) → All IsByte (if has then take (older_place file) file ++ drop end file else file)
+    go true =
+        All-append IsByte (take (older_place file) file) (drop end file) (All-take IsByte (older_place file) file h)
+        (All-drop IsByte end file h)
+    go false = h
+
 repaired_is_bytes : (mends : Mends) (file : List ℕ) → All IsByte file → All IsByte (repaired mends file)
 repaired_is_bytes mends file h = go mends.repair_record
   where
@@ -155,8 +168,11 @@ repaired_is_bytes mends file h = go mends.repair_record
         (all_blocks (front_in file))) (All-nil IsByte)) h
     by_test false = h
 
-    go : (repairs : Bool) → All IsByte (if repairs then recounted file else file)
-    go true = by_test (has_record file)
+    recounted_bytes : All IsByte (recounted file)
+    recounted_bytes = by_test (has_record file)
+
+    go : (repairs : Bool) → All IsByte (if repairs then without_older (recounted file) else file)
+    go true = without_older_is_bytes (recounted file) recounted_bytes
     go false = h
 
 opened_is_bytes : (asked : Mends) (file : List ℕ) → All IsByte file → All IsByte (opened asked file)

@@ -14,7 +14,7 @@ use Rattle.ans_sauce.specs.declared.writing.Reset.{Reset}
 use Rattle.ans_mend.specs.IdleText.{crlf_reason, idle_colours, idle_columns, idle_comments, idle_crlf, idle_ice}
 use Rattle.ans_mend.specs.IdleText.{idle_join_rows, idle_least, idle_line, idle_lines, idle_mixed, idle_record}
 use Rattle.ans_mend.specs.IdleText.{idle_take_out, idle_text, rows_reason}
-use Rattle.ans_mend.specs.MendedText.{comments_line, flag_line, front_line, help_text, helped, mended_text}
+use Rattle.ans_mend.specs.MendedText.{comments_line, flag_line, front_line, help_text, helped, mended_text, older_line}
 use Rattle.ans_mend.specs.MendedText.{offers_of}
 use Rattle.ans_mend.specs.MendedText.{record_line, width_line}
 use Rattle.ans_mend.specs.MendedText.{tail_line, taken_line, times_line, unmended_text}
@@ -60,6 +60,10 @@ width_clean (Some width) = search clean_lines depth 20
 comments_clean : (comments : Option Reset) → IsCleanText (comments_line comments)
 comments_clean None = clean_nil
 comments_clean (Some comments) = search clean_lines depth 20
+
+older_clean : (older : Option Times) → IsCleanText (older_line older)
+older_clean None = clean_nil
+older_clean (Some older) = search clean_lines depth 20
 
 -- ---- flags that did nothing
 
@@ -107,6 +111,7 @@ mended_clean m bytes =
       times_line_clean,
       width_clean,
       comments_clean,
+      older_clean,
       flag_clean,
       idle_text_clean,
       clean_lines,

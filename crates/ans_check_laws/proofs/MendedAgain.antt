@@ -33,6 +33,7 @@ use Rattle.ans_model.specs.declared.mends.Mends.{Mends}
 use Rattle.ans_mend.specs.Mending.{AreLastEndsGone, AreLinesFor, AreNamed, AreSequencesOut, IsEditedAsStated}
 use Rattle.ans_mend.specs.Mending.{IsMended, PassesAsStated, asks_for_lines, first_lines, lacks_lines, lined}
 use Rattle.ans_mend.specs.Mending.{TakesLines, iced, opened, recorded, repaired, returned, widened}
+use Rattle.ans_mend.specs.OlderRecord.{without_older}
 use Rattle.ans_mend.specs.Recounted.{recounted}
 use Rattle.ans_forms.specs.declared.kinds.Before.{Before}
 use Rattle.ans_check_laws.proofs.NothingGone.{all_left, nothing_gone, says_nothing}
@@ -116,7 +117,8 @@ module _ (mends : Mends) (no_rows : mends.join_rows ≡ false) (no_repair : mend
   based_stays =
       k.based_is ∙ ap (recorded mends) (nothing_cut file apart accepts k.cut k.is_cut)
       ∙ ap (λ (v : List ℕ). repaired mends (widened mends v)) (not_recorded mends.add_record)
-      ∙ ap (repaired mends) width_stays ∙ ap (λ (b : Bool). if b then recounted file else file) no_repair
+      ∙ ap (repaired mends) width_stays
+      ∙ ap (λ (b : Bool). if b then without_older (recounted file) else file) no_repair
 
   none_lacking : (m : Mends) → lacks_lines m file ≡ false
   none_lacking m =

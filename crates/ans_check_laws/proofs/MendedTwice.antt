@@ -35,6 +35,7 @@ use Rattle.ans_model.specs.declared.mends.Mends.{Mends}
 use Rattle.ans_mend.specs.Mending.{BeginsUnnamed, IsMended, WantsMending, end_mark_counted, front_bytes}
 use Rattle.ans_mend.specs.Mending.{asks_for_lines, first_lines, iced, lacks_lines, lined, opened, record_added}
 use Rattle.ans_mend.specs.Mending.{returned, widened}
+use Rattle.ans_mend.specs.OlderRecord.{without_older}
 use Rattle.ans_mend.specs.Recounted.{recounted}
 use Rattle.ans_mend.specs.FullRows.{AreRowEndsOut}
 use Rattle.ans_mend.specs.LastEnds.{AreLastEndsOut}
@@ -393,7 +394,8 @@ module _ (mends : Mends) (file : List ℕ) (mended : Mended) (draft : List ℕ) 
 
           based_at : h.based ≡ with_columns width added
           based_at =
-              h.based_is ∙ ap (λ (b : Bool). if b then recounted (widened mends added) else widened mends added)
+              h.based_is
+              ∙ ap (λ (b : Bool). if b then without_older (recounted (widened mends added)) else widened mends added)
               no_repair
               ∙ ap (λ (columns : Option ℕ). option_map_or (λ w. with_columns w added) columns added) is
 

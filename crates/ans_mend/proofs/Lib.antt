@@ -26,6 +26,7 @@ mod NamedFiles
 pub mod NamedBound
 pub mod MendLemmas
 pub mod MendedLemmas
+pub mod OlderOut
 mod MendRoomLemmas
 mod EditLemmas
 mod DraftRoomLemmas

@@ -21,6 +21,8 @@ use Rattle.ans_mend.specs.NewRecord.{new_record, takes_record, with_new_record}
 use Rattle.ans_mend.specs.Tail.{IsTailCut}
 use Rattle.ans_model.specs.declared.mends.Mends.{Mends}
 use Rattle.ans_mend.specs.Mending.{asked_for, record_added, recorded, repaired, widened}
+use Rattle.ans_mend.specs.OlderRecord.{without_older}
+use Rattle.ans_mend.proofs.OlderOut.{without_older_feeds, without_older_length}
 use Rattle.ans_mend.specs.Recounted.{comments_in, with_comments}
 use Rattle.ans_mend.specs.Columns.{with_columns, with_width}
 use Rattle.ans_sauce.specs.Fields.{two_bytes, with_record}
@@ -193,29 +195,44 @@ comments_record_length n file long =
     overwritten_length 104 (n ∷ []) (record_in file) (omega (arith, record_long)) ∙ record_long
 
 module _ (file : List ℕ) where
-  repaired_length : (mends : Mends) → length (repaired mends file) ≡ length file
-  repaired_length mends = go mends.repair_record (has_record file) refl
+  recounted_length : length (recounted file) ≡ length file
+  recounted_length = go (has_record file) refl
     where
-      go : (asked has : Bool) → has_record file ≡ has
-          → length (if asked then (if has
-          then with_record (with_comments (comments_in file) (record_in file)) file else file) else file)
+      go : (has : Bool) → has_record file ≡ has
+          → length (if has then with_record (with_comments (comments_in file) (record_in file)) file else file)
           ≡ length file
-      go false has is = refl
-      go true false is = refl
-      go true true is = same_length 104 (comments_in file ∷ []) file (recorded_long file is) (omega arith)
+      go false is = refl
+      go true is = same_length 104 (comments_in file ∷ []) file (recorded_long file is) (omega arith)
 
-  repaired_front : (mends : Mends) → front_in (repaired mends file) ≡ front_in file
-  repaired_front mends = go mends.repair_record (has_record file) refl
+  recounted_front : front_in (recounted file) ≡ front_in file
+  recounted_front = go (has_record file) refl
     where
-      go : (asked has : Bool) → has_record file ≡ has
-          → front_in (if asked then (if has
-          then with_record (with_comments (comments_in file) (record_in file)) file else file) else file)
+      go : (has : Bool) → has_record file ≡ has
+          → front_in (if has then with_record (with_comments (comments_in file) (record_in file)) file else file)
           ≡ front_in file
-      go false has is = refl
-      go true false is = refl
-      go true true is =
+      go false is = refl
+      go true is =
           front_before (front_in file) (with_comments (comments_in file) (record_in file))
           (comments_record_length (comments_in file) file (recorded_long file is))
+
+  repaired_length : (mends : Mends) → length (repaired mends file) ≤ length file
+  repaired_length mends = go mends.repair_record
+    where
+      go : (asked : Bool) → length (if asked then without_older (recounted file) else file) ≤ length file
+      go false = omega arith
+      go true =
+          let less = without_older_length (recounted file) in
+          let same = recounted_length in omega (arith, less, same)
+
+  repaired_feeds : (mends : Mends) → line_feeds (front_in (repaired mends file)) ≤ line_feeds (front_in file)
+  repaired_feeds mends = go mends.repair_record
+    where
+      go : (asked : Bool) → line_feeds (front_in (if asked then without_older (recounted file) else file))
+          ≤ line_feeds (front_in file)
+      go false = omega arith
+      go true =
+          let less = without_older_feeds (recounted file) in
+          let same = ap line_feeds recounted_front in omega (arith, less, same)
 
 pub recorded_length : (mends : Mends) (cut : List ℕ) → length (recorded mends cut) ≤ length cut + 129
 recorded_length mends cut =
@@ -227,7 +244,7 @@ recorded_length mends cut =
 recorded_feeds : (mends : Mends) (cut : List ℕ) → line_feeds (front_in (recorded mends cut)) ≤ line_feeds cut
 recorded_feeds mends cut =
     let wide : List ℕ = widened mends (record_added mends cut) in
-    let last = ap line_feeds (repaired_front wide mends) in
+    let last = repaired_feeds wide mends in
     let same = ap line_feeds (widened_front (record_added mends cut) mends) in
     let added = added_feeds mends cut in omega (arith, last, same, added)
 

@@ -36,7 +36,7 @@ use Rattle.std.specs.Prelude.{IsTrue, ◌↔◌}
 use Rattle.ans_mend.specs.Mending.{HasSettled, IfNotMended, IsMended, IsRead, IsReason, IsReasonFor, IsReasonOfContent}
 use Rattle.ans_mend.specs.Mending.{IsSettled, WantsMending, asked_for, asks_for_lines, end_mark_counted, first_lines}
 use Rattle.ans_mend.specs.Mending.{front_bytes, gives_record, lacks_lines, lined, opened, record_put, recorded}
-use Rattle.ans_mend.specs.Mending.{comments_put, width_set}
+use Rattle.ans_mend.specs.Mending.{comments_put, older_put, width_set}
 use Rattle.ans_sauce.specs.declared.writing.Reset.{Reset}
 use Rattle.ans_mend.specs.MendingRoom.{LacksScreenFor, LacksScreenInTheEnd}
 use Rattle.ans_mend.specs.MendingSteps.{IsEditedTooLong, IsJudgement, IsRefused, IsSized, IsTooLong, reading_in}
@@ -202,14 +202,15 @@ passing z false bytes good every =
     }
 
 -- what is told of it
-abbrev pub told : Mends → Option Times → Option GivenRecord → Option Reset → Option Reset → Edits → Option ℕ →
+abbrev pub told : Mends → Option Times → Option GivenRecord → Option Reset → Option Reset → Option Times → Edits → Option ℕ →
     Reading → Judgement → ℕ → Mended
-told mends tail given width comments edits mark was judgement size = record {
+told mends tail given width comments older edits mark was judgement size = record {
   asked = mends;
   tail = tail;
   given_record = given;
   width = width;
   comments = comments;
+  older = older;
   edits = edits;
   non_blink = record { was = was.non_blink; is = judgement.reading.non_blink };
   lines = record { was = was.lines; is = judgement.reading.lines };
@@ -271,11 +272,12 @@ module _ (mends : Mends) (file cut : List ℕ) (is_cut : IsTailCut file cut) (as
           → IsSized judgement.front judgement.reading.content was.counts_end_mark settled n draft
           → length based ≤ longest_file → length settled ≤ longest_file → (given : Option GivenRecord)
           → given ≡ record_put mends cut → (width : Option Reset) → width ≡ width_set mends cut
-          → (comments : Option Reset) → comments ≡ comments_put mends cut → (tail : Option Times)
+          → (comments : Option Reset) → comments ≡ comments_put mends cut → (older : Option Times)
+          → older ≡ older_put mends cut → (tail : Option Times)
           → tail ≡ times_at (length file - length cut) (length cut)
-          → IsMended mends file (told mends tail given width comments edits mark was judgement n) draft
-      mended was n draft was_is sized based_fits settled_fits given given_is width width_is comments comments_is tail
-          tail_is =
+          → IsMended mends file (told mends tail given width comments older edits mark was judgement n) draft
+      mended was n draft was_is sized based_fits settled_fits given given_is width width_is comments comments_is older
+          older_is tail tail_is =
           let front : List ℕ = front_bytes judgement.front in
           let none : list_any is_end_mark front ≡ false = unmarked judgement.front in
           let accepts : Accepts settled apart = judged.accepts in
@@ -335,6 +337,7 @@ module _ (mends : Mends) (file cut : List ℕ) (is_cut : IsTailCut file cut) (as
             given_record = given_is;
             width = width_is;
             comments = comments_is;
+            older = older_is;
             flag_was = ap (λ (r : Reading). r.non_blink) was_is;
             flag_is = ap (λ (r : Reading). r.non_blink) judged.reading;
             lines_were = opened_stated asked based was.lines (ap (λ (r : Reading). r.lines) was_is);

@@ -25,7 +25,7 @@ abbrev pub idle_columns : Mended → Bool
 idle_columns m = is_some m.asked.columns && keeps_number m.width
 
 abbrev pub idle_comments : Mended → Bool
-idle_comments m = m.asked.repair_record && keeps_number m.comments
+idle_comments m = m.asked.repair_record && keeps_number m.comments && not (is_some m.older)
 
 abbrev pub idle_crlf : Mended → Bool
 idle_crlf m = m.asked.crlf && not (is_some m.edits.returns)

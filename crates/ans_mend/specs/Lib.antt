@@ -10,6 +10,7 @@ pub mod TakingOut
 pub mod MendedText
 pub mod IdleText
 pub mod LastEnds
+pub mod OlderRecord
 pub mod NamedColours
 pub mod NameSearch
 pub mod Mending

@@ -84,6 +84,13 @@ abbrev pub comments_line : Option Reset → List ℕ
 comments_line None = []
 comments_line (Some comments) = reset_line (codes "comments ") comments
 
+-- an older record that was removed
+abbrev pub older_line : Option Times → List ℕ
+older_line None = []
+older_line (Some older) =
+    codes "removed " ++ (counted_text older.count (codes "byte") ++ (codes " of an older record, at " ++ (decimal older.first
+    ++ codes "\n")))
+
 -- the flag is set, cleared, or stays, which is said if a switch for bright backgrounds was removed
 abbrev pub flag_line : Bool → Bool → Bool → List ℕ
 flag_line switched false true = codes "set the non-blink flag\n"
@@ -103,7 +110,7 @@ front_line false = []
 abbrev pub mended_text : Mended → List ℕ
 mended_text m =
     tail_line m.tail
-    ++ (record_line m.given_record ++ (width_line m.width ++ (comments_line m.comments
+    ++ (record_line m.given_record ++ (width_line m.width ++ (comments_line m.comments ++ (older_line m.older
     ++ (times_line (codes "added ") (codes " carriage return before a line feed")
     (codes " carriage returns before line feeds") m.edits.returns
     ++ (flat_map taken_line m.edits.told.kinds
@@ -115,7 +122,7 @@ mended_text m =
     ++ (times_line (codes "named the colours of ") (codes " sequence") (codes " sequences") m.edits.named_colours
     ++ (reset_line (codes "lines ") m.lines
     ++ (end_mark_line m.end_mark
-    ++ (front_line m.front ++ (reset_line (codes "file size ") m.file_size ++ idle_text m)))))))))))))
+    ++ (front_line m.front ++ (reset_line (codes "file size ") m.file_size ++ idle_text m))))))))))))))
 
 -- ---- why there is none
 

@@ -36,6 +36,7 @@ use Rattle.ans_mend.specs.LineEnds.{ArePut, with_line_ends}
 use Rattle.ans_mend.specs.FullRows.{HasFullRows}
 use Rattle.ans_mend.specs.NamedColours.{HasNamedColours, begins_unnamed}
 use Rattle.ans_mend.specs.NewRecord.{record_given, refusal_of, takes_record, with_new_record}
+use Rattle.ans_mend.specs.OlderRecord.{older_gone, without_older}
 use Rattle.ans_mend.specs.Recounted.{comments_set, recounted}
 use Rattle.std.specs.Option.{option_map_or}
 use Rattle.ans_mend.specs.Tail.{IsTailCut}
@@ -73,9 +74,9 @@ record_added mends cut = option_map_or (λ width. with_new_record width cut) men
 abbrev pub widened : Mends → List ℕ → List ℕ
 widened mends file = option_map_or (λ width. with_columns width file) mends.columns file
 
--- and counts the comments that are there, if it is to be repaired
+-- and counts the comments that are there, and has no older record before it, if it is to be repaired
 abbrev pub repaired : Mends → List ℕ → List ℕ
-repaired mends file = if mends.repair_record then recounted file else file
+repaired mends file = if mends.repair_record then without_older (recounted file) else file
 
 abbrev pub recorded : Mends → List ℕ → List ℕ
 recorded mends cut = repaired mends (widened mends (record_added mends cut))
@@ -84,6 +85,11 @@ recorded mends cut = repaired mends (widened mends (record_added mends cut))
 abbrev pub comments_put : Mends → List ℕ → Option Reset
 comments_put mends cut =
     if mends.repair_record then comments_set (widened mends (record_added mends cut)) else None
+
+-- the older record that is taken out there
+abbrev pub older_put : Mends → List ℕ → Option Times
+older_put mends cut =
+    if mends.repair_record then older_gone (recounted (widened mends (record_added mends cut))) else None
 
 -- the width that was stated and the one that is, where one is asked for
 abbrev pub width_set : Mends → List ℕ → Option Reset
@@ -296,6 +302,7 @@ pub record IsMended (mends : Mends) (file : List ℕ) (mended : Mended) (draft :
   pub given_record : mended.given_record ≡ record_put mends cut
   pub width : mended.width ≡ width_set mends cut
   pub comments : mended.comments ≡ comments_put mends cut
+  pub older : mended.older ≡ older_put mends cut
   pub flag_was : mended.non_blink.was ≡ is_non_blink (record_in (opened asked based))
   pub flag_is : mended.non_blink.is ≡ is_non_blink (record_in settled)
   pub lines_were : mended.lines.was ≡ stated_lines (record_in based)

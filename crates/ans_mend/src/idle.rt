@@ -49,11 +49,11 @@ fn idle_columns(mended: &Mended) -> bool
     mended.asked.columns.is_some() && keeps_number(&mended.width)
 }
 
-/// Whether the number of comments was not changed.
+/// Whether the number of comments was not changed, and no older record removed.
 fn idle_comments(mended: &Mended) -> bool
     ensures { result ≡ idle_comments mended.now }
 {
-    mended.asked.repair_record && keeps_number(&mended.comments)
+    mended.asked.repair_record && keeps_number(&mended.comments) && mended.older.is_none()
 }
 
 /// Whether no return was added.

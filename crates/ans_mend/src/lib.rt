@@ -26,6 +26,7 @@ mod name_search;
 mod names;
 mod naming;
 mod new_record;
+mod older_record;
 mod outcome;
 mod reading;
 mod room;

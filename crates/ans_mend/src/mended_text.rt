@@ -2,7 +2,7 @@
 ghost use Rattle.std.specs.Prelude.{◌≡◌};
 ghost use Rattle.std.specs.List.{flat_map};
 ghost use Rattle.ans_mend.specs.MendedText.{at_text, by_count, comments_line, flag_line, front_line, has_switch};
-ghost use Rattle.ans_mend.specs.MendedText.{mended_text, others_text, quoted_excerpt, record_line, replaced_text};
+ghost use Rattle.ans_mend.specs.MendedText.{mended_text, older_line, others_text, quoted_excerpt, record_line, replaced_text};
 ghost use Rattle.ans_mend.specs.MendedText.{tail_line, taken_line, times_line, width_line};
 ghost use Rattle.ans_write.specs.Puts.{Puts};
 
@@ -130,6 +130,18 @@ fn put_comments_line<W: Write>(out: &mut Outbox<'_, W>, comments: &Option<Reset>
     }
 }
 
+fn put_older_line<W: Write>(out: &mut Outbox<'_, W>, older: &Option<Times>)
+    ensures { Puts W.contents out.old out.new (older_line older.now) }
+{
+    if let Some(older) = older {
+        out.put(b"removed ");
+        put_counted(out, older.count as u64, b"byte");
+        out.put(b" of an older record, at ");
+        out.put_decimal(older.first as u64);
+        out.put(b"\n");
+    }
+}
+
 fn put_width_line<W: Write>(out: &mut Outbox<'_, W>, width: &Option<Reset>)
     ensures { Puts W.contents out.old out.new (width_line width.now) }
 {
@@ -174,6 +186,7 @@ pub fn put_mended<W: Write>(out: &mut Outbox<'_, W>, mended: &Mended)
     put_record_line(out, &mended.given_record);
     put_width_line(out, &mended.width);
     put_comments_line(out, &mended.comments);
+    put_older_line(out, &mended.older);
     put_times_line(
         out,
         b"added ",

@@ -5,9 +5,10 @@ ghost use Rattle.ans_model.specs.Bytes.{longest_file};
 ghost use Rattle.ans_mend.specs.Drafts.{memory_of};
 ghost use Rattle.ans_mend.specs.Mending.{IfNotMended, IsMended, IsReason, IsReasonFor, IsSettled, lacks_lines, opened};
 ghost use Rattle.ans_mend.specs.Mending.{record_added, record_put, recorded, widened, width_set};
-ghost use Rattle.ans_mend.specs.Mending.{comments_put, repaired};
+ghost use Rattle.ans_mend.specs.Mending.{comments_put, older_put, repaired};
 ghost use Rattle.ans_mend.specs.Columns.{columns_set};
-ghost use Rattle.ans_mend.specs.Recounted.{comments_set};
+ghost use Rattle.ans_mend.specs.OlderRecord.{older_gone};
+ghost use Rattle.ans_mend.specs.Recounted.{comments_set, recounted};
 ghost use Rattle.ans_mend.specs.MendingRoom.{LacksRoom, LacksScreenInTheEnd, most_added, most_put};
 ghost use Rattle.ans_mend.specs.MendingSteps.{IsSized, IsTooLong, reading_in};
 ghost use Rattle.ans_mend.specs.declared.outcome.MendError.TheVariants.{Memory};
@@ -21,6 +22,7 @@ use crate::room::room_for;
 use ans_model::beginning::SAFE_BEGINNING;
 use ans_model::limits::MAX_FILE;
 use ans_model::mends::Mends;
+use ans_pens::Times;
 use ans_verdict::Screens;
 
 /// Gives the file a record of the width that is asked for, if it takes one. Returns what was added.
@@ -48,17 +50,30 @@ fn state_columns(draft: &mut Draft<'_>, mends: &Mends) -> Option<Reset>
     }
 }
 
-/// Has the record count the comments that are there, if it is to be repaired. Returns the number that it counted,
-/// and the one that it counts now.
-fn repair_record(draft: &mut Draft<'_>, mends: &Mends) -> Option<Reset>
+/// What was done with a record that was to be repaired.
+#[derive(Clone, Copy)]
+struct Repairs {
+    comments: Option<Reset>,
+    older: Option<Times>,
+}
+
+/// Has the record count the comments that are there, and removes an older record before it, if it is to be repaired.
+/// Returns the number that it counted and the one that it counts now, and what was removed.
+fn repair_record(draft: &mut Draft<'_>, mends: &Mends) -> Repairs
     ensures file { draft.new.file ≡ repaired mends.now draft.old.file }
-    ensures set { result ≡ (if mends.now.repair_record then comments_set draft.old.file else None) }
+    ensures set { result.comments ≡ (if mends.now.repair_record then comments_set draft.old.file else None) }
+    ensures gone { result.older ≡ (if mends.now.repair_record then older_gone (recounted draft.old.file) else None) }
     ensures memory { memory_of draft.new ≡ memory_of draft.old }
 {
-    if mends.repair_record {
-        return draft.recount();
+    if !mends.repair_record {
+        return Repairs {
+            comments: None,
+            older: None,
+        };
     }
-    None
+    let comments = draft.recount();
+    let older = draft.drop_older_record();
+    Repairs { comments, older }
 }
 
 /// What was done with the record before it is read.
@@ -66,7 +81,7 @@ fn repair_record(draft: &mut Draft<'_>, mends: &Mends) -> Option<Reset>
 struct FirstRecord {
     given: Option<GivenRecord>,
     width: Option<Reset>,
-    comments: Option<Reset>,
+    repairs: Repairs,
 }
 
 /// Gives the file a record if that is asked for and it takes one, states the width that is asked for, and
@@ -76,16 +91,17 @@ fn set_record(draft: &mut Draft<'_>, mends: &Mends) -> FirstRecord
     ensures file { draft.new.file ≡ recorded mends.now draft.old.file }
     ensures given { result.given ≡ record_put mends.now draft.old.file }
     ensures width { result.width ≡ width_set mends.now draft.old.file }
-    ensures comments { result.comments ≡ comments_put mends.now draft.old.file }
+    ensures comments { result.repairs.comments ≡ comments_put mends.now draft.old.file }
+    ensures older { result.repairs.older ≡ older_put mends.now draft.old.file }
     ensures memory { memory_of draft.new ≡ memory_of draft.old }
 {
     let given = give_record(draft, mends);
     let width = state_columns(draft, mends);
-    let comments = repair_record(draft, mends);
+    let repairs = repair_record(draft, mends);
     FirstRecord {
         given,
         width,
-        comments,
+        repairs,
     }
 }
 
@@ -205,7 +221,8 @@ pub fn mend_on<S: Screens>(
         tail,
         given_record: record.given,
         width: record.width,
-        comments: record.comments,
+        comments: record.repairs.comments,
+        older: record.repairs.older,
         edits: settled.edits,
         non_blink: NonBlink {
             was: settled.was.non_blink,

@@ -41,6 +41,9 @@ pub struct Mended {
     pub width: Option<Reset>,
     /// How many comments the record counted, and counts now, if it was to be repaired.
     pub comments: Option<Reset>,
+    /// How many bytes of an older record were removed, and where the first of them was, in bytes from the file's
+    /// start, if there was one and the record was to be repaired.
+    pub older: Option<Times>,
     pub edits: Edits,
     /// The record's non-blink flag, before and now.
     pub non_blink: NonBlink,

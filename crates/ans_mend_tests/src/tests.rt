@@ -15,6 +15,7 @@ const UNCHANGED: Mended = Mended {
     given_record: None,
     width: None,
     comments: None,
+    older: None,
     edits: Edits {
         returns: None,
         told: Told {
@@ -79,6 +80,7 @@ fn changed_once() -> Mended {
         }),
         width: Some(Reset { was: 80, is: 1 }),
         comments: Some(Reset { was: 0, is: 3 }),
+        older: times(1, 30),
         edits: Edits {
             returns: times(1, 4),
             told,
@@ -101,6 +103,7 @@ const SAID_ONCE: &[u8] = b"cut off 1 byte after the record, at 137\n\
     added an end mark and a record for 1 column, at 9\n\
     columns 1, was 80\n\
     comments 3, was 0\n\
+    removed 1 byte of an older record, at 30\n\
     added 1 carriage return before a line feed, at 4\n\
     removed <ESC>[?33h at 0\n\
     set the non-blink flag\n\
@@ -141,6 +144,7 @@ fn changed_often() -> Mended {
             is: 1024,
         }),
         comments: Some(Reset { was: 7, is: 7 }),
+        older: times(129, 31),
         edits: Edits {
             returns: times(2, 4),
             told,
@@ -164,6 +168,7 @@ fn changed_often() -> Mended {
 
 const SAID_OFTEN: &[u8] = b"cut off 2 bytes after the record, at 2724\n\
     added an end mark and a record for 1024 columns, at 2596, in place of 3 bytes\n\
+    removed 129 bytes of an older record, at 31\n\
     added 2 carriage returns before line feeds, first at 4\n\
     removed <ESC>[?25l at 5, and 1 more like it\n\
     removed <ESC>[=3h at 0\n\

@@ -363,9 +363,8 @@ is: what the bytes are known as at which the drawing is refused
   mode of DOS, the switch for bright backgrounds,
   the switch that hides or shows the cursor:
     anscheck mend --take-out FILE > FIXED
-  comments that the record does not count:
+  comments that the record does not count, or an older record:
     anscheck mend --record FILE > FIXED
-  an older record                      delete it
   another drawing                      split it after the first record
   an arrow in the drawing              use another character, such as '>'
   a sequence of modern terminals       write what the line says
@@ -474,7 +473,7 @@ title, author, group and date. Offsets in it count from 0: byte 96 is the first
 of the width. 'anscheck sauce FILE' prints it.
 
 This sets the number of comments to those that there are, if only one number is
-possible:
+possible, and removes an older record before it:
   anscheck mend --record FILE > FIXED
 ",
     ),

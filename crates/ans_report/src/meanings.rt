@@ -143,10 +143,10 @@ drawing that really is longer. No command does that.
 The byte 1Ah ends a drawing, but something follows it before the comments or
 the record. Some programs would play it, others would not.
 
-See the line 'is:' of 'anscheck why'. Comments that are not counted are counted
-by this, if only one number is possible:
+See the line 'is:' of 'anscheck why'. This counts comments that are not counted,
+if only one number is possible, and removes an older record:
   anscheck mend --record FILE > FIXED
-Delete an older record. If a second drawing follows it, split the file there.
+If a second drawing follows an older record, split the file there.
 An arrow in the drawing is this very byte: use another character, such as '>'.
 No command does that.
 "

@@ -23,6 +23,7 @@ const CUT: Mended = Mended {
     given_record: None,
     width: None,
     comments: None,
+    older: None,
     edits: Edits {
         returns: None,
         told: Told {

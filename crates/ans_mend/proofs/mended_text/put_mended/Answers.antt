@@ -7,6 +7,7 @@ returns g c =
     (Puts-then c.put_record_line.ensures
     (Puts-then c.put_width_line.ensures
     (Puts-then c.put_comments_line.ensures
+    (Puts-then c.put_older_line.ensures
     (Puts-then c.put_times_line.ensures
     (Puts-then c.put_taken_lines.ensures
     (Puts-then (rw c.has_switch.ensures at c.put_flag_line.ensures)
@@ -15,4 +16,4 @@ returns g c =
     (Puts-then c.put_times_line-4.ensures
     (Puts-then c.put_reset_line.ensures
     (Puts-then c.put_end_mark_line.ensures
-    (Puts-then c.put_front_line.ensures (Puts-then c.put_reset_line-2.ensures c.put_idle_lines.ensures)))))))))))))
+    (Puts-then c.put_front_line.ensures (Puts-then c.put_reset_line-2.ensures c.put_idle_lines.ensures))))))))))))))

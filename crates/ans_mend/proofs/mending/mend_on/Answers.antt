@@ -104,7 +104,8 @@ returns-clause-mended g c =
     c.in_ok-settled.settled.was c.in_ok-file_size.file_size c.set_file_size.new.draft.file
     c.in_ok-settled.ensures.was c.in_ok-file_size.ensures.sized fits c.in_ok-settled.ensures.length
     c.set_record-record.result.given c.set_record-record.ensures.given c.set_record-record.result.width
-    c.set_record-record.ensures.width c.set_record-record.result.comments c.set_record-record.ensures.comments
+    c.set_record-record.ensures.width c.set_record-record.result.repairs.comments
+    c.set_record-record.ensures.comments c.set_record-record.result.repairs.older c.set_record-record.ensures.older
     c.cut_tail-tail.result
     c.cut_tail-tail.ensures.times
 
