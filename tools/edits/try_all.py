@@ -5,6 +5,7 @@ Run it anywhere, with the names of crates or with none for all:
 
     python3 tools/edits/try_all.py [CRATE..]
     python3 tools/edits/try_all.py --kept CRATE[/EDIT]..
+    python3 tools/edits/try_all.py --together CRATE[/EDIT]..
 
 The gate tries the edits in each crate's `must-fail/`. Those here tell less, or as much as one there. They are
 kept apart because each takes 6 to 40 seconds of a processor, and the gate is to end within three hours on two slow
@@ -16,10 +17,16 @@ begins without a check from nothing, and a run that is cut loses nothing; the cr
 as `ans_mend/tail_told_at_the_record`. An edit that cannot be read, that is refused only because a name is gone, or by a
 limit alone, counts as one that is let through: such a refusal shows nothing. It reads the kit's `rt` for all that, so
 another kit may want another script.
+
+With `--together` one check tries many edits, each in another function: a proof of a function reads the contracts of
+those that it calls, and not what is in them. An edit counts as refused if its own function is not proved. The others,
+and those outside of functions, are then tried one by one as with `--kept`. That takes a fourth of the time.
 """
+import collections
 import importlib.machinery
 import importlib.util
 import os
+import re
 import shutil
 import subprocess
 import sys
@@ -60,7 +67,7 @@ def edits_named(name):
     return crate, [f"{EDITS}/{crate}/{each}" for each in named]
 
 
-def try_over_kept(rt, crate, edits, room):
+def try_over_kept(rt, crate, edits, room, together):
     """Tries edits over a copy of the crate's kept work, and returns how many are not refused."""
     for below in crate.below():
         if below.build_rlib(["--jobs", "1"], anew=False):
@@ -68,7 +75,7 @@ def try_over_kept(rt, crate, edits, room):
     not_refused = 0
     with tempfile.TemporaryDirectory(prefix="anscheck-kept-") as kept:
         shutil.copytree(f"{room}/crates/{crate.name}/out/incremental", kept, dirs_exist_ok=True)
-        for edit in edits:
+        for edit in try_together(rt, crate, edits, kept) if together else edits:
             came, line = rt.must_fail(crate, edit, ["--jobs", "1"], kept)
             is_refused = came == rt.REFUSED and "(only because" not in line
             not_refused += not is_refused
@@ -76,7 +83,82 @@ def try_over_kept(rt, crate, edits, room):
     return not_refused
 
 
-def main_over_kept(names):
+# An edit in one function: its file, that function's name and line, and its pairs of old and new texts.
+Place = collections.namedtuple("Place", "edit file function line pairs")
+FUNCTION = re.compile(r"\s*(?:pub(?:\(\w+\))? )?(?:const )?fn (\w+)")
+GONE = re.compile(r"has no field|is not in scope|has no `|was not admitted")
+
+
+def functions_of(text):
+    """The name of each function of a file, and its first and last line, counted from 1."""
+    lines, found = text.split("\n"), []
+    for first, line in enumerate(lines, 1):
+        begins = FUNCTION.match(line)
+        if begins:
+            end = line[:len(line) - len(line.lstrip())] + "}"
+            last = next((n for n in range(first, len(lines)) if lines[n] == end), len(lines) - 1)
+            found.append((begins[1], first, last + 1))
+    return found
+
+
+def place_of(crate, edit):
+    """Where an edit is, if it is in one function."""
+    with open(edit, encoding="utf-8") as its:
+        lines = its.read().split("\n")
+    told = {word: [line[len(word):] for line in lines if line.startswith(word)] for word in ("file: ", "old: ", "new: ")}
+    file = told["file: "][0]
+    with open(f"{crate.folder}/{file}", encoding="utf-8") as its:
+        text = its.read()
+    hit = set()
+    for old in told["old: "]:
+        line = text[:text.find(old)].count("\n") + 1
+        hit |= {function[:2] for function in functions_of(text) if function[1] <= line <= function[2]} or {None}
+    if not file.startswith("src/") or len(hit) != 1 or None in hit or any(text.count(old) != 1 for old in told["old: "]):
+        return None
+    (name, line), = hit
+    return Place(edit, file, name, line, list(zip(told["old: "], told["new: "])))
+
+
+def in_batches(places):
+    """Lists of places, each in another function."""
+    batches = []
+    for place in places:
+        free = (batch for batch in batches if all((it.file, it.line) != (place.file, place.line) for it in batch))
+        batch = next(free, None)
+        if batch is None:
+            batches.append(batch := [])
+        batch.append(place)
+    return batches
+
+
+def is_refused(crate, place, said):
+    """Whether a check said that the edit's own function is not proved, for more than a name that is gone."""
+    module = re.sub(r"(^|::)(lib|main|mod)$", "", place.file[len("src/"):-len(".rt")].replace("/", "::"))
+    path = re.escape("::".join(filter(None, [crate.name, module])))
+    verdict = re.search(rf"^fn {path}::(?:\w+::)*{place.function}: (not proved|no proof: expected answers)", said, re.M)
+    errors = re.findall(rf"^(?:\./)?proofs/\S*/{place.function}/\S+:\d+:\d+: error.*", said, re.M)
+    return bool(verdict) and not (verdict[1] == "not proved" and errors and all(map(GONE.search, errors)))
+
+
+def try_together(rt, crate, edits, kept):
+    """Tries edits in batches, and returns those that no batch shows to be refused."""
+    places = [place_of(crate, edit) for edit in edits]
+    left = [edit for edit, place in zip(edits, places) if place is None]
+    for batch in in_batches([place for place in places if place]):
+        texts = {}
+        for place in batch:
+            text = texts.get(place.file) or open(f"{crate.folder}/{place.file}", encoding="utf-8").read()
+            for old, new in place.pairs:
+                text = text.replace(old, new)
+            texts[place.file] = text
+        said = rt.checked(crate, texts, ["--jobs", "1"], kept).stdout
+        refused = [place for place in batch if is_refused(crate, place, said)]
+        left += [place.edit for place in batch if place not in refused]
+        print(f"{crate.name}: of {len(batch)} edits tried together {len(refused)} are refused", flush=True)
+    return left
+
+
+def main_over_kept(names, together):
     rt, not_refused, wanted = load_rt(), 0, {}
     for name in names:
         crate, edits = edits_named(name)
@@ -88,14 +170,14 @@ def main_over_kept(names):
         crates = {crate.name: crate for crate in rt.rtlib.crates_below(room)}
         for crate, edits in wanted.items():
             copy_built(room, [crate, *(below.name for below in crates[crate].below())])
-            not_refused += try_over_kept(rt, crates[crate], edits, room)
+            not_refused += try_over_kept(rt, crates[crate], edits, room, together)
         os.chdir(ROOT)
     return 1 if not_refused else 0
 
 
 def main(names):
-    if names[:1] == ["--kept"]:
-        return main_over_kept(names[1:])
+    if names[:1] in (["--kept"], ["--together"]):
+        return main_over_kept(names[1:], together=names[0] == "--together")
     crates = [name for name in sorted(os.listdir(EDITS)) if os.path.isdir(f"{EDITS}/{name}")]
     unknown = [name for name in names if name not in crates]
     if unknown:
