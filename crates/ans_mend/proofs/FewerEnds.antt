@@ -34,7 +34,8 @@ some_fewer z memory twice file content used left times has is within are leaves 
     let most : LeavesMost most_sequences z (content_in file) left =
     subst (λ (v : List ℕ). LeavesMost most_sequences z v left) is leaves in
     let bytes : take left memory ≡ take left (content_in file) =
-    sym (take-take left (length (content_in file)) memory (leaves_within most_sequences (content_in file) left most.leaves))
+    sym (take-take left (length (content_in file)) memory
+    (leaves_within most_sequences (content_in file) left most.leaves))
     ∙ ap (take left) (content_bytes memory used file within are) in
     of_recorded z file twice (take left memory) times has
     (inl (record {

@@ -202,8 +202,8 @@ passing z false bytes good every =
     }
 
 -- what is told of it
-abbrev pub told : Mends → Option Times → Option GivenRecord → Option Reset → Option Reset → Option Times → Edits → Option ℕ →
-    Reading → Judgement → ℕ → Mended
+abbrev pub told : Mends → Option Times → Option GivenRecord → Option Reset → Option Reset → Option Times → Edits
+    → Option ℕ → Reading → Judgement → ℕ → Mended
 told mends tail given width comments older edits mark was judgement size = record {
   asked = mends;
   tail = tail;

@@ -60,8 +60,7 @@ without_older_length file = go (has_older file)
 
 -- its front is that of the file without some bytes
 module _ (file : List ℕ) (has : has_record file ≡ true) (place count : ℕ)
-    (within : place + count ≤ length (front_in file))
-where
+    (within : place + count ≤ length (front_in file)) where
   front : List ℕ
   front = front_in file
 

@@ -1,5 +1,6 @@
 -- What is left of a content without the sequences at its end.
-use Rattle.std.proofs.Common.{◌≡◌, ℕ, zero, suc, ◌+◌, ◌-◌, ◌<◌, ◌≤◌, Bool, true, false, List, inl, inr, length, take, drop}
+use Rattle.std.proofs.Common.{◌≡◌, ℕ, zero, suc, ◌+◌, ◌-◌, ◌<◌, ◌≤◌, Bool, true, false, List, inl, inr, length}
+use Rattle.std.proofs.Common.{take, drop}
 use Rattle.std.proofs.Common.{get_or, refl, sym, subst, ◌∙◌, arith, length-take}
 use Rattle.std.specs.Prelude.{◌&&◌, Option, None, Some, IfSome, IfNone, if◌then◌else◌}
 use Rattle.std.specs.List.{list_all}
@@ -139,10 +140,9 @@ back : (z : Size) (bytes : List ℕ) (start count : ℕ) → count ≤ start
 back z bytes start count le = subst (IsGood z all_known) (sym (take-take count start bytes le))
 
 module _ (n : ℕ) (z : Size) (bytes : List ℕ) (start : ℕ) (never : NeverPasses 0 z bytes)
-    (s : EndsInSequence bytes start)
-where
-  none_else : (count : ℕ) → ((count : ℕ) → LeavesOut n (take start bytes) count → ¬ FrontPasses z (take start bytes) count)
-      → LeavesOut (suc n) bytes count → ¬ FrontPasses z bytes count
+    (s : EndsInSequence bytes start) where
+  none_else : (count : ℕ) → NeverPasses n z (take start bytes) → LeavesOut (suc n) bytes count
+      → ¬ FrontPasses z bytes count
   none_else count deeper (inl leaves) passes = never count leaves passes
   none_else count deeper (inr (other, t, leaves)) passes =
       let here : LeavesOut n (take start bytes) count =

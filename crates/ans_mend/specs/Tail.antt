@@ -1,5 +1,6 @@
 -- What follows a record and is none of the drawing.
-use Rattle.std.specs.Prelude.{◌≡◌, ◌⊎◌, ℕ, ◌+◌, IsTrue, Bool, false, ◌&&◌, ◌||◌, ◌==◌, nat_lt, List, take, drop, not, Some}
+use Rattle.std.specs.Prelude.{◌≡◌, ◌⊎◌, ℕ, ◌+◌, IsTrue, Bool, false, ◌&&◌, ◌||◌, ◌==◌, nat_lt, List, take, drop, not}
+use Rattle.std.specs.Prelude.{Some}
 use Rattle.std.specs.List.{list_all}
 use Rattle.ans_model.specs.Bytes.{most_columns, most_lines}
 use Rattle.ans_model.specs.File.Layout.{is_end_mark}

@@ -2,7 +2,8 @@
 ghost use Rattle.std.specs.Prelude.{◌≡◌};
 ghost use Rattle.std.specs.List.{flat_map};
 ghost use Rattle.ans_mend.specs.MendedText.{at_text, by_count, comments_line, flag_line, front_line, has_switch};
-ghost use Rattle.ans_mend.specs.MendedText.{mended_text, older_line, others_text, quoted_excerpt, record_line, replaced_text};
+ghost use Rattle.ans_mend.specs.MendedText.{mended_text, older_line, others_text, quoted_excerpt, record_line};
+ghost use Rattle.ans_mend.specs.MendedText.{replaced_text};
 ghost use Rattle.ans_mend.specs.MendedText.{tail_line, taken_line, times_line, width_line};
 ghost use Rattle.ans_write.specs.Puts.{Puts};
 

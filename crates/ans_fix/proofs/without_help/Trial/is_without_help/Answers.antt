@@ -8,7 +8,8 @@ use Rattle.ans_fix.proofs.without_help.Trial.is_without_help.Goals as goal
 
 pub returns-in-Ok : goal.returns-in-Ok
 returns-in-Ok c =
-    let comes : ComesTo (with_step c.args.step true c.args.self.now.asked.now) c.args.self.now.file.now c.in_ok-tried.field-0 =
+    let comes : ComesTo (with_step c.args.step true c.args.self.now.asked.now) c.args.self.now.file.now
+    c.in_ok-tried.field-0 =
     rw c.with.ensures at c.in_ok-tried.ensures in
     let known : false ≡ comes_to_same c.args.self.now.reason.now c.in_ok-tried.field-0 =
     ap (comes_to_same c.args.self.now.reason.now) (sym c.in-Ok.is) in
@@ -20,7 +21,8 @@ returns-in-Ok c =
 
 pub returns-in-Err : goal.returns-in-Err
 returns-in-Err c =
-    let comes : ComesTo (with_step c.args.step true c.args.self.now.asked.now) c.args.self.now.file.now c.in_ok-tried.field-0 =
+    let comes : ComesTo (with_step c.args.step true c.args.self.now.asked.now) c.args.self.now.file.now
+    c.in_ok-tried.field-0 =
     rw c.with.ensures at c.in_ok-tried.ensures in
     let known : c.is_same_reason.result ≡ comes_to_same c.args.self.now.reason.now c.in_ok-tried.field-0 =
     c.is_same_reason.ensures ∙ ap (comes_to_same c.args.self.now.reason.now) (sym c.in-Err.is) in
