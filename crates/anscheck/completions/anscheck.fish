@@ -18,7 +18,7 @@ complete -c anscheck -n "__fish_seen_subcommand_from mend" -l join-rows -d 'Remo
 complete -c anscheck -n "__fish_seen_subcommand_from mend" -l mixed -d 'With --crlf or --join-rows: if only some need it'
 complete -c anscheck -n "__fish_seen_subcommand_from mend" -l name-colours -d 'Add 37 and 40 after a 0 that something is printed in'
 complete -c anscheck -n "__fish_seen_subcommand_from mend" -l ice -d 'Set the flag for bright backgrounds'
-complete -c anscheck -n "__fish_seen_subcommand_from mend" -l record -d 'Set the comment count to the comments that are there'
+complete -c anscheck -n "__fish_seen_subcommand_from mend" -l record -d 'Repair the comment count, and remove an older record'
 complete -c anscheck -n "__fish_seen_subcommand_from mend" -l least-lines -d 'Set the smallest number of lines that works'
 complete -c anscheck -n "__fish_seen_subcommand_from mend" -l lines -x -d 'Set N lines if too few or none are stated (1 to 8192)'
 complete -c anscheck -n "__fish_seen_subcommand_from mend" -l columns -x -d 'Set the record'\''s width to N columns (1 to 1024)'
