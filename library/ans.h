@@ -81,7 +81,7 @@ enum {
     ANS_NAME_COLOURS = 16, /* add 37 and 40 after a 0 that something is printed in */
     ANS_MIXED = 32,        /* with ANS_CRLF or ANS_JOIN_ROWS: if only some need it */
     ANS_ICE = 64,          /* set the flag for bright backgrounds */
-    ANS_RECORD = 128       /* set the comment count to the comments that are there */
+    ANS_RECORD = 128       /* repair the comment count, and remove an older record */
 };
 
 /* Why a file is refused: n for the fault Fn, and its offset. For F25 the row and the column of the cell, counted

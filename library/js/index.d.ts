@@ -170,7 +170,7 @@ export interface MendOptions {
   nameColours?: boolean;
   /** Set the flag for bright backgrounds. */
   ice?: boolean;
-  /** Set the comment count to the comments that are there. */
+  /** Repair the comment count, and remove an older record. */
   record?: boolean;
   /** Add a record for that many columns, if there is none: 1 to 1024. */
   addRecord?: number;

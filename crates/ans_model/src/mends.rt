@@ -13,9 +13,9 @@ pub struct Mends {
     pub columns: Option<u16>,
     /// Whether a return is added before each line feed of a drawing that has no return.
     pub crlf: bool,
-    /// Whether sequences that are refused are removed, and as few line ends and bytes 00h at the very end
-    /// as must go. The sequences are screen modes, font selections, music, 24-bit colours, reports that are asked for,
-    /// reassigned keys, and an unfinished one at the end.
+    /// Whether sequences that are refused are removed: screen modes, font selections, music, 24-bit colours, reports
+    /// that are asked for, reassigned keys, and an unfinished one at the end. And as few line ends, bytes 00h and
+    /// sequences that draw nothing are removed at the very end as must go.
     pub take_out: bool,
     /// Whether the line ends after full rows are removed, if each full row has one.
     pub join_rows: bool,
@@ -28,7 +28,7 @@ pub struct Mends {
     /// Whether the record's flag for bright backgrounds is set.
     pub ice: bool,
     /// Whether the number of comments that the record counts is set to those that are there, if only one number
-    /// is possible.
+    /// is possible, and an older record before it is removed.
     pub repair_record: bool,
     /// Whether the least number of lines with which the drawing passes is stated, if those that the
     /// record states are too few, or none are. A number in `lines` is stated instead.
@@ -158,7 +158,7 @@ const MEND_FLAGS: [MendFlag; 8] = [
         step: MendStep::RepairRecord,
         name: "record",
         bit: 128,
-        help: "Set the comment count to the comments that are there",
+        help: "Repair the comment count, and remove an older record",
     },
     MendFlag {
         step: MendStep::LeastLines,

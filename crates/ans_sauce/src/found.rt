@@ -30,8 +30,8 @@ pub enum Found<'a> {
         offset: usize,
         behind: usize,
     },
-    /// F1: the last record, if a transfer as text may have put returns in it: from its offset on come so many bytes,
-    /// which are 128 and as many more as line feeds that follow a return.
+    /// F1: the last record, if a transfer as text may have put returns in it: its offset, and how many bytes come from
+    /// there on, which are 128 and as many more as line feeds that follow a return.
     Grown {
         offset: usize,
         bytes: usize,
