@@ -759,7 +759,7 @@ def why(chance, file):
     said += damage_told(content)
     hints = Hints(content, len(content), width, lines)
     said += hints.lines(record, True, passes=True)
-    said += width_lines(content, width, lines, hints, pens.least_lines) if hints.empty > 0 else []
+    said += width_lines(content, width, lines, hints, pens.least_lines) if hints.empty > 0 or width < 40 else []
     return heading + said, 0
 
 

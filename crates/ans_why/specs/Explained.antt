@@ -1,6 +1,6 @@
 -- What is said about a file is true.
 use Rattle.std.specs.Prelude.{◌≡◌, ◌≢◌, ◌⊎◌, ℕ, ◌+◌, ◌≤◌, ◌↔◌, Bool, true, false, IsTrue, List, [], length, take}
-use Rattle.std.specs.Prelude.{drop, is_some, nat_lt, Option, Some, None, IfSome, IfNone, MatchOption}
+use Rattle.std.specs.Prelude.{◌||◌, drop, is_some, nat_lt, Option, Some, None, IfSome, IfNone, MatchOption}
 use Rattle.ans_model.specs.Bytes.{longest_file, most_lines}
 use Rattle.ans_model.specs.declared.cell.Position.{Position}
 use Rattle.ans_model.specs.declared.fault.Fault.{Fault}
@@ -80,6 +80,11 @@ abbrev pub AreWidths : Bool → Size → Hints → List ℕ → OtherWidths → 
 AreWidths true z hints content widths = AreOtherWidths z.width z.lines hints content widths
 AreWidths false z hints content widths = has_other_widths widths ≡ false
 
+-- They are wanted of a content that passes if it leaves lines empty, or if it is narrow: then columns and lines may be
+-- exchanged, though it passes.
+abbrev pub wants_widths : Size → Hints → Bool
+wants_widths z hints = nat_lt 0 hints.empty_rows || nat_lt z.width 40
+
 -- a content that passes from the cleared start, and its record
 pub record IsPass (file_length : ℕ) (sauce content : List ℕ) (pass : Pass) : Type 0 where
   pub needs : IsLeast (stated_size sauce) content pass.needs
@@ -89,7 +94,8 @@ pub record IsPass (file_length : ℕ) (sauce content : List ℕ) (pass : Pass) :
   pub relies : IfSome pass.reliance (λ r. (pass.needs ≢ none_known)
       × IsReliance (stated_size sauce) file_length content r)
   pub hints : AreHintsOf (stated_size sauce) (is_non_blink sauce) content [] pass.hints
-  pub widths : AreWidths (nat_lt 0 pass.hints.empty_rows) (stated_size sauce) pass.hints content pass.widths
+  pub widths : AreWidths (wants_widths (stated_size sauce) pass.hints) (stated_size sauce) pass.hints content
+      pass.widths
   pub damage : IsDamage content pass.damage
 
 -- F19 to F21, which may go away on more lines

@@ -16,7 +16,7 @@ ghost use Rattle.ans_model.specs.Verdict.LastFault.{IsDeserved};
 ghost use Rattle.ans_why.specs.Blamed.{AreToBlame};
 ghost use Rattle.ans_why.specs.Explained.{place_of, IsShown, AreHintsOf, IsReliance, IsPass};
 ghost use Rattle.ans_why.specs.Explained.{IsOfReading, AreLines, AreRefusalHints, EndsHints, IsEnough};
-ghost use Rattle.ans_why.specs.Explained.{AreWidths, IsRecordRefusal, IsRefusal};
+ghost use Rattle.ans_why.specs.Explained.{AreWidths, IsRecordRefusal, IsRefusal, wants_widths};
 
 use crate::blamed::bytes_to_blame;
 use crate::known_bytes::known_sequence;
@@ -210,6 +210,13 @@ fn refusal_hints(parts: &Parts<'_>, fault: &Fault, bytes: &[u8], lines: Option<u
     }
 }
 
+/// Whether other widths are looked for if the content passes.
+fn wants_widths(size: Size, hints: &Hints) -> bool
+    ensures { result ≡ wants_widths size hints.now }
+{
+    hints.empty_rows > 0 || size.width() < 40
+}
+
 /// What a record of this size shows of other widths, if that is wanted.
 fn other_widths(wanted: bool, size: Size, hints: &Hints, content: &[u8]) -> OtherWidths
     requires { length content.now ≤ longest_file }
@@ -271,7 +278,7 @@ impl<'a> Pass<'a> {
             reliance: reliance_of(size, file_length, content, fault),
             hints: overview.hints,
             widths: other_widths(
-                overview.hints.empty_rows > 0,
+                wants_widths(size, &overview.hints),
                 size,
                 &overview.hints,
                 content,

@@ -49,7 +49,7 @@ pub struct Pass<'a> {
     /// What it relies on, if it does not pass from every start.
     pub reliance: Option<Reliance<'a>>,
     pub hints: Hints,
-    /// What the record shows of other widths, if lines are empty at the end.
+    /// What the record shows of other widths, if lines are empty at the end or it states fewer than 40 columns.
     pub widths: OtherWidths,
     pub damage: TextDamage,
 }

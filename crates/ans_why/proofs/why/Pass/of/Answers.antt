@@ -27,6 +27,6 @@ returns c =
           (rw (c.content-content.ensures, c.size-size.ensures) at c.reliance_of.ensures.relies);
       hints = rw (c.content-content.ensures, c.size-size.ensures, c.is_non_blink.ensures, c.sauce.ensures)
           at c.of-overview.ensures.hints;
-      widths = rw (c.content-content.ensures, c.size-size.ensures) at c.other_widths.ensures;
+      widths = rw (c.wants_widths.ensures, c.content-content.ensures, c.size-size.ensures) at c.other_widths.ensures;
       damage = rw c.content-content.ensures at c.of.ensures;
     }
