@@ -23,7 +23,7 @@ use Rattle.ans_model.specs.declared.mends.Mends.{Mends}
 use Rattle.ans_mend.specs.Mending.{asked_for, record_added, recorded, repaired, widened}
 use Rattle.ans_mend.specs.OlderRecord.{without_older}
 use Rattle.ans_mend.proofs.OlderOut.{without_older_feeds, without_older_length}
-use Rattle.ans_mend.specs.Recounted.{comments_in, with_comments}
+use Rattle.ans_mend.specs.Recounted.{comments_in, recounted, with_comments}
 use Rattle.ans_mend.specs.Columns.{with_columns, with_width}
 use Rattle.ans_sauce.specs.Fields.{two_bytes, with_record}
 use Rattle.ans_sauce.proofs.Overwriting.{overwritten_length, recorded_length as same_length}

@@ -1,11 +1,11 @@
 -- A file without an older record.
 use Rattle.std.proofs.Common.{◌≡◌, ℕ, ◌+◌, ◌-◌, ◌≤◌, Bool, true, false, List, ◌++◌, length, take, drop, refl, sym, ap}
-use Rattle.std.proofs.Common.{◌∙◌, arith, append_assoc}
-use Rattle.std.specs.Prelude.{◌&&◌, nat_eq, nat_le, codes, if◌then◌else◌}
+use Rattle.std.proofs.Common.{◌∙◌, ap₂, arith, append_assoc}
+use Rattle.std.specs.Prelude.{◌&&◌, nat_eq, nat_le, codes, Option, None, Some, if◌then◌else◌}
 use Rattle.std.specs.List.{list_all, position_or_len, starts_with}
 use Rattle.std.proofs.lemmas.Bool.{and_parts, leb-true}
 use Rattle.std.proofs.lemmas.List.{drop-append-le, length-append, length-drop, length-take, take-append-drop}
-use Rattle.std.proofs.lemmas.List.{take-append-le, take-take}
+use Rattle.std.proofs.lemmas.List.{length-take-le, take-append-le, take-take}
 use Rattle.std.proofs.lemmas.List.Sums.{sum_by-append, sum_by-take-drop, sum_by-take-le}
 use Rattle.std.proofs.Math.Seq.{take-append_seam}
 use Rattle.ans_model.specs.File.Layout.{after_content, content, is_end_mark}
@@ -15,8 +15,10 @@ use Rattle.ans_sauce.specs.Contents.{content_in}
 use Rattle.ans_sauce.specs.Found.{after_end_mark, body_in, front_in, record_in}
 use Rattle.ans_sauce.proofs.RecordLemmas.{front_shorter, recorded_long}
 use Rattle.ans_mend.specs.LineEnds.{is_line_feed, line_feeds}
-use Rattle.ans_mend.specs.OlderRecord.{has_older, is_older_record, older_place, without_older}
+use Rattle.ans_mend.specs.OlderRecord.{has_older, is_older_record, older_gone, older_place, without_older}
 use Rattle.ans_mend.specs.Tail.{is_tail_byte}
+use Rattle.ans_mend.proofs.ContentFront.{left_behind_content}
+use Rattle.ans_pens.specs.declared.times.Times.{Times}
 
 -- ---- where it is
 
@@ -61,10 +63,10 @@ without_older_length file = go (has_older file)
 -- its front is that of the file without some bytes
 module _ (file : List ℕ) (has : has_record file ≡ true) (place count : ℕ)
     (within : place + count ≤ length (front_in file)) where
-  front : List ℕ
+  abbrev front : List ℕ
   front = front_in file
 
-  sauce : List ℕ
+  abbrev sauce : List ℕ
   sauce = record_in file
 
   whole : front ++ sauce ≡ file
@@ -75,7 +77,7 @@ module _ (file : List ℕ) (has : has_record file ≡ true) (place count : ℕ)
       let long : 128 ≤ length file = recorded_long file has in
       length-drop (length file - 128) file ∙ omega (arith, long)
 
-  new_front : List ℕ
+  abbrev new_front : List ℕ
   new_front = take place front ++ drop (place + count) front
 
   new_whole : take place file ++ drop (place + count) file ≡ new_front ++ sauce
@@ -123,3 +125,37 @@ without_older_feeds file = go (has_record file) (is_older_record (after_end_mark
         let same = ap line_feeds (new_front_is file has_is place count within) in
         let fewer = fewer_feeds file has_is place count within in
         omega (arith, same, fewer)
+
+-- ---- in a memory of which the first bytes are the file
+
+pub dropped : (memory twice file : List ℕ) (used : ℕ) (times : Times) → used ≤ length memory
+    → file ≡ take used memory → Some times ≡ older_gone file → times.first + times.count ≤ length file
+    → twice ≡ take times.first memory
+    ++ take (used - (times.first + times.count)) (drop (times.first + times.count) memory)
+    → twice ≡ without_older file
+dropped memory twice file used times within are gone fits moved = go (has_older file) refl
+  where
+    long : length file ≡ used
+    long = ap length are ∙ length-take-le used memory within
+
+    first_is : take times.first memory ≡ take times.first file
+    first_is =
+        sym (take-take times.first used memory (omega (arith, fits, long)))
+        ∙ ap (take times.first) (sym are)
+
+    last_is : take (used - (times.first + times.count)) (drop (times.first + times.count) memory)
+        ≡ drop (times.first + times.count) file
+    last_is =
+        left_behind_content memory used (times.first + times.count) (omega (arith, fits, long)) within
+        ∙ ap (drop (times.first + times.count)) (sym are)
+
+    left : twice ≡ take times.first file ++ drop (times.first + times.count) file
+    left = moved ∙ ap₂ (λ (v w : List ℕ). v ++ w) first_is last_is
+
+    go : (has : Bool) → has_older file ≡ has → twice ≡ without_older file
+    go true has =
+        let is : Some times ≡ Some (record { count = length (after_end_mark file); first = older_place file }) =
+        rw has at gone in
+        let same : times ≡ record { count = length (after_end_mark file); first = older_place file } = cc in
+        rw has (rw same at left)
+    go false has = let none : ◌≡◌ {A = Option Times} (Some times) None = rw has at gone in absurd (cc)

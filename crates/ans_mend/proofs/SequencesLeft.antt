@@ -22,11 +22,11 @@ letter_no_end b quiet ends = grind (arith, common_steps)
 
 parameters_within : (bytes : List ℕ) (end : ℕ) → parameters_from bytes end ≤ end
 parameters_within bytes zero = omega arith
-parameters_within bytes (suc end) = go (is_parameter (get_or bytes end 0))
+parameters_within bytes (suc end) = go (is_parameter (get_or bytes end 0)) (parameters_within bytes end)
   where
-    go : (b : Bool) → (if b then parameters_from bytes end else suc end) ≤ suc end
-    go true = let le = parameters_within bytes end in omega (arith, le)
-    go false = omega arith
+    go : (b : Bool) → parameters_from bytes end ≤ end → (if b then parameters_from bytes end else suc end) ≤ suc end
+    go true le = omega (arith, le)
+    go false le = omega arith
 
 -- it begins before its letter
 record IsBefore (bytes : List ℕ) (end start : ℕ) : Type 0 where
@@ -47,11 +47,16 @@ letter_before bytes (suc last) start e =
     go true true quiet begins =
         let same : Some (parameters_from bytes last - 2) ≡ Some start = rw (quiet, begins) at e in
         let start_is : parameters_from bytes last - 2 ≡ start = cc in
-        record { some = omega arith; letter = quiet; order = omega (arith, start_is, within) }
+        let last_is : last ≡ suc last - 1 = omega arith in
+        record {
+          some = omega arith;
+          letter = subst (λ (n : ℕ). is_quiet_letter (get_or bytes n 0) ≡ true) last_is quiet;
+          order = omega (arith, start_is, within);
+        }
     go true false quiet begins =
-        let none : None {A = ℕ} ≡ Some start = rw (quiet, begins) at e in absurd (cc)
+        let none : ◌≡◌ {A = Option ℕ} None (Some start) = rw (quiet, begins) at e in absurd (cc)
     go false begins quiet begins_is =
-        let none : None {A = ℕ} ≡ Some start = rw quiet at e in absurd (cc)
+        let none : ◌≡◌ {A = Option ℕ} None (Some start) = rw quiet at e in absurd (cc)
 
 -- no such sequence ends among the line ends that follow it
 no_later : (bytes : List ℕ) (from end start : ℕ) → list_all is_line_end (drop from bytes) ≡ true
@@ -86,6 +91,18 @@ begins_nowhere bytes end ends others none start s =
           let same : s.end ≡ end = omega (arith, le, ge) in
           absurd (cc (subst (λ (v : ℕ). sequence_before bytes v ≡ Some start) same s.begins, none))
     ]
+
+pub none_begins : (bytes : List ℕ) (end : ℕ) → list_all is_line_end (drop end bytes) ≡ true
+    → ((count : ℕ) → count < end → list_all is_line_end (drop count bytes) ≡ false) → (found : Option ℕ)
+    → found ≡ sequence_before bytes end → IfNone found ((start : ℕ) → ¬ EndsInSequence bytes start)
+none_begins bytes end ends others None is = begins_nowhere bytes end ends others (sym is)
+none_begins bytes end ends others (Some start) is = tt
+
+pub begins_early : (bytes : List ℕ) (end : ℕ) → end ≤ length bytes → (found : Option ℕ)
+    → found ≡ sequence_before bytes end → IfSome found (λ start. start ≤ length bytes)
+begins_early bytes end within None is = tt
+begins_early bytes end within (Some start) is =
+    let h = letter_before bytes end start (sym is) in omega (arith, h.order, within)
 
 -- ---- how many bytes stay
 
@@ -177,16 +194,22 @@ never_without (suc n) z bytes never none count (inr (start, s, leaves)) passes =
 
 module _ (n : ℕ) (z : Size) (bytes : List ℕ) where
   pub some_of_ends : (found : Option ℕ) → IfSome found (LeavesMost 0 z bytes) → IfSome found (LeavesMost n z bytes)
-  some_of_ends None h = h
+  some_of_ends None h = tt
   some_of_ends (Some count) h = most_of_ends n z bytes count h
 
   module _ (start : ℕ) (never : NeverPasses 0 z bytes) (s : EndsInSequence bytes start) where
     pub some_deeper : (found : Option ℕ) → IfSome found (LeavesMost n z (take start bytes))
         → IfSome found (LeavesMost (suc n) z bytes)
-    some_deeper None h = h
+    some_deeper None h = tt
     some_deeper (Some count) h = most_deeper n z bytes start never s count h
 
     pub none_deeper : (found : Option ℕ) → IfNone found (NeverPasses n z (take start bytes))
         → IfNone found (NeverPasses (suc n) z bytes)
     none_deeper None h = never_deeper n z bytes start never s h
-    none_deeper (Some count) h = h
+    none_deeper (Some count) h = tt
+
+-- a count that stays is within the bytes
+pub some_within : (n : ℕ) (z : Size) (bytes : List ℕ) (found : Option ℕ) → IfSome found (LeavesMost n z bytes)
+    → IfSome found (λ count. count ≤ length bytes)
+some_within n z bytes None h = tt
+some_within n z bytes (Some count) h = leaves_within n bytes count h.leaves

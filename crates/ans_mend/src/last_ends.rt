@@ -140,6 +140,7 @@ fn sequence_before(bytes: &[u8], end: usize) -> Option<usize>
 fn last_sequence(bytes: &[u8]) -> Option<usize>
     ensures some { IfSome result (EndsInSequence bytes.now) }
     ensures none { IfNone result ((start : ℕ) → ¬ EndsInSequence bytes.now start) }
+    ensures within { IfSome result (λ start. start ≤ length bytes.now) }
 {
     sequence_before(bytes, count_before_ends(bytes))
 }
@@ -150,9 +151,11 @@ fn count_before_sequences(size: Size, content: &[u8], sequences: usize) -> Optio
     ensures some { IfSome result (LeavesMost sequences size content.now) }
     ensures none { IfNone result (NeverPasses sequences size content.now) }
 {
-    let count = count_before_line_ends(size, content);
-    if count.is_some() || sequences == 0 {
-        return count;
+    if let Some(count) = count_before_line_ends(size, content) {
+        return Some(count);
+    }
+    if sequences == 0 {
+        return None;
     }
     let start = last_sequence(content)?;
     count_before_sequences(size, &content[..start], sequences - 1)
@@ -168,6 +171,7 @@ pub fn count_passing(size: Size, content: &[u8]) -> Option<usize>
     requires { length content.now ≤ longest_file }
     ensures some { IfSome result (LeavesMost most_sequences size content.now) }
     ensures none { IfNone result (NeverPasses most_sequences size content.now) }
+    ensures within { IfSome result (λ count. count ≤ length content.now) }
 {
     count_before_sequences(size, content, MOST_SEQUENCES)
 }

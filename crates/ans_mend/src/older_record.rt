@@ -15,7 +15,11 @@ use ans_sauce::{body_before, cut_content, cut_record};
 fn is_older_record(bytes: &[u8]) -> bool
     ensures { result ≡ is_older_record bytes.now }
 {
-    bytes.len() >= RECORD_SIZE && bytes.starts_with(b"SAUCE00") && is_tail(&bytes[RECORD_SIZE..])
+    if bytes.len() < RECORD_SIZE {
+        return false;
+    }
+    let (_, tail) = bytes.split_at(RECORD_SIZE);
+    bytes.starts_with(b"SAUCE00") && is_tail(tail)
 }
 
 /// Where an older record is in a file that has a record, and how many bytes it is with what follows it, if nothing
