@@ -1,0 +1,3 @@
+pub mod SplitLemmas
+pub mod NameLemmas
+pub mod FollowsLemmas
