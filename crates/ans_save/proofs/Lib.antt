@@ -1,3 +1,5 @@
 pub mod SplitLemmas
 pub mod NameLemmas
 pub mod FollowsLemmas
+pub mod RefusedLemmas
+pub mod UnsavedLemmas

@@ -42,12 +42,17 @@ abbrev pub plain_permissions : ℕ
 plain_permissions = 0o666
 
 module _ {D : Type 0} (sees : D → Name → Option Found → Type 0) (fails : D → Name → ErrorKind → Type 0) where
-  -- of inputs in order, those that a look finds are added to what was known
+  -- what a look finds under the name of an input is added to what was known; if it finds nothing, or fails, nothing is
+  abbrev pub Adds : D → List Identity → Name → List Identity → Type 0
+  Adds disk before name after =
+      ((found : Found) × sees disk name (Some found) × (after ≡ before ++ found.identity ∷ []))
+      ⊎ ((sees disk name None ⊎ ((kind : ErrorKind) × fails disk name kind)) × (after ≡ before))
+
+  -- the same of several inputs, in order
   abbrev pub Knows : D → List Identity → List Name → List Identity → Type 0
   Knows disk before [] after = after ≡ before
   Knows disk before (name ∷ names) after =
-      ((found : Found) × sees disk name (Some found) × Knows disk (before ++ found.identity ∷ []) names after)
-      ⊎ ((sees disk name None ⊎ ((kind : ErrorKind) × fails disk name kind)) × Knows disk before names after)
+      (between : List Identity) × Adds disk before name between × Knows disk between names after
 
   -- the permissions of a new file: its input's
   abbrev pub IsNewMode : D → Option Name → ℕ → Type 0
@@ -130,6 +135,8 @@ module _ {D : Type 0} (did : D → Deed → Option ErrorKind → D → Type 0) (
     Unnamed : (none : target_named saving input ≡ None) (by : error ≡ NoName) (same : new ≡ old)
         → IsUnsaved old new saves saving input bytes error
     OutOfMemory : (by : error ≡ Memory) (same : new ≡ old) → IsUnsaved old new saves saving input bytes error
+    NoRoom : (folder : Follows did old (folders saving) None new) (by : error ≡ Memory)
+        → IsUnsaved old new saves saving input bytes error
     NoFolder : (kind : ErrorKind) (folder : Follows did old (folders saving) (Some kind) new)
         (by : error ≡ unwritten_of kind) → IsUnsaved old new saves saving input bytes error
     Refused : (name : Name) (named : target_named saving input ≡ Some name)

@@ -1,11 +1,11 @@
 //! The files of a run are written.
-ghost use Rattle.std.specs.Prelude.{◌≡◌, [], IfErr, IfOk, OnErr, map, string_bytes};
+ghost use Rattle.std.specs.Prelude.{◌≡◌, [], IfErr, IfOk, OnErr, OnOk, map, string_bytes};
 ghost use Rattle.std.specs.Option.{option_map};
 ghost use Rattle.std.specs.declared.io.ErrorKind.{ErrorKind};
 ghost use Rattle.ans_save.specs.Deeds.{Follows, fault_of};
 ghost use Rattle.ans_save.specs.Places.{is_among, is_in_place, refusal_of};
 ghost use Rattle.ans_save.specs.Reasons.{unopened_of};
-ghost use Rattle.ans_save.specs.Saving.{IsAim, IsAimless, IsModeless, IsNewMode, IsReady, IsRefused, IsSaved};
+ghost use Rattle.ans_save.specs.Saving.{Adds, IsAim, IsAimless, IsModeless, IsNewMode, IsReady, IsRefused, IsSaved};
 ghost use Rattle.ans_save.specs.Saving.{IsUnsaved, Knows, folders, inputs_of, written_of};
 
 use crate::disk::{Disk, Found, Identity, Kind};
@@ -67,6 +67,16 @@ struct Place {
     permissions: Permissions,
 }
 
+/// Adds the input of this name to those that are known, if a look finds it.
+fn add_input<D: Disk>(disk: &D, known: &mut Vec<Identity>, name: &str) -> Result<(), AllocError>
+    ensures { OnOk result (Adds D.sees D.fails disk.now known.old.items name.now known.new.items) }
+{
+    match disk.look(name) {
+        Ok(Some(found)) => Ok(known.push(found.identity)?),
+        Ok(None) | Err(_) => Ok(()),
+    }
+}
+
 impl Saves {
     /// A run with inputs of these names, of which nothing was written. An input that a look does not find is left out.
     /// `Err` comes if memory runs out.
@@ -77,9 +87,7 @@ impl Saves {
     {
         let mut known = Vec::new(alloc);
         for input in inputs {
-            if let Ok(Some(found)) = disk.look(input) {
-                known.push(found.identity)?;
-            }
+            add_input(disk, &mut known, input)?;
         }
         Ok(Saves {
             inputs: known,
@@ -196,7 +204,6 @@ pub fn save<D: Disk>(
     ensures inputs { inputs_of saves.new ≡ inputs_of saves.old }
 {
     let named = saving.target(alloc, input)?;
-    saves.written.reserve(1)?;
     if let Err(error) = make_folder(disk, saving) {
         return Err(SaveError::unwritten(error.kind()));
     }
@@ -204,6 +211,7 @@ pub fn save<D: Disk>(
         target,
         permissions,
     } = aim(alloc, disk, saves, saving, input, named.as_str())?;
+    saves.written.reserve(1)?;
     let work = Work {
         bytes,
         permissions,
