@@ -16,7 +16,7 @@ reason_of kind.NotADirectory = reason.NoFolder
 reason_of kind.StorageFull = reason.Full
 reason_of kind.QuotaExceeded = reason.Full
 reason_of kind.ReadOnlyFilesystem = reason.ReadOnly
-reason_of kind.AlreadyExists = reason.Taken
+reason_of kind.AlreadyExists = reason.NoFolder
 reason_of _ = reason.Other
 
 -- why nothing is written if a look fails

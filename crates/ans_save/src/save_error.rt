@@ -39,10 +39,9 @@ impl Reason {
             ErrorKind::NotFound => Reason::Missing,
             ErrorKind::PermissionDenied => Reason::Denied,
             ErrorKind::IsADirectory => Reason::Folder,
-            ErrorKind::NotADirectory => Reason::NoFolder,
+            ErrorKind::NotADirectory | ErrorKind::AlreadyExists => Reason::NoFolder,
             ErrorKind::StorageFull | ErrorKind::QuotaExceeded => Reason::Full,
             ErrorKind::ReadOnlyFilesystem => Reason::ReadOnly,
-            ErrorKind::AlreadyExists => Reason::Taken,
             _ => Reason::Other,
         }
     }

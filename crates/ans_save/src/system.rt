@@ -14,6 +14,7 @@ const PERMISSIONS: u32 = 0o7777;
 const ACCESS: u32 = 0o777;
 
 /// The disk of the system. What its files hold is not known to a proof.
+#[derive(Clone, Copy)]
 pub struct System<'a> {
     rt: &'a HostRuntime,
 }
