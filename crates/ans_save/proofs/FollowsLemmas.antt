@@ -1,6 +1,6 @@
 -- Deeds that are done after others.
-use Rattle.std.specs.Prelude.{◌≡◌, ◌⊎◌, List, [], ◌∷◌, ◌++◌, Option, Some, None}
-use Rattle.std.proofs.Common.{refl, sym, subst, inl, inr}
+use Rattle.std.specs.Prelude.{List, [], ◌∷◌, ◌++◌, Option, Some, None}
+use Rattle.std.proofs.Common.{refl, subst, inl, inr}
 use Rattle.std.specs.declared.io.ErrorKind.{ErrorKind}
 use Rattle.ans_save.specs.Names.{Name}
 use Rattle.ans_save.specs.Deeds.{Deed, Follows}

@@ -3,3 +3,4 @@ pub mod NameLemmas
 pub mod FollowsLemmas
 pub mod RefusedLemmas
 pub mod UnsavedLemmas
+pub mod SparingLemmas

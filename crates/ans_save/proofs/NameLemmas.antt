@@ -1,6 +1,6 @@
 -- Names that are made of the parts of a name.
-use Rattle.std.specs.Prelude.{◌≡◌, ℕ, List, [], ◌∷◌, ◌++◌, Option, Some, None, codes, decimal}
-use Rattle.std.proofs.Common.{refl, sym, ap, ◌∙◌, append_assoc}
+use Rattle.std.specs.Prelude.{◌≡◌, ℕ, [], ◌∷◌, ◌++◌, Some, None, codes, decimal}
+use Rattle.std.proofs.Common.{sym, ap, ◌∙◌, append_assoc}
 use Rattle.std.specs.Path.{slash, dot, rsplit_once}
 use Rattle.ans_save.specs.Names.{Name, front_of_split, last_of_split, fixed_at_split, fixed_name, beside_name}
 

@@ -1,11 +1,11 @@
 -- Why a target is not to be replaced, from what the looks said.
-use Rattle.std.specs.Prelude.{◌≡◌, ◌⊎◌, Option, Some, None, Result, Ok, Err, IsErrAnd, IfErr}
+use Rattle.std.specs.Prelude.{◌≡◌, Option, Some, Result, Ok, Err, IsErrAnd, IfErr}
 use Rattle.std.proofs.Common.{inr, subst, sym}
 use Rattle.std.specs.declared.io.ErrorKind.{ErrorKind}
 use Rattle.ans_save.specs.Names.{Name}
 use Rattle.ans_save.specs.Reasons.{unopened_of, unwritable_of}
-use Rattle.ans_save.specs.Saving.{IsAimless, IsModeless, IsRefused, refusal_in}
-use Rattle.ans_save.specs.Saving.IsRefused.{Closed, LookFails, Modeless, NotToReplace}
+use Rattle.ans_save.specs.Saving.{IsAimless, IsRefused, refusal_in}
+use Rattle.ans_save.specs.Saving.IsRefused.{Closed, LookFails, NotToReplace}
 use Rattle.ans_save.specs.declared.disk.Found.{Found}
 use Rattle.ans_save.specs.declared.save_error.SaveError.{SaveError}
 use Rattle.ans_save.specs.declared.saves.Saves.{Saves}

@@ -4,3 +4,4 @@ pub mod Reasons
 pub mod Places
 pub mod Replacing
 pub mod Saving
+pub mod Sparing

@@ -1,6 +1,6 @@
 -- Where a file goes, and whether it may.
 use Rattle.std.specs.Prelude.{◌≡◌, ⊤, Bool, true, false, List, Option, Some, None, if◌then◌else◌, ◌&&◌, not}
-use Rattle.std.specs.Prelude.{ℕ, ◌-◌, length, slice_index, ◌==◌}
+use Rattle.std.specs.Prelude.{◌-◌, length, slice_index, ◌==◌}
 use Rattle.std.specs.List.{list_any}
 use Rattle.std.specs.Option.{option_map}
 use Rattle.std.specs.Path.{slash}

@@ -1,5 +1,5 @@
 -- What is known in a run, and what is done for a file of it.
-use Rattle.std.specs.Prelude.{◌≡◌, ◌⊎◌, ℕ, Bool, true, false, List, [], ◌∷◌, ◌++◌, Option, Some, None}
+use Rattle.std.specs.Prelude.{◌≡◌, ◌⊎◌, ℕ, List, [], ◌∷◌, ◌++◌, Option, Some, None}
 use Rattle.std.specs.declared.io.ErrorKind.{ErrorKind}
 use Rattle.ans_save.specs.Names.{Name}
 use Rattle.ans_save.specs.Deeds.{Deed, Follows}
@@ -110,12 +110,11 @@ module _ {D : Type 0} (leads : D → Name → Name → Type 0) (sees : D → Nam
       ⊎ ((target : Name) × leads disk named target × IsRefused disk saves saving input target error)
 
 module _ {D : Type 0} (did : D → Deed → Option ErrorKind → D → Type 0) (leads : D → Name → Name → Type 0)
-    (sees : D → Name → Option Found → Type 0) (fails : D → Name → ErrorKind → Type 0) (opens : D → Name → Type 0)
-    (identifies : D → Name → Identity → Type 0) where
+    (sees : D → Name → Option Found → Type 0) (fails : D → Name → ErrorKind → Type 0) (opens : D → Name → Type 0) where
   -- The folder was made, the target may be replaced, and a new file of the bytes replaced it, flushed before if in
   -- place. The run knows the file as written.
-  pub record IsSaved (old new : D) (saves saves_after : Saves) (saving : Saving) (input : Option Name)
-      (bytes : List ℕ) : Type 0 where
+  pub record IsSaved (identifies : D → Name → Identity → Type 0) (old new : D) (saves saves_after : Saves)
+      (saving : Saving) (input : Option Name) (bytes : List ℕ) : Type 0 where
     pub name : Name
     pub opened : D
     pub target : Name

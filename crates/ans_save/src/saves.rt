@@ -7,6 +7,7 @@ ghost use Rattle.ans_save.specs.Places.{is_among, is_in_place, refusal_of};
 ghost use Rattle.ans_save.specs.Reasons.{unopened_of};
 ghost use Rattle.ans_save.specs.Saving.{Adds, IsAim, IsAimless, IsModeless, IsNewMode, IsReady, IsRefused, IsSaved};
 ghost use Rattle.ans_save.specs.Saving.{IsUnsaved, Knows, folders, inputs_of, written_of};
+ghost use Rattle.ans_save.specs.Sparing.{Spares};
 
 use crate::disk::{Disk, Found, Identity, Kind};
 use crate::replacing::{Permissions, Work, replace};
@@ -198,8 +199,9 @@ pub fn save<D: Disk>(
 ) -> Result<(), SaveError>
     ensures saved { IfOk result (λ _. IsSaved D.did D.leads D.sees D.fails D.opens D.identifies disk.old disk.new
         saves.old saves.new saving.entry (option_map (λ n. n.now) input.entry) bytes.now) }
-    ensures unsaved { IfErr result (IsUnsaved D.did D.leads D.sees D.fails D.opens D.identifies disk.old disk.new
+    ensures unsaved { IfErr result (IsUnsaved D.did D.leads D.sees D.fails D.opens disk.old disk.new
         saves.old saving.entry (option_map (λ n. n.now) input.entry) bytes.now) }
+    ensures spared { OnErr result (Spares D.did disk.old disk.new) }
     ensures unnoted { OnErr result (written_of saves.new ≡ written_of saves.old) }
     ensures inputs { inputs_of saves.new ≡ inputs_of saves.old }
 {

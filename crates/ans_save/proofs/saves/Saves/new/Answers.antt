@@ -1,4 +1,4 @@
-use Rattle.std.proofs.Common.{rules, []}
+use Rattle.std.proofs.Common.{[]}
 use Rattle.std.proofs.lemmas.List.{drop_more}
 use Rattle.ans_save.proofs.saves.Saves.new.Goals as goal
 

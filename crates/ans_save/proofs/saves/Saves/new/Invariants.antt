@@ -1,4 +1,4 @@
-use Rattle.std.specs.Prelude.{◌≡◌, List, [], map}
+use Rattle.std.specs.Prelude.{List, [], map}
 use Rattle.std.proofs.Common.{drop}
 use Rattle.ans_save.specs.Saving.{Knows}
 use Rattle.ans_save.specs.declared.disk.Identity.{Identity}
