@@ -1,5 +1,5 @@
 -- Why a file was not written, by the system's errors, and in words.
-use Rattle.std.specs.Prelude.{ℕ, List, codes}
+use Rattle.std.specs.Prelude.{ℕ, List, codes, Option, Some, None}
 use Rattle.std.specs.declared.io.ErrorKind.{ErrorKind}
 use Rattle.std.specs.declared.io.ErrorKind.TheVariants as kind
 use Rattle.ans_save.specs.declared.save_error.Reason.{Reason}
@@ -33,6 +33,12 @@ unwritable_of other = unopened_of other
 abbrev pub unwritten_of : ErrorKind → SaveError
 unwritten_of kind.OutOfMemory = error.Memory
 unwritten_of other = error.Unwritten (reason_of other)
+
+-- the system's reason, if there is one
+abbrev pub reason_in : SaveError → Option Reason
+reason_in (error.Unopened why) = Some why
+reason_in (error.Unwritten why) = Some why
+reason_in other = None
 
 -- the reason in words
 abbrev pub reason_text : Reason → List ℕ

@@ -39,7 +39,7 @@ abbrev pub most_tries : ℕ
 most_tries = 100
 
 module _ {D : Type 0} (did : D → Deed → Option ErrorKind → D → Type 0) where
-  -- files of the first names beside a target, so many, were to be made in turn, but each name was taken
+  -- the first names beside a target were tried in turn, as many as that number, and each was taken
   abbrev pub TriesTaken : Name → ℕ → ℕ → D → D → Type 0
   TriesTaken target permissions zero old new = new ≡ old
   TriesTaken target permissions (suc number) old new =

@@ -16,7 +16,7 @@ const MOST_TRIES: usize = 100;
 /// Who may read, write and run a file that is written.
 #[derive(Debug, Clone, Copy, PartialEq, Eq)]
 pub(crate) enum Permissions {
-    /// Those of a new file: these, but for what the system keeps from every new file.
+    /// Those of a new file: these, without those that the system withholds from each new file.
     New(u32),
     /// Those of the file that is replaced.
     Kept(u32),

@@ -1,8 +1,8 @@
 //! Why a file is not written.
 ghost use Rattle.std.specs.Prelude.{◌≡◌};
 ghost use Rattle.std.specs.IoError.{error_kind};
-ghost use Rattle.ans_save.specs.Reasons.{error_text, reason_of, reason_text, unopened_of, unwritable_of};
-ghost use Rattle.ans_save.specs.Reasons.{unwritten_of};
+ghost use Rattle.ans_save.specs.Reasons.{error_text, reason_in, reason_of, reason_text, unopened_of};
+ghost use Rattle.ans_save.specs.Reasons.{unwritable_of, unwritten_of};
 
 use std::alloc::AllocError;
 use std::io::{self, ErrorKind};
@@ -111,6 +111,16 @@ impl SaveError {
         match kind {
             ErrorKind::OutOfMemory => SaveError::Memory,
             _ => SaveError::Unwritten(Reason::of(kind)),
+        }
+    }
+
+    /// The system's reason, if there is one.
+    pub fn reason(self) -> Option<Reason>
+        ensures { result ≡ reason_in self }
+    {
+        match self {
+            SaveError::Unopened(reason) | SaveError::Unwritten(reason) => Some(reason),
+            _ => None,
         }
     }
 
