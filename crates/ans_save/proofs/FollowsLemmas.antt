@@ -39,7 +39,8 @@ module _ {D : Type 0} (did : D → Deed → Option ErrorKind → D → Type 0) w
   follows_after old mid new deed rest (Some kind) h later = inr (mid, h, later)
 
   -- all the work up to the last deed is done
-  pub follows_work : (old written permitted synced new : D) (name target : Name) (work : Work) (fault : Option ErrorKind)
+  pub follows_work : (old written permitted synced new : D) (name target : Name) (work : Work)
+      (fault : Option ErrorKind)
       → did old (Write work.bytes.now) None written
       → Follows did written (permits work.permissions) None permitted
       → Follows did permitted (syncs work.syncs) None synced

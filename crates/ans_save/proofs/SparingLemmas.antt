@@ -73,7 +73,8 @@ module _ {D : Type 0} (did : D → Deed → Option ErrorKind → D → Type 0) w
   -- the work on a new file, of which a deed failed
   quiet_work : (name target : Name) (bytes : List ℕ) (permissions : Permissions) (wanted : Bool) (old new : D)
       (kind : ErrorKind)
-      → Follows did old (Write bytes ∷ (permits permissions ++ (syncs wanted ++ Rename name target ∷ []))) (Some kind) new
+      → Follows did old (Write bytes ∷ (permits permissions ++ (syncs wanted ++ Rename name target ∷ [])))
+      (Some kind) new
       → Quietly did old new
   unfolding AllHarmless
   quiet_work name target bytes (New bits) false old new kind h =

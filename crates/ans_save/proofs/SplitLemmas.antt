@@ -1,6 +1,7 @@
 -- A text that is split at the last of an ASCII character.
 use Rattle.std.specs.Prelude.{Option, MatchOption}
-use Rattle.std.proofs.Common.{◌≡◌, ℕ, zero, suc, ◌+◌, ◌-◌, ◌≤◌, ◌<◌, List, length, get_or, take, drop, Some, None, refl, sym, ap, ◌∙◌, ⊎_elim, arith, Bor, eq-eqb, ne_eqb, length-drop, get_or-drop}
+use Rattle.std.proofs.Common.{◌≡◌, ℕ, zero, suc, ◌+◌, ◌-◌, ◌≤◌, ◌<◌, List, length, get_or, take, drop, Some, None}
+use Rattle.std.proofs.Common.{refl, sym, ap, ◌∙◌, ⊎_elim, arith, Bor, eq-eqb, ne_eqb, length-drop, get_or-drop}
 use Rattle.std.specs.Str.Pattern.{RFindsChar}
 use Rattle.std.specs.Option.{option_map}
 use Rattle.std.specs.Path.{rfind_below, rsplit_once}

@@ -8,10 +8,10 @@
 //! A [`Disk`] is the system's ([`System`]), or one in memory in tests. What is proved is what is asked of it, and in
 //! which order (`specs/Deeds.antt`, `specs/Replacing.antt`, `specs/Saving.antt`), whatever it answers: a target takes
 //! the new bytes by one rename, the last call of all, once each call before it succeeded; if any fails, no file got
-//! another name, and the file beside the target was asked to be removed (`specs/Sparing.antt`). What the calls do is not
-//! proved, since it is up to the system: that a rename replaces a name in one step, that a new file takes no other's
-//! place, that bytes which are flushed are on the disk, and which answer a look gives. That [`System`] asks the system
-//! for what it is asked for is only tested.
+//! another name, and the file beside the target was asked to be removed (`specs/Sparing.antt`). What the calls do is
+//! not proved, since it is up to the system: that a rename replaces a name in one step, that a new file takes no
+//! other's place, that bytes which are flushed are on the disk, and which answer a look gives. That [`System`] asks the
+//! system for what it is asked for is only tested.
 #![tactic(auto)]
 
 mod disk;

@@ -182,15 +182,16 @@ fn aim<D: Disk>(
 /// Writes the bytes that an input of this name comes to, or standard input, which has none, to where files go. They are
 /// written to a new file beside the target, which is then renamed over it; in place it is flushed to the disk before.
 /// What is under the target's name is replaced if it is a file that may be written, and keeps its permissions; other
-/// names of that file keep the old bytes. A link is followed, and stays. A new file has the permissions of the input. Its
-/// owner is whoever runs this. A kill leaves at most the file beside the target, whose name is `.anscheck-` and a number.
+/// names of that file keep the old bytes. A link is followed, and stays. A new file has the permissions of the input.
+/// Its owner is whoever runs this. A kill leaves at most the file beside the target, whose name is `.anscheck-` and a
+/// number.
 ///
 /// `Err` says why nothing was written. Then what is under the target's name stays, and the file beside it is removed if
 /// it can be. `NoName` comes if there is no name to write to; `IsInput` if the target is an input of the run, unless in
 /// place; `WrittenBefore` if it was written in the run; `NotWritable` if it may not be written; `Unopened` if it is no
-/// file, if a link of it leads nowhere, if its folder is missing, or if it or the input cannot be looked at; `Unwritten`
-/// if a folder or the new file cannot be made, or the new file not be written, flushed or renamed; `Memory` if memory
-/// runs out.
+/// file, if a link of it leads nowhere, if its folder is missing, or if it or the input cannot be looked at;
+/// `Unwritten` if a folder or the new file cannot be made, or the new file not be written, flushed or renamed; `Memory`
+/// if memory runs out.
 pub fn save<D: Disk>(
     alloc: Global,
     disk: &mut D,

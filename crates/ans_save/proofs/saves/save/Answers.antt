@@ -29,7 +29,8 @@ returns-in_err-file-clause-unsaved g c =
     c.args.disk.now c.args.saves.now c.args.saving (option_map (λ n. n.now) c.args.input) c.args.bytes.now
     (string_bytes c.in_ok-named.named) c.in_ok-named.ensures.named c.make_folder.new.disk c.replace.new.disk
     c.in_err-file.field-0.0 c.as_str-2.result.now _ c.in_default.ensures
-    (rw (c.as_str-2.ensures.value, ← c.as_str.ensures.value) c.in_ok-target.ensures.aimed) refl c.is_in_place.ensures c.in_err-file.ensures.kept)
+    (rw (c.as_str-2.ensures.value, ← c.as_str.ensures.value) c.in_ok-target.ensures.aimed) refl
+    c.is_in_place.ensures c.in_err-file.ensures.kept)
 
 pub returns-in-Err-clause-spared : goal.returns-in-Err-clause-spared
 returns-in-Err-clause-spared g c =
