@@ -1,0 +1,3 @@
+pub mod Paths
+pub mod Walk
+pub mod Pending
