@@ -9,15 +9,19 @@
 //! defines what a walk finds, in which order. [`Endings`] counts files by their endings.
 #![tactic(auto)]
 
+mod endings;
 mod entry;
 mod folders;
 mod path;
+mod system;
 mod taken;
 mod visitor;
 mod walking;
 
+pub use endings::{Endings, MOST_ENDINGS};
 pub use entry::{Entry, Kind, Unread};
 pub use folders::Folders;
+pub use system::SystemFolders;
 pub use taken::Taken;
 pub use visitor::Visitor;
 pub use walking::{Ended, walk};
