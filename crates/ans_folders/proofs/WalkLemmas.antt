@@ -181,6 +181,6 @@ module _ {V S : Type 0} (lists : Text → List Entry → Type 0) (fails : Text �
   Walked-listed path entries sorted more after visitor listed order are = (
     [],
     (let P : List Place → Type 0 = λ later. Finds lists fails taken (folder_at path ∷ more) [] later in
-    subst P (sym are) (in_folder listed order nothing)),
+        subst P (sym are) (in_folder listed order nothing)),
     refl,
   )

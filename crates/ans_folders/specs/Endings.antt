@@ -1,5 +1,5 @@
 -- Files counted by their endings.
-use Rattle.std.specs.Prelude.{◌≡◌, ℕ, ◌+◌, Bool, not, ◌&&◌, ◌==◌, List, [], String, if◌then◌else◌, map, nat_le, unwrap_or}
+use Rattle.std.specs.Prelude.{◌≡◌, ℕ, ◌+◌, Bool, not, ◌&&◌, ◌==◌, [], String, if◌then◌else◌, map, nat_le, unwrap_or}
 use Rattle.std.specs.BTreeMap.{BTreeMap, btree_map_len, get_by_text}
 use Rattle.std.specs.Char.{to_ascii_lowercase}
 use Rattle.std.specs.Path.{path_extension}

@@ -11,9 +11,9 @@ use std::path::Path;
 /// How many endings are counted one by one.
 pub const MOST_ENDINGS: usize = 1000;
 
-/// How many files there are with each ending, in the order of the endings' bytes. What comes after the last dot of a
-/// name is its ending, in lower case; it is empty if there is no dot, or none but one that the name begins with. Files
-/// with further endings, after the first [`MOST_ENDINGS`], are counted together.
+/// How many files there are with each ending, in the order of the endings' bytes. A name's ending is what comes after
+/// its last dot, with capitals A to Z as small letters. It is empty if nothing comes after that dot, or nothing before
+/// it, or if there is none. Files with further endings, after the first [`MOST_ENDINGS`], are counted together.
 #[derive(Drop)]
 pub struct Endings {
     counts: BTreeMap<String, u64>,
@@ -66,7 +66,10 @@ impl Endings {
             self.further = self.further.checked_add(1).ok_or(AllocError)?;
             return Ok(());
         }
-        let more = self.count(ending.as_str()).checked_add(1).ok_or(AllocError)?;
+        let more = self
+            .count(ending.as_str())
+            .checked_add(1)
+            .ok_or(AllocError)?;
         self.counts.insert(ending, more)?;
         Ok(())
     }

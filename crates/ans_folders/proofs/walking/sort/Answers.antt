@@ -1,5 +1,4 @@
-use Rattle.std.proofs.Common.{rules, ap, string_bytes}
-use Rattle.std.specs.Ordering.{is_lt}
+use Rattle.std.proofs.Common.{rules, string_bytes}
 use Rattle.std.proofs.lemmas.Cmp.{nat_list_cmp_total}
 use Rattle.std.proofs.lemmas.List.Sorted.{answers_always, ranks_by}
 use Rattle.ans_folders.specs.declared.entry.Entry.{Entry}
