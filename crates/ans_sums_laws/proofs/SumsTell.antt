@@ -25,22 +25,22 @@ front [] = 0
 front (x ∷ xs) = x
 
 -- digits up to a byte that is none, in equal texts
-digits_same : (xs ys : List ℕ) (stop : ℕ) (as bs : List ℕ) → AllDigits 10 xs → AllDigits 10 ys
-    → 10 ≤ digit_value stop → xs ++ stop ∷ as ≡ ys ++ stop ∷ bs → (xs ≡ ys) × (as ≡ bs)
-digits_same [] [] stop as bs h g is e = (refl, ap behind e)
-digits_same [] (y ∷ ys) stop as bs h g is e =
+digits_same : (xs ys : List ℕ) (stop : ℕ) (rest more : List ℕ) → AllDigits 10 xs → AllDigits 10 ys
+    → 10 ≤ digit_value stop → xs ++ stop ∷ rest ≡ ys ++ stop ∷ more → (xs ≡ ys) × (rest ≡ more)
+digits_same [] [] stop rest more h g is e = (refl, ap behind e)
+digits_same [] (y ∷ ys) stop rest more h g is e =
     absurd (let same : stop ≡ y = ap front e in omega (arith, rw same at is, g.0))
-digits_same (x ∷ xs) [] stop as bs h g is e =
+digits_same (x ∷ xs) [] stop rest more h g is e =
     absurd (let same : x ≡ stop = ap front e in omega (arith, rw same at h.0, is))
-digits_same (x ∷ xs) (y ∷ ys) stop as bs h g is e =
+digits_same (x ∷ xs) (y ∷ ys) stop rest more h g is e =
     let same : x ≡ y = ap front e in
-    let more = digits_same xs ys stop as bs h.1 g.1 is (ap behind e) in
+    let more = digits_same xs ys stop rest more h.1 g.1 is (ap behind e) in
     (ap (λ v. v ∷ xs) same ∙ ap (λ v. y ∷ v) more.0, more.1)
 
-number_same : (m n stop : ℕ) (as bs : List ℕ) → m < 2 ^ 64 → n < 2 ^ 64 → 10 ≤ digit_value stop
-    → decimal m ++ stop ∷ as ≡ decimal n ++ stop ∷ bs → (m ≡ n) × (as ≡ bs)
-number_same m n stop as bs low high is e =
-    let digits = digits_same (decimal m) (decimal n) stop as bs (decimal_is_IsNumeral m low).0.1
+number_same : (m n stop : ℕ) (rest more : List ℕ) → m < 2 ^ 64 → n < 2 ^ 64 → 10 ≤ digit_value stop
+    → decimal m ++ stop ∷ rest ≡ decimal n ++ stop ∷ more → (m ≡ n) × (rest ≡ more)
+number_same m n stop rest more low high is e =
+    let digits = digits_same (decimal m) (decimal n) stop rest more (decimal_is_IsNumeral m low).0.1
         (decimal_is_IsNumeral n high).0.1 is e in
     (decimal_injective m n low high digits.0, digits.1)
 
