@@ -1,5 +1,5 @@
 -- The summed bytes tell the size and the picture.
-use Rattle.std.proofs.Common.{◌≡◌, ◌↔◌, ℕ, ◌+◌, ◌<◌, ◌^◌, ◌≤◌, List, [], ◌∷◌, ◌++◌, codes, decimal, refl, ap, sym, subst, ◌∙◌, append_assoc, arith, lit≤}
+use Rattle.std.proofs.Common.{◌≡◌, ℕ, ◌<◌, ◌^◌, ◌≤◌, List, [], ◌∷◌, ◌++◌, codes, decimal, refl, ap, sym, subst, ◌∙◌, append_assoc, arith, lit≤}
 use Rattle.std.proofs.lemmas.Fmt.{decimal_injective, decimal_is_IsNumeral}
 use Rattle.std.specs.Char.{digit_value}
 use Rattle.std.specs.Str.Parse.{AllDigits}
@@ -34,14 +34,14 @@ digits_same (x ∷ xs) [] stop rest more h g is e =
     absurd (let same : x ≡ stop = ap front e in omega (arith, rw same at h.0, is))
 digits_same (x ∷ xs) (y ∷ ys) stop rest more h g is e =
     let same : x ≡ y = ap front e in
-    let more = digits_same xs ys stop rest more h.1 g.1 is (ap behind e) in
-    (ap (λ v. v ∷ xs) same ∙ ap (λ v. y ∷ v) more.0, more.1)
+    let others = digits_same xs ys stop rest more h.1 g.1 is (ap behind e) in
+    (ap (λ v. v ∷ xs) same ∙ ap (λ v. y ∷ v) others.0, others.1)
 
 number_same : (m n stop : ℕ) (rest more : List ℕ) → m < 2 ^ 64 → n < 2 ^ 64 → 10 ≤ digit_value stop
     → decimal m ++ stop ∷ rest ≡ decimal n ++ stop ∷ more → (m ≡ n) × (rest ≡ more)
 number_same m n stop rest more low high is e =
     let digits = digits_same (decimal m) (decimal n) stop rest more (decimal_is_IsNumeral m low).0.1
-        (decimal_is_IsNumeral n high).0.1 is e in
+    (decimal_is_IsNumeral n high).0.1 is e in
     (decimal_injective m n low high digits.0, digits.1)
 
 -- the texts of two numbers, and what comes after them
@@ -62,7 +62,7 @@ sizes_same y z f g low high e =
     let texts = sym (regrouped (decimal y.width) (decimal y.lines) f) ∙ (ap after e ∙ regrouped (decimal z.width) (decimal z.lines) g) in
     let width = number_same y.width z.width 0x20 _ _ (omega (arith, low.columns)) (omega (arith, high.columns)) (lit≤ tt) texts in
     let lines = number_same y.lines z.lines 0x0A f g (omega (arith, low.lines)) (omega (arith, high.lines)) (lit≤ tt)
-        (ap (λ v. behind (behind v)) width.1) in
+    (ap (λ v. behind (behind v)) width.1) in
     (same_size y z width.0 lines.0, lines.1)
 
 pub sums_tell_pictures : SumsTellPictures
@@ -72,7 +72,7 @@ sums_tell_pictures y z p q low high h g = (told, λ e. ap (λ (v : Picture). sum
     told e =
         let P : Size → Type 0 = λ s. IsPlayableSize s in
         let parts = sizes_same p.size q.size (form_bytes p) (form_bytes q)
-            (subst P (sym h.is_picture.size) low) (subst P (sym g.is_picture.size) high) e in
+        (subst P (sym h.is_picture.size) low) (subst P (sym g.is_picture.size) high) e in
         let same : y ≡ z = sym h.is_picture.size ∙ (parts.0 ∙ g.is_picture.size) in
         let D : Size → Type 0 = λ s. IsDrawable s p in
         form_tells_the_picture z p q (subst D same h) g parts.1
