@@ -109,8 +109,8 @@ fn end_of_rows<G: Screen>(picture: &Picture<G>) -> usize
     end
 }
 
-/// Gives the form of a picture.
-pub(crate) fn give_form<S: Sink, G: Screen>(sink: &mut S, picture: &Picture<G>)
+/// Gives the form of a picture, which [`put_form`] puts, to a sink.
+pub fn give_form<S: Sink, G: Screen>(sink: &mut S, picture: &Picture<G>)
     ensures { S.takes sink.old sink.new (form_bytes picture.now) }
 {
     let end = end_of_rows(picture);

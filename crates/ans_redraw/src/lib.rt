@@ -7,8 +7,9 @@
 //! more, is only tried.
 //!
 //! `specs/Form.antt` has the form, and `specs/Colours.antt` how one attribute becomes another. [`form_length`] counts
-//! its bytes, and [`put_form`] puts them: each goes over the picture row by row, with no memory beyond a row. What is
-//! proved of the form, and the bytes of small pictures, are in `ans_picture_laws`.
+//! its bytes, [`put_form`] puts them, and [`give_form`] gives them to any [`Sink`]: each goes over the picture row by
+//! row, with no memory beyond a row. What is proved of the form, and the bytes of small pictures, are in
+//! `ans_picture_laws`.
 //!
 //! A file is redrawn if the form becomes its content, followed by all that came after the old content. [`redrawn_with`]
 //! says what that changes in the file, or how long the file would be if it is too long. [`put_redrawn_file`] puts the
@@ -30,8 +31,9 @@ mod run;
 mod sink;
 mod way;
 
-pub use form::{form_length, put_form};
+pub use form::{form_length, give_form, put_form};
 pub use new_file::{copy_redrawn_file, put_redrawn_file, redrawn_with};
 pub use outcome::{Redrawn, Unredrawn};
 pub use pen::RowPen;
 pub use redrawn_text::{put_redrawn, put_unredrawn};
+pub use sink::Sink;

@@ -5,10 +5,11 @@ use ans_write::Outbox;
 use std::io::Write;
 
 /// What takes bytes, one piece after the other.
-pub(crate) trait Sink {
+pub trait Sink {
     /// The first sink has taken these bytes and has become the second.
     ghost takes: { Self → Self → List ℕ → Type 0 };
 
+    /// Takes these bytes.
     fn take(&mut self, bytes: &[u8])
         ensures { takes self.old self.new bytes.now };
 
