@@ -5,8 +5,8 @@
 
 The flags are those of `crates/ans_model/src/mends.rt`: a table of those without a value, each with its bit, and the
 fields that hold a number. The manual page, the completions, ans.h, the package for JavaScript and the page for browsers
-have the same, in their own spelling: `--join-rows`, `ANS_JOIN_ROWS`, `joinRows`. It prints each difference, and ends
-with status 1 if there is one.
+have the same, in their own spelling: `--join-rows`, `ANS_JOIN_ROWS`, `joinRows`. The manual page and the completions
+also have `--suggested`, which names no change. It prints each difference, and ends with status 1 if there is one.
 """
 import pathlib
 import re
@@ -14,6 +14,10 @@ import sys
 
 TOP = pathlib.Path(__file__).resolve().parent.parent
 COMPLETIONS = "crates/anscheck/completions"
+
+
+# the flag of the program that names no change
+CHOOSING = ["suggested"]
 
 
 def text_of(name):
@@ -115,7 +119,7 @@ def places():
     in_package, options = {in_camel_case(it): flags[it] for it in flags}, options_of_package()
     boxes, fields = bits_of_page()
     for place, found in (*flags_of_manual(), *flags_of_completions()):
-        yield place, sorted([*flags, *numbers]), sorted(found)
+        yield place, sorted([*flags, *numbers, *CHOOSING]), sorted(found)
     yield "library/ans.h", {in_capitals(it): flags[it] for it in flags}, bits_of_header()
     yield "library/js/numbers.js", in_package, bits_of_package()
     yield "library/js/index.d.ts, true or false", sorted(in_package), options["boolean"]

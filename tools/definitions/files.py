@@ -69,7 +69,8 @@ GROUPS = [
         ans_model/MendFlags ans_mend/Drafts ans_sauce/Fields ans_mend/Tail ans_mend/Recounted ans_mend/EndMark
         ans_sauce/Contents ans_mend/OlderRecord ans_mend/LineEnds ans_mend/NewRecord ans_mend/Columns
         ans_forms/Unwanted ans_mend/TakingOut ans_hints/FullRowEnds ans_mend/FullRows ans_mend/LastEnds ans_mend/NamedColours ans_mend/Mending
-        ans_report/Changes ans_mend/IdleText ans_mend/MendedText ans_fix/Trials""".split()),
+        ans_report/Changes ans_mend/IdleText ans_mend/MendedText ans_fix/Trials
+        ans_check/Suggesting""".split()),
     Group("`redraw`", """
         ans_redraw/Colours ans_redraw/Form ans_redraw/RedrawnFile ans_redraw/Redrawing
         ans_redraw/RedrawnText""".split()),

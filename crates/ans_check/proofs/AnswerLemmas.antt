@@ -31,6 +31,7 @@ use Rattle.ans_check.specs.declared.exit_status.Ending.{Ending}
 use Rattle.ans_check.specs.declared.exit_status.Ending.TheVariants.{Run, Help, Usage, UnreadableWords, UnopenedFile}
 use Rattle.ans_check.specs.declared.exit_status.Ending.TheVariants.{Table, NamedInput, UnreadNames, Mended, NotMended}
 use Rattle.ans_check.specs.declared.exit_status.Ending.TheVariants.{Redrawn, NotRedrawn, Explained, InputAmong}
+use Rattle.ans_check.specs.declared.exit_status.Ending.TheVariants.{SuggestedAmong}
 use Rattle.ans_check.specs.declared.exit_status.Ending.TheVariants.{MayPassCleared}
 
 -- what was written by its result is what was written by whether the device has failed
@@ -66,6 +67,7 @@ said contents errors after naming (Explained counts) works h = h
 said contents errors after naming NamedInput works h = h
 said contents errors after naming InputAmong works h = h
 said contents errors after naming UnreadNames works h = h
+said contents errors after naming SuggestedAmong works h = h
 said contents errors after naming (Mended mended) works h = h
 said contents errors after naming (NotMended asked unhelped) works h = h
 said contents errors after naming (Redrawn redrawn) works h = h
@@ -89,6 +91,7 @@ says_as naming other (Explained counts) = refl
 says_as naming other NamedInput = refl
 says_as naming other InputAmong = refl
 says_as naming other UnreadNames = refl
+says_as naming other SuggestedAmong = refl
 says_as naming other (Mended mended) = refl
 says_as naming other (NotMended asked unhelped) = refl
 says_as naming other (Redrawn redrawn) = refl
@@ -171,3 +174,4 @@ said_as_message naming (UnopenedFile reason) t e m n r u = refl
 said_as_message naming NamedInput t e m n r u = refl
 said_as_message naming InputAmong t e m n r u = refl
 said_as_message naming UnreadNames t e m n r u = refl
+said_as_message naming SuggestedAmong t e m n r u = refl

@@ -12,6 +12,8 @@ use Rattle.ans_options.specs.declared.command.Command.{Command}
 use Rattle.ans_options.specs.declared.command.Command.TheVariants.{Check}
 use Rattle.ans_options.specs.declared.command.Asked.{Asked}
 use Rattle.ans_options.specs.declared.command.Asked.TheVariants as asked
+use Rattle.ans_options.specs.declared.command.MendChoice.{MendChoice}
+use Rattle.ans_options.specs.declared.command.MendChoice.TheVariants as choice
 use Rattle.ans_options.specs.declared.command.TableForm.{TableForm}
 use Rattle.ans_options.specs.declared.command.Options.{Options}
 use Rattle.ans_options.specs.declared.command_line.WordsError.{WordsError}
@@ -30,6 +32,7 @@ use Rattle.ans_check.specs.Ending.{ending_of_words}
 use Rattle.ans_check.specs.Listing.{IsListing, was_read_whole, names_in, listed_bytes}
 use Rattle.ans_redraw.specs.Redrawing.{TellsRedrawn}
 use Rattle.ans_check.specs.Served.{ServesAs}
+use Rattle.ans_check.specs.Suggesting.{TellsSuggested, ending_of_suggested}
 use Rattle.ans_fix.specs.Trials.{TellsFixed}
 use Rattle.ans_check.specs.Naming.{IsNaming, IsUnopened, first_called, front_text, is_guessed, names_standard, unnamed}
 use Rattle.ans_check.specs.Naming.{unopened_text}
@@ -45,6 +48,7 @@ use Rattle.ans_check.specs.declared.exit_status.Ending.{Ending}
 use Rattle.ans_check.specs.declared.exit_status.Ending.TheVariants.{Run, Help, Usage, UnreadableWords, UnopenedFile}
 use Rattle.ans_check.specs.declared.exit_status.Ending.TheVariants.{Table, NamedInput, UnreadNames, Mended, NotMended}
 use Rattle.ans_check.specs.declared.exit_status.Ending.TheVariants.{Redrawn, NotRedrawn, Explained, InputAmong}
+use Rattle.ans_check.specs.declared.exit_status.Ending.TheVariants.{SuggestedAmong}
 
 -- the reader is the input that the words name: the file of this name, or standard input where it is `-` or missing
 abbrev pub IsNamed : {R : Type 0} → (Text → R → Type 0) → (R → Type 0) → Option Text → R → Type 0
@@ -195,6 +199,18 @@ EndsOne remaining contents is_file is_standard fails options file output output_
     (EndsChecked remaining contents is_file is_standard fails options file output output_after ending)
     (EndsServed remaining contents is_file is_standard fails (Reports options) Run file output output_after ending)
 
+-- A file was mended, by flags or by its own findings; not by both together.
+abbrev pub EndsMend : {R W : Type 0} → (R → Option (List ℕ)) → (W → Option (List ℕ)) → (Text → R → Type 0)
+    → (R → Type 0) → (Text → ErrorKind → Type 0) → MendChoice → Option Text → Tried W → Tried W → Ending → Type 0
+EndsMend remaining contents is_file is_standard fails (choice.Flags mends) file output output_after ending =
+    EndsServed remaining contents is_file is_standard fails (TellsFixed mends) (ending_of_mending mends) file output
+    output_after ending
+EndsMend remaining contents is_file is_standard fails choice.Suggested file output output_after ending =
+    EndsServed remaining contents is_file is_standard fails TellsSuggested ending_of_suggested file output
+    output_after ending
+EndsMend remaining contents is_file is_standard fails choice.Both file output output_after ending =
+    (ending ≡ SuggestedAmong) × (output_after ≡ output)
+
 -- What these words ask for was done: one command on one input, what is wrong with files, a file mended or redrawn, a
 -- table of many files, or what a fault, a note or a word means.
 abbrev pub EndsAsTold : {R W : Type 0} → (R → Option (List ℕ)) → (W → Option (List ℕ)) → (Text → R → Type 0)
@@ -204,9 +220,9 @@ EndsAsTold remaining contents is_file is_standard fails words (asked.One options
     ending
 EndsAsTold remaining contents is_file is_standard fails words (asked.Why names) output output_after ending =
     EndsWhy remaining contents is_file is_standard fails words (map string_bytes names.items) output output_after ending
-EndsAsTold remaining contents is_file is_standard fails words (asked.Mend mends file) output output_after ending =
-    EndsServed remaining contents is_file is_standard fails (TellsFixed mends) (ending_of_mending mends)
-    (option_map string_bytes file) output output_after ending
+EndsAsTold remaining contents is_file is_standard fails words (asked.Mend choice file) output output_after ending =
+    EndsMend remaining contents is_file is_standard fails choice (option_map string_bytes file) output output_after
+    ending
 EndsAsTold remaining contents is_file is_standard fails words (asked.Redraw file) output output_after ending =
     EndsServed remaining contents is_file is_standard fails TellsRedrawn ending_of_redrawing
     (option_map string_bytes file) output output_after ending

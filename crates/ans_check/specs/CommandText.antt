@@ -151,7 +151,7 @@ ReportsBy Sauce start cells file passed text = ReportsSauce file passed text
 ReportsBy Tokens start cells file passed text = ReportsTokens file passed text
 ReportsBy Needs start cells file passed text = ReportsNeeds file passed text
 ReportsBy (Table form) start cells file passed text = ReportsNeeds file passed text
-ReportsBy (Mend mends) start cells file passed text = ReportsNeeds file passed text
+ReportsBy (Mend choice) start cells file passed text = ReportsNeeds file passed text
 ReportsBy Redraw start cells file passed text = ReportsNeeds file passed text
 
 -- whether the file passes and the text are what the options ask of it

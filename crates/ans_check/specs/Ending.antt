@@ -19,7 +19,7 @@ use Rattle.ans_check.specs.declared.exit_status.Ending.{Ending}
 use Rattle.ans_check.specs.declared.exit_status.Ending.TheVariants.{Run, Help, Usage, UnreadableWords, UnopenedFile}
 use Rattle.ans_check.specs.declared.exit_status.Ending.TheVariants.{Table, NamedInput, UnreadNames, Mended, NotMended}
 use Rattle.ans_check.specs.declared.exit_status.Ending.TheVariants.{Redrawn, NotRedrawn, Explained, InputAmong}
-use Rattle.ans_check.specs.declared.exit_status.Ending.TheVariants.{MayPassCleared}
+use Rattle.ans_check.specs.declared.exit_status.Ending.TheVariants.{MayPassCleared, SuggestedAmong}
 use Rattle.ans_check.specs.Run.{run_error_text, status_of}
 
 -- the exit status of each ending
@@ -37,6 +37,7 @@ ending_status NamedInput = 2
 ending_status UnreadNames = 2
 ending_status (Mended mended) = 0
 ending_status (NotMended asked unhelped) = 1
+ending_status SuggestedAmong = 2
 ending_status (Redrawn redrawn) = 0
 ending_status (NotRedrawn reason) = 1
 
@@ -57,6 +58,7 @@ ending_message InputAmong = Some (codes "'-' is standard input, and cannot be on
 ending_message UnreadNames = Some (codes "cannot read the names")
 ending_message (Mended mended) = None
 ending_message (NotMended asked unhelped) = None
+ending_message SuggestedAmong = Some (codes "mend --suggested takes no flag that asks for a change")
 ending_message (Redrawn redrawn) = None
 ending_message (NotRedrawn reason) = None
 

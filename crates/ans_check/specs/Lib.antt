@@ -8,6 +8,7 @@ pub mod Ending
 pub mod CommandText
 pub mod Reported
 pub mod Served
+pub mod Suggesting
 pub mod Table
 pub mod WhyTold
 pub mod WhyRows

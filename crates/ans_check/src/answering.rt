@@ -10,7 +10,7 @@ ghost use Rattle.ans_write.specs.Puts.{Puts};
 ghost use Rattle.ans_write.specs.Tried.{has_failed};
 ghost use Rattle.ans_check.specs.Answer.{EndsAfter, EndsAsTold, EndsBy, EndsNamed, EndsServed, EndsSo, EndsWritten};
 ghost use Rattle.ans_check.specs.Answer.{IsNamed, PrintsHelp, Says, Tells, said_text};
-ghost use Rattle.ans_check.specs.Answer.{EndsExplained, EndsOne, EndsWhy, TellsFailure, is_check};
+ghost use Rattle.ans_check.specs.Answer.{EndsExplained, EndsMend, EndsOne, EndsWhy, TellsFailure, is_check};
 ghost use Rattle.ans_check.specs.Answer.{ending_of_table, ending_of_whys, meaning_text, message_of, named_message};
 ghost use Rattle.ans_check.specs.Ending.{ending_of_words};
 ghost use Rattle.ans_check.specs.Listing.{was_read_whole, names_in, listed_bytes};
@@ -26,10 +26,11 @@ use crate::listing::Listing;
 use crate::naming::{Meant, Naming, first_of, is_guessed, name_of, naming_of, unnamed};
 use crate::redraw_file::Redrawing;
 use crate::rows::table;
+use crate::suggesting::Suggesting;
 use crate::task::{Task, serve_task};
 use crate::why_rows::{explain, put_unread_counts};
 use ans_mend::{put_mended, put_unmended};
-use ans_options::{Asked, Command, Options, TableForm, Topic, WordsError, asked};
+use ans_options::{Asked, Command, MendChoice, Options, TableForm, Topic, WordsError, asked};
 use ans_redraw::{put_redrawn, put_unredrawn};
 use ans_report::{Tried, fault_meaning, note_meaning};
 use ans_table::{Counts, Unopened, put_counts, put_name};
@@ -510,6 +511,26 @@ fn meaning_text(topic: Topic) -> &'static str
     }
 }
 
+/// Mends the input that the words name, by flags or by its own findings.
+fn serve_mend<I: Inputs, W: Write>(
+    alloc: Global,
+    inputs: I,
+    choice: &MendChoice,
+    name: Option<&str>,
+    output: &mut Tried<W>,
+) -> Ending
+    requires { has_failed output.old ≡ false }
+    ensures ends { EndsMend I.Reader.remaining W.contents (I.is_file inputs) (I.is_standard inputs)
+        (I.fails inputs) choice.now (option_map (λ n. n.now) name.entry) output.old output.new result }
+    ensures write { TellsFailure output.new result }
+{
+    match choice {
+        MendChoice::Flags(mends) => serve_one(alloc, inputs, mends, name, output),
+        MendChoice::Suggested => serve_one(alloc, inputs, &Suggesting, name, output),
+        MendChoice::Both => Ending::SuggestedAmong,
+    }
+}
+
 /// Does what the words ask for.
 fn serve_asked<I: Inputs, W: Write>(
     alloc: Global,
@@ -526,7 +547,7 @@ fn serve_asked<I: Inputs, W: Write>(
     match asked {
         Asked::One(options, name) => serve_command(alloc, inputs, options, name_of(name), output),
         Asked::Why(names) => serve_why(alloc, inputs, words, names.as_slice(), output),
-        Asked::Mend(mends, name) => serve_one(alloc, inputs, mends, name_of(name), output),
+        Asked::Mend(choice, name) => serve_mend(alloc, inputs, choice, name_of(name), output),
         Asked::Redraw(name) => serve_one(alloc, inputs, &Redrawing, name_of(name), output),
         Asked::Table(form, names) => serve_table(alloc, inputs, names.as_slice(), *form, output),
         Asked::Meaning(topic) => print_help(output, meaning_text(*topic)),
@@ -588,14 +609,16 @@ fn answer_refused<W: Write, E: Write>(
 ///
 /// If the words ask for a file to be mended, `output` has the mended file, and then `errors` what was
 /// changed of it, a line for each kind of change; or nothing was written, and `errors` has the reason. So it is
-/// if they ask for a file to be redrawn.
+/// if they ask for a file to be redrawn. With `--suggested` a file is mended by the flags of the line `fix:` that `why`
+/// has for it, and by no flags if it has no such line.
 ///
 /// The ending is that of the run; `MayPassCleared` if a check refuses the file for such a fault; `Explained` for `why`
-/// of several files; `Mended` or `NotMended` if a file was to be mended; `Redrawn` or `NotRedrawn` if one was to be
-/// redrawn; `UnopenedFile` if the named file cannot be opened; and if the words give no options, what their error says,
-/// or `UnreadableWords` if there is no memory for its text. Of a table it is `Table`, with how its files came out;
-/// `NamedInput` if `-` is among the names, and `InputAmong` if it is among several files of `why`; `UnreadNames` if
-/// standard input fails before the names end; and `Run(Err(Memory))` if there is no memory for the names or a row.
+/// of several files; `Mended` or `NotMended` if a file was to be mended, and `SuggestedAmong` if `--suggested` was given
+/// with other flags; `Redrawn` or `NotRedrawn` if one was to be redrawn; `UnopenedFile` if the named file cannot be
+/// opened; and if the words give no options, what their error says, or `UnreadableWords` if there is no memory for its
+/// text. Of a table it is `Table`, with how its files came out; `NamedInput` if `-` is among the names, and
+/// `InputAmong` if it is among several files of `why`; `UnreadNames` if standard input fails before the names end; and
+/// `Run(Err(Memory))` if there is no memory for the names or a row.
 /// `Run(Err(Write))` comes exactly if `output` fails. What fails on `errors` changes no ending.
 pub fn answer<I: Inputs, W: Write, E: Write>(
     alloc: Global,

@@ -58,6 +58,8 @@ pub enum Ending {
     /// The file is not mended by what was asked for, for this reason, and nothing was written. These flags would not
     /// help it.
     NotMended(Mends, Unhelped),
+    /// The words ask for what the findings call for, and for more.
+    SuggestedAmong,
     /// A file was redrawn and written, and this was changed of it.
     Redrawn(Redrawn),
     /// The file is not redrawn, for this reason, and nothing was written.
@@ -129,6 +131,7 @@ impl Ending {
             Ending::Table(counts) | Ending::Explained(counts) => counts.status(),
             Ending::Usage | Ending::UnreadableWords | Ending::UnopenedFile(_) => 2,
             Ending::NamedInput | Ending::InputAmong | Ending::UnreadNames => 2,
+            Ending::SuggestedAmong => 2,
         }
     }
 
@@ -152,6 +155,7 @@ impl Ending {
             }
             Ending::InputAmong => Some("'-' is standard input, and cannot be one of several files"),
             Ending::UnreadNames => Some("cannot read the names"),
+            Ending::SuggestedAmong => Some("mend --suggested takes no flag that asks for a change"),
         }
     }
 }

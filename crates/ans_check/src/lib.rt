@@ -9,7 +9,8 @@
 //! their public names are passed on.
 //!
 //! What each command writes is in `specs/CommandText.antt` and `specs/WhyTold.antt`, what a run has done
-//! when it returns in `specs/Served.antt`, what a redrawn file is in `specs/Redrawing.antt`, what a table has
+//! when it returns in `specs/Served.antt`, by which flags a file is mended by its own findings in
+//! `specs/Suggesting.antt`, what a redrawn file is in `specs/Redrawing.antt`, what a table has
 //! in `specs/Table.antt`, how words are answered in `specs/Answer.antt`, and the endings in
 //! `specs/Ending.antt`.
 #![tactic(auto)]
@@ -28,6 +29,7 @@ mod reading;
 mod redraw_file;
 mod rows;
 mod streams;
+mod suggesting;
 mod system;
 mod task;
 mod why_rows;
@@ -38,7 +40,7 @@ pub use ans_kinds::{KindsUsed, Players};
 pub use ans_mend::{MendError, Mended, Unmended, mend_on};
 pub use ans_model::start::Start;
 pub use ans_options::{
-    Asked, Command, Form, Mends, Options, TableForm, Topic, WordsError, asked, options,
+    Asked, Command, Form, MendChoice, Mends, Options, TableForm, Topic, WordsError, asked, options,
 };
 pub use ans_redraw::{Redrawn, Unredrawn};
 pub use ans_report::Needs;

@@ -69,7 +69,7 @@ fn mend_in<W: Write>(
 }
 
 /// Mends a copy of a file, and puts it.
-fn mend_file<W: Write>(
+pub(crate) fn mend_file<W: Write>(
     alloc: Global,
     out: &mut Outbox<'_, W>,
     file: &[u8],

@@ -129,7 +129,7 @@ command_clean (Show form) = pieces.plain_text (command_name (Show form)) refl
 command_clean Sauce = pieces.plain_text (command_name Sauce) refl
 command_clean Tokens = pieces.plain_text (command_name Tokens) refl
 command_clean (Table form) = pieces.plain_text (command_name (Table form)) refl
-command_clean (Mend mends) = pieces.plain_text (command_name (Mend mends)) refl
+command_clean (Mend choice) = pieces.plain_text (command_name (Mend choice)) refl
 command_clean Redraw = pieces.plain_text (command_name Redraw) refl
 
 meant_clean : (name : Option (List ℕ)) → IfSome name (All IsByte) → (m : Meant) → IsCleanText (meant_text name m)

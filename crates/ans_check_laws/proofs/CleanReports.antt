@@ -217,6 +217,8 @@ message_clean ended.InputAmong =
 message_clean ended.MayPassCleared =
     plain_text (codes "it may pass on a cleared screen: see anscheck why") refl
 message_clean ended.UnreadNames = plain_text (codes "cannot read the names") refl
+message_clean ended.SuggestedAmong =
+    plain_text (codes "mend --suggested takes no flag that asks for a change") refl
 message_clean ending = tt
 
 pub messages_clean : (ending : Ending) (text : List ℕ) → ending_message ending ≡ Some text

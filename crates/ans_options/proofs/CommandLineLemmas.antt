@@ -21,6 +21,7 @@ use Rattle.ans_options.specs.declared.command.Command.TheVariants.{Why, Check, S
 use Rattle.ans_options.specs.declared.command.Command.TheVariants.{Redraw}
 use Rattle.ans_options.specs.declared.command.Form.TheVariants.{Terminal}
 use Rattle.ans_model.specs.declared.mends.TheConstants.Mends as no_mends
+use Rattle.ans_options.specs.declared.command.MendChoice.TheVariants.{Flags}
 use Rattle.ans_options.specs.declared.command.TableForm.TheVariants.{Headed}
 use Rattle.clap.specs.declared.builder.command.Command.{Command}
 use Rattle.clap.proofs.CallerLemmas.{subcommand_required}
@@ -117,7 +118,7 @@ command_found words (Some p) e some = let (w, met) = program_met words p e in co
   where
     command_of : (w : List Text) → MetIn p w (built anscheck).subs → IsCommand p
     command_of w (inl why) = (Why, name_met why)
-    command_of w (inr (inl mend)) = (Mend no_mends.NONE, name_met mend)
+    command_of w (inr (inl mend)) = (Mend (Flags no_mends.NONE), name_met mend)
     command_of w (inr (inr (inl redraw))) = (Redraw, name_met redraw)
     command_of w (inr (inr (inr (inl needs)))) = (Needs, name_met needs)
     command_of w (inr (inr (inr (inr (inl check))))) = (Check, name_met check)

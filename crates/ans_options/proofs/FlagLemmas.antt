@@ -17,7 +17,7 @@ use Rattle.ans_options.specs.declared.command.Asked.TheVariants as asked
 use Rattle.ans_options.specs.declared.command.Command.{Command}
 use Rattle.ans_options.specs.declared.command.Command.TheVariants.{Why, Check, Show, Sauce, Tokens, Needs, Table, Mend}
 use Rattle.ans_options.specs.declared.command.Command.TheVariants.{Redraw}
-use Rattle.ans_model.specs.declared.mends.Mends.{Mends}
+use Rattle.ans_options.specs.declared.command.MendChoice.{MendChoice}
 use Rattle.ans_options.specs.declared.command.Options.{Options}
 use Rattle.ans_options.specs.declared.command.TableForm.{TableForm}
 use Rattle.ans_options.specs.declared.topic.Topic.{Topic}
@@ -123,7 +123,7 @@ none_asked Tokens rows e lacks = none_named rows (none_held Tokens rows start_fl
 none_asked Needs rows e lacks = none_named rows (none_held Needs rows start_flags lacks refl)
 none_asked Why rows e lacks = none_named rows (none_held Why rows start_flags lacks refl)
 none_asked (Table form) rows e lacks = none_named rows (none_held (Table form) rows start_flags lacks refl)
-none_asked (Mend mends) rows e lacks = none_named rows (none_held (Mend mends) rows start_flags lacks refl)
+none_asked (Mend choice) rows e lacks = none_named rows (none_held (Mend choice) rows start_flags lacks refl)
 none_asked Redraw rows e lacks = none_named rows (none_held Redraw rows start_flags lacks refl)
 
 -- what is known without flags
@@ -142,7 +142,7 @@ takes_no_cells Tokens other = refl
 takes_no_cells Needs other = refl
 takes_no_cells Why other = refl
 takes_no_cells (Table form) other = refl
-takes_no_cells (Mend mends) other = refl
+takes_no_cells (Mend choice) other = refl
 takes_no_cells Redraw other = refl
 
 -- without `check` no cells are asked for
@@ -186,14 +186,14 @@ table_asked words a form names asks is =
     (m.asks.0, m.asks.1, sym start, rw cells ((λ on. on), (λ on. on)), sym file)
 
 -- where the words ask for a file mended, the options of that are theirs
-pub mend_asked : (words : List Text) (a : Asked) (mends : Mends) (file : Option (String Global)) → IsReadAs words a
-    → a ≡ asked.Mend mends file → AreOptionsOf words (mend_options mends) (option_map string_bytes file)
-mend_asked words a mends file asks is =
-    let m = met_by words (Mend mends) (AsksAs (asked.Mend mends file)) (λ sub asks. asks.0) (rw (sym is) asks) in
-    let start = none_asked (Mend mends) m.met.1 refl m.lacks in
+pub mend_asked : (words : List Text) (a : Asked) (choice : MendChoice) (file : Option (String Global)) → IsReadAs words a
+    → a ≡ asked.Mend choice file → AreOptionsOf words (mend_options choice) (option_map string_bytes file)
+mend_asked words a choice file asks is =
+    let m = met_by words (Mend choice) (AsksAs (asked.Mend choice file)) (λ sub asks. asks.0) (rw (sym is) asks) in
+    let start = none_asked (Mend choice) m.met.1 refl m.lacks in
     let cells = unheld (codes "cells") m.met.1 (m.lacks (codes "cells") refl) in
     let name : Option Text = option_map string_bytes file in
-    subst (λ (s : Option (Text × List Row)). IsSomeAnd s (λ sub. AsksFor sub (mend_options mends) name)) (sym m.found)
+    subst (λ (s : Option (Text × List Row)). IsSomeAnd s (λ sub. AsksFor sub (mend_options choice) name)) (sym m.found)
     (m.asks.0, (m.asks.1, m.asks.3), sym start, rw cells ((λ on. on), (λ on. on)), m.asks.2)
 
 -- where the words ask for a file redrawn, the options of that are theirs

@@ -37,7 +37,7 @@ help_of_command program (Show form) = refl
 help_of_command program Sauce = refl
 help_of_command program Tokens = refl
 help_of_command program (Table form) = refl
-help_of_command program (Mend mends) = refl
+help_of_command program (Mend choice) = refl
 help_of_command program Redraw = refl
 
 pub help_of_other : (program name : Text) (more : List Text) → IsNoCommand name
@@ -55,7 +55,7 @@ help_of_more program word more (Show form) one = refl
 help_of_more program word more Sauce one = refl
 help_of_more program word more Tokens one = refl
 help_of_more program word more (Table form) one = absurd (true≢false one)
-help_of_more program word more (Mend mends) one = refl
+help_of_more program word more (Mend choice) one = refl
 help_of_more program word more Redraw one = refl
 
 pub help_of_files_and_more : (program word : Text) (more : List Text) (c : Command) → takes_files c ≡ true
@@ -68,5 +68,5 @@ help_of_files_and_more program word more Check many = absurd (true≢false (sym 
 help_of_files_and_more program word more (Show form) many = absurd (true≢false (sym many))
 help_of_files_and_more program word more Sauce many = absurd (true≢false (sym many))
 help_of_files_and_more program word more Tokens many = absurd (true≢false (sym many))
-help_of_files_and_more program word more (Mend mends) many = absurd (true≢false (sym many))
+help_of_files_and_more program word more (Mend choice) many = absurd (true≢false (sym many))
 help_of_files_and_more program word more Redraw many = absurd (true≢false (sym many))

@@ -15,7 +15,8 @@ use Rattle.ans_model.specs.declared.mends.TheConstants.Mends as no_mends
 use Rattle.ans_options.specs.declared.command.TableForm.TheVariants.{Headed}
 use Rattle.ans_options.specs.CommandLine.{IsNoCommand, command_names, help_on, is_mend, is_redraw, takes_files}
 use Rattle.ans_options.specs.CommandLine.{command_name, command_named, words_meant}
-use Rattle.ans_model.specs.declared.mends.Mends.{Mends}
+use Rattle.ans_options.specs.declared.command.MendChoice.{MendChoice}
+use Rattle.ans_options.specs.declared.command.MendChoice.TheVariants.{Flags}
 use Rattle.ans_options.specs.declared.command.TableForm.{TableForm}
 use Rattle.ans_model.specs.Text.Words.{texts_of}
 use Rattle.ans_options.proofs.CommandLineLemmas.{not_true}
@@ -28,7 +29,7 @@ pub no_command_name : (name : Text) → IsNoCommand name → list_any (bytes_eq 
 no_command_name name h =
     rw (
       unequal name (codes "why") (h Why),
-      unequal name (codes "mend") (h (Mend no_mends.NONE)),
+      unequal name (codes "mend") (h (Mend (Flags no_mends.NONE))),
       unequal name (codes "redraw") (h Redraw),
       unequal name (codes "needs") (h Needs),
       unequal name (codes "check") (h Check),
@@ -59,7 +60,7 @@ names_command (Show form) = refl
 names_command Sauce = refl
 names_command Tokens = refl
 names_command (Table form) = refl
-names_command (Mend mends) = refl
+names_command (Mend choice) = refl
 names_command Redraw = refl
 
 -- a name without a command is none of theirs
@@ -102,12 +103,12 @@ takes_one (Show form) no_table no_why = refl
 takes_one Sauce no_table no_why = refl
 takes_one Tokens no_table no_why = refl
 takes_one Needs no_table no_why = refl
-takes_one (Mend mends) no_table no_why = refl
+takes_one (Mend choice) no_table no_why = refl
 takes_one Redraw no_table no_why = refl
 
 -- and what does not mend in any way does not mend
-pub no_mend : (c : Command) → ((mends : Mends) → c ≡ Mend mends → ⊥) → is_mend c ≡ false
-no_mend (Mend mends) other = absurd (other mends refl)
+pub no_mend : (c : Command) → ((choice : MendChoice) → c ≡ Mend choice → ⊥) → is_mend c ≡ false
+no_mend (Mend choice) other = absurd (other choice refl)
 no_mend Why other = refl
 no_mend Check other = refl
 no_mend (Show form) other = refl
@@ -127,4 +128,4 @@ no_redraw Sauce other = refl
 no_redraw Tokens other = refl
 no_redraw Needs other = refl
 no_redraw (Table form) other = refl
-no_redraw (Mend mends) other = refl
+no_redraw (Mend choice) other = refl

@@ -101,7 +101,7 @@ command_unnamed (Show form) = refl
 command_unnamed Sauce = refl
 command_unnamed Tokens = refl
 command_unnamed (Table form) = refl
-command_unnamed (Mend mends) = refl
+command_unnamed (Mend choice) = refl
 command_unnamed Redraw = refl
 
 pub no_topic_of_command : (program : Text) (c : Command)

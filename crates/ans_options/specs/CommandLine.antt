@@ -1,7 +1,7 @@
 -- The command line, and the options that its words give.
 use Rattle.std.specs.Prelude.{map, fold, ◌≡◌, ◌≢◌, ◌↔◌, not, Bool, true, false, List, [], ◌∷◌, Option, Some, codes}
 use Rattle.std.specs.Prelude.{length, option_map, string_bytes, IsSomeAnd, IsTrue, MatchOption, if◌then◌else◌, unwrap_or, ⊤}
-use Rattle.std.specs.Prelude.{◌||◌, ◌&&◌, ◌≤◌, ℕ, IfSome, find, nat_eq, nat_le, pos}
+use Rattle.std.specs.Prelude.{◌||◌, ◌&&◌, ◌≤◌, ℕ, IfSome, find, is_some, nat_eq, nat_le, pos}
 use Rattle.std.specs.List.{list_any, starts_with}
 use Rattle.std.specs.Option.{option_map_or, option_or}
 use Rattle.std.specs.Str.{bytes_eq, chars}
@@ -25,6 +25,8 @@ use Rattle.ans_options.specs.declared.command.Command.TheVariants.{Redraw}
 use Rattle.ans_model.specs.declared.mends.TheConstants.Mends as no_mends
 use Rattle.ans_model.specs.declared.mends.Mends.{Mends}
 use Rattle.ans_model.specs.MendFlags.{mend_flags, with_given}
+use Rattle.ans_options.specs.declared.command.MendChoice.{MendChoice}
+use Rattle.ans_options.specs.declared.command.MendChoice.TheVariants.{Flags, Suggested, Both}
 use Rattle.ans_options.specs.declared.command.Form.{Form}
 use Rattle.ans_options.specs.declared.command.Form.TheVariants.{Terminal, Vga, Page}
 use Rattle.ans_options.specs.declared.command.TableForm.{TableForm}
@@ -78,7 +80,7 @@ command_name (Show form) = codes "show"
 command_name Sauce = codes "sauce"
 command_name Tokens = codes "tokens"
 command_name (Table form) = codes "table"
-command_name (Mend mends) = codes "mend"
+command_name (Mend choice) = codes "mend"
 command_name Redraw = codes "redraw"
 
 -- a command's subcommand: its name, its flags in the order of its help, `[FILE]` or `[FILE]..`, and of `mend` the
@@ -94,10 +96,12 @@ command_app (Show form) =
 command_app Why = files_app (command_name Why)
 command_app (Table form) =
     with_flags (files_app (command_name (Table form))) (codes "json" ∷ codes "no-header" ∷ [])
-command_app (Mend mends) =
+command_app (Mend choice) =
     with_rule
     (with_rule
-    (with_rule (with_flags (file_app (command_name (Mend mends))) (map (λ f. f.name) mend_flags))
+    (with_rule
+    (with_flags (with_rule (file_app (command_name (Mend choice))) (flag_rule (codes "suggested")))
+    (map (λ f. f.name) mend_flags))
     (number_rule (codes "lines") (numbers_up_to 8192)))
     (number_rule (codes "columns") (numbers_up_to 1024)))
     (number_rule (codes "add-record") (numbers_up_to 1024))
@@ -106,7 +110,7 @@ command_app command = file_app (command_name command)
 -- the commands, in the order of the help
 abbrev pub commands : List Command
 commands =
-    Why ∷ Mend no_mends.NONE ∷ Redraw ∷ Needs ∷ Check ∷ Show Terminal ∷ Sauce ∷ Tokens ∷ Table Headed ∷ []
+    Why ∷ Mend (Flags no_mends.NONE) ∷ Redraw ∷ Needs ∷ Check ∷ Show Terminal ∷ Sauce ∷ Tokens ∷ Table Headed ∷ []
 
 -- their names
 abbrev pub command_names : List Text
@@ -133,7 +137,7 @@ takes_files _ = false
 
 -- whether a command writes a file mended
 abbrev pub is_mend : Command → Bool
-is_mend (Mend mends) = true
+is_mend (Mend choice) = true
 is_mend _ = false
 
 -- whether a command writes a file redrawn
@@ -264,11 +268,31 @@ AreInRange mends =
     × IfSome mends.columns (λ n. (1 ≤ n) × (n ≤ 1024))
     × IfSome mends.lines (λ n. (1 ≤ n) × (n ≤ 8192))
 
+-- each number that the flags have is in its range
+abbrev pub IsInRange : MendChoice → Type 0
+IsInRange (Flags mends) = AreInRange mends
+IsInRange _ = ⊤
+
+-- whether a flag or a number names a change
+abbrev pub names_changes : List Row → Bool
+names_changes rows =
+    list_any (λ f. holds_flag f.name rows) mend_flags
+    || (is_some (first_of (codes "lines") rows)
+    || (is_some (first_of (codes "columns") rows) || is_some (first_of (codes "add-record") rows)))
+
+-- What is to be changed: with `--suggested` what the drawing's findings call for, and else what the flags name. Both
+-- are not asked for together.
+abbrev pub choice_asked : List Row → MendChoice
+choice_asked rows =
+    if not (holds_flag (codes "suggested") rows) then Flags (mends_asked rows)
+    else if names_changes rows then Both
+    else Suggested
+
 -- where the command shows a picture, writes a table or mends, it does so as the flags and the numbers ask
 abbrev pub IsInFormAsked : Command → List Row → Type 0
 IsInFormAsked (Show form) rows = form ≡ form_asked rows
 IsInFormAsked (Table form) rows = form ≡ table_form_asked rows
-IsInFormAsked (Mend mends) rows = (mends ≡ mends_asked rows) × AreInRange mends
+IsInFormAsked (Mend choice) rows = (choice ≡ choice_asked rows) × IsInRange choice
 IsInFormAsked _ rows = ⊤
 
 -- The subcommand is named as the command, and its matches say in which form a picture is shown or a table is written,
@@ -307,17 +331,17 @@ AsksForTable sub form names =
     (sub.0 ≡ command_name (Table form)) × (form ≡ table_form_asked sub.1) × (names ≡ files_of sub.1)
 
 -- the options of mending: nothing is known, and no cells are asked for
-abbrev pub mend_options : Mends → Options
-mend_options mends = record { command = Mend mends; start = none_known; cells = false }
+abbrev pub mend_options : MendChoice → Options
+mend_options choice = record { command = Mend choice; start = none_known; cells = false }
 
--- The subcommand is `mend`, and its matches say what may be changed, with each number in its range. They hold the file
--- exactly where one is given, with that text.
-abbrev pub AsksForMend : (Text × List Row) → Mends → Option Text → Type 0
-AsksForMend sub mends file =
-    (sub.0 ≡ command_name (Mend mends))
-    × (mends ≡ mends_asked sub.1)
+-- The subcommand is `mend`, and its matches say what is to be changed, with each number in its range. They hold the
+-- file exactly where one is given, with that text.
+abbrev pub AsksForMend : (Text × List Row) → MendChoice → Option Text → Type 0
+AsksForMend sub choice file =
+    (sub.0 ≡ command_name (Mend choice))
+    × (choice ≡ choice_asked sub.1)
     × (file ≡ first_of (codes "file") sub.1)
-    × AreInRange mends
+    × IsInRange choice
 
 -- the options of redrawing: nothing is known, and no cells are asked for
 abbrev pub redraw_options : Options
@@ -337,7 +361,7 @@ AsksAs (asked.One options file) sub =
     × (is_redraw options.command ≡ false)
 AsksAs (asked.Why names) sub = AsksForWhy sub (map string_bytes names.items)
 AsksAs (asked.Table form names) sub = AsksForTable sub form (map string_bytes names.items)
-AsksAs (asked.Mend mends file) sub = AsksForMend sub mends (option_map string_bytes file)
+AsksAs (asked.Mend choice file) sub = AsksForMend sub choice (option_map string_bytes file)
 AsksAs (asked.Redraw file) sub = AsksForRedraw sub (option_map string_bytes file)
 AsksAs (asked.Meaning topic) sub = ⊥
 

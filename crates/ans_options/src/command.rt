@@ -29,6 +29,17 @@ pub enum TableForm {
     Json,
 }
 
+/// What is to be changed of a file that is mended.
+#[derive(Debug, Clone, Copy, PartialEq, Eq)]
+pub enum MendChoice {
+    /// What the flags name.
+    Flags(Mends),
+    /// What the findings of the drawing call for.
+    Suggested,
+    /// Both are asked for, which is a mistake.
+    Both,
+}
+
 /// What the program does with a file, or with many.
 #[derive(Debug, Clone, Copy, PartialEq, Eq)]
 pub enum Command {
@@ -47,7 +58,7 @@ pub enum Command {
     /// Writes a row for each of many files: the verdict, what it needs, its fault, and its record.
     Table(TableForm),
     /// Writes the file mended, so that it passes from every start.
-    Mend(Mends),
+    Mend(MendChoice),
     /// Writes the file redrawn: its picture written again in the plainest form, which shows it from every start.
     Redraw,
 }
@@ -101,11 +112,11 @@ impl Options {
     }
 
     /// The options of mending. It reads neither what is known of the start nor whether cells are reported.
-    pub(crate) fn of_mend(mends: Mends) -> Options
-        ensures { result ≡ mend_options mends }
+    pub(crate) fn of_mend(choice: MendChoice) -> Options
+        ensures { result ≡ mend_options choice }
     {
         Options {
-            command: Command::Mend(mends),
+            command: Command::Mend(choice),
             start: Start::ANY,
             cells: false,
         }
@@ -134,7 +145,7 @@ pub enum Asked {
     /// A table, and the names of its files as they are given, in their order.
     Table(TableForm, Vec<String>),
     /// A file mended, and the name of its input as it is given, `-` too.
-    Mend(Mends, Option<String>),
+    Mend(MendChoice, Option<String>),
     /// A file redrawn, and the name of its input as it is given, `-` too.
     Redraw(Option<String>),
     /// What a fault, a note or a word means.

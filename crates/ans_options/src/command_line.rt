@@ -1,8 +1,10 @@
 //! The command line, and the options that its words give.
 ghost use Rattle.std.specs.Prelude.{◌≡◌, true, IfOk, option_map, string_bytes, codes, map, IfSome, IfNone, IfErr};
 ghost use Rattle.std.specs.Str.{bytes_eq};
-ghost use Rattle.std.specs.Prelude.{find, nat_le, IsSomeAnd, IsSome, None, IsTrue, ◌↔◌, ◌≢◌, false, [], ◌∷◌};
+ghost use Rattle.std.specs.Prelude.{find, nat_le, IsSomeAnd, IsSome, None, IsTrue, ◌↔◌, ◌≢◌, false, [], ◌∷◌, is_some};
+ghost use Rattle.std.specs.List.{list_any};
 ghost use Rattle.clap.specs.Words.{app_of, first_of, found_of, rows_of, rule_of, subcommand_rows_of, takes};
+ghost use Rattle.clap.specs.Words.{with_rule};
 ghost use Rattle.clap.specs.Words.{fault_of, subcommand_of};
 ghost use Rattle.ans_model.specs.Screen.StartClass.{none_known};
 ghost use Rattle.ans_options.specs.CommandLine.{AreOptionsOf, IsCommand, IsInFormAsked, IsNoCommand};
@@ -12,7 +14,7 @@ ghost use Rattle.ans_options.specs.CommandLine.{with_flags, with_subcommands};
 ghost use Rattle.ans_options.specs.CommandLine.{words_meant, anscheck, command_app, command_name, file_app};
 ghost use Rattle.ans_options.specs.CommandLine.{asks_for_cleared, files_app, holds_flag};
 ghost use Rattle.ans_options.specs.CommandLine.{AreInRange, HasNumberUpTo, HasNumbersOfMend, is_mend, mends_asked};
-ghost use Rattle.ans_options.specs.CommandLine.{is_redraw};
+ghost use Rattle.ans_options.specs.CommandLine.{IsInRange, choice_asked, is_redraw, names_changes};
 ghost use Rattle.ans_options.specs.CommandLine.{number_asked, number_rule};
 ghost use Rattle.ans_model.specs.MendFlags.{row_of_flag, with_given};
 ghost use Rattle.ans_model.specs.Text.Words.{texts_of};
@@ -22,10 +24,11 @@ ghost use Rattle.ans_options.specs.Topics.{topic_of};
 ghost use Rattle.ans_options.specs.declared.command.Command.TheVariants.{Check, Show, Table, Mend};
 ghost use Rattle.ans_model.specs.declared.mends.TheConstants.Mends as no_mends;
 ghost use Rattle.ans_options.specs.declared.command.Form.TheVariants.{Terminal};
+ghost use Rattle.ans_options.specs.declared.command.MendChoice.TheVariants.{Flags};
 ghost use Rattle.ans_options.specs.declared.command.TableForm.TheVariants.{Headed};
 ghost use Rattle.ans_options.specs.declared.command_line.WordsError.TheVariants.{Clap};
 
-use crate::command::{Asked, Command, Form, Options, TableForm};
+use crate::command::{Asked, Command, Form, MendChoice, Options, TableForm};
 use crate::topic::topic_of;
 use ans_model::mends::{MendFlag, Mends, mend_flags};
 use ans_model::start::Start;
@@ -203,7 +206,7 @@ const TABLE: &str = "Check many files, one row each";
 /// The commands, in the order of the program's help.
 const COMMANDS: [Command; 9] = [
     Command::Why,
-    Command::Mend(Mends::NONE),
+    Command::Mend(MendChoice::Flags(Mends::NONE)),
     Command::Redraw,
     Command::Needs,
     Command::Check,
@@ -212,6 +215,9 @@ const COMMANDS: [Command; 9] = [
     Command::Tokens,
     Command::Table(TableForm::Headed),
 ];
+
+/// What `--suggested` of `mend` does.
+const SUGGESTED: &str = "Make the changes that the fix: line of why names";
 
 /// What `--lines` of `mend` does.
 const LINES: &str = "Set N lines if too few or none are stated (1 to 8192)";
@@ -374,10 +380,18 @@ fn show_command<'a>(alloc: Global) -> Result<clap::Command<'a>, AllocError>
     with_flags(alloc, command, &PART_FLAGS, true)
 }
 
-fn mend_command<'a>(alloc: Global) -> Result<clap::Command<'a>, AllocError>
-    ensures { IfOk result (λ c. app_of c ≡ command_app (Mend no_mends.NONE)) }
+/// `mend [FILE]` with the flag that names no change.
+fn suggested_command<'a>(alloc: Global) -> Result<clap::Command<'a>, AllocError>
+    ensures { IfOk result (λ c. app_of c ≡ with_rule (file_app (codes "mend")) (flag_rule (codes "suggested"))) }
 {
     let command = file_command(alloc, "mend", MEND, MEND_END)?;
+    command.arg(flag(alloc, "suggested", SUGGESTED, false))
+}
+
+fn mend_command<'a>(alloc: Global) -> Result<clap::Command<'a>, AllocError>
+    ensures { IfOk result (λ c. app_of c ≡ command_app (Mend (Flags no_mends.NONE))) }
+{
+    let command = suggested_command(alloc)?;
     let command = with_mend_flags(alloc, command, mend_flags())?;
     let lines = number(alloc, "lines", value_parser!(u16).range(1..=8192), LINES);
     let columns = number(
@@ -536,6 +550,52 @@ fn mends_asked(matches: &ArgMatches<'_>) -> Mends
     with_given(matches, numbers, mend_flags())
 }
 
+/// Whether one of these flags is given.
+fn holds_any(matches: &ArgMatches<'_>, flags: &[MendFlag]) -> bool
+    ensures { result ≡ list_any (λ f. holds_flag f.name (rows_of (found_of matches.now)))
+        (map row_of_flag flags.now) }
+{
+    for flag in flags {
+        if holds(matches, flag.name) {
+            return true;
+        }
+    }
+    false
+}
+
+/// Whether an option is given a value.
+fn is_given(matches: &ArgMatches<'_>, id: &str) -> bool
+    ensures { result ≡ is_some (first_of id.now (rows_of (found_of matches.now))) }
+{
+    matches.get_str(id).is_some()
+}
+
+/// Whether a flag or a number names a change.
+fn names_changes(matches: &ArgMatches<'_>) -> bool
+    ensures { result ≡ names_changes (rows_of (found_of matches.now)) }
+{
+    holds_any(matches, mend_flags())
+        || is_given(matches, "lines")
+        || is_given(matches, "columns")
+        || is_given(matches, "add-record")
+}
+
+/// What is to be changed: what the drawing's findings call for if `--suggested` is given, and else what the flags name.
+fn choice_asked(matches: &ArgMatches<'_>) -> MendChoice
+    requires { HasNumbersOfMend (rows_of (found_of matches.now)) }
+    ensures is { result ≡ choice_asked (rows_of (found_of matches.now)) }
+    ensures range { IsInRange result }
+{
+    if !holds(matches, "suggested") {
+        return MendChoice::Flags(mends_asked(matches));
+    }
+    if names_changes(matches) {
+        MendChoice::Both
+    } else {
+        MendChoice::Suggested
+    }
+}
+
 /// The command, with the form that the flags ask for.
 fn in_form_asked(command: Command, matches: &ArgMatches<'_>) -> Command
     requires { HasNumbersOfMend (rows_of (found_of matches.now)) }
@@ -548,7 +608,7 @@ fn in_form_asked(command: Command, matches: &ArgMatches<'_>) -> Command
     match command {
         Command::Show(_) => Command::Show(form_asked(matches)),
         Command::Table(_) => Command::Table(table_form_asked(matches)),
-        Command::Mend(_) => Command::Mend(mends_asked(matches)),
+        Command::Mend(_) => Command::Mend(choice_asked(matches)),
         _ => command,
     }
 }
@@ -667,7 +727,7 @@ fn read_matches(alloc: Global, matches: &ArgMatches<'_>) -> Result<Asked, WordsE
     }
     let file = file_of(alloc, found)?;
     match command {
-        Command::Mend(_) => Ok(Asked::Mend(mends_asked(found), file)),
+        Command::Mend(_) => Ok(Asked::Mend(choice_asked(found), file)),
         Command::Redraw => Ok(Asked::Redraw(file)),
         _ => Ok(Asked::One(options_of(command, found), file)),
     }
@@ -790,7 +850,8 @@ pub fn near_command(alloc: Global, word: &str) -> Result<Option<Command>, AllocE
 /// changes nothing. Cells are asked for if `--cells` is given. A picture comes as a page if `--html`
 /// is, else in a VGA's colours if `--vga` is. A table's rows are JSON if `--json` is given, and else
 /// have a line of names above them unless `--no-header` is. With the other commands nothing is known. What
-/// may be changed to mend is what the flags of `mend` name; `--add-record` and `--columns` have a number from 1 to
+/// may be changed to mend is what the flags of `mend` name, or with `--suggested` what the drawing's findings call for;
+/// it takes no other flag, and with one the choice is `Both`. `--add-record` and `--columns` have a number from 1 to
 /// 1024, and `--lines` one from 1 to 8192, if they are given.
 ///
 /// `help` with the name of a fault, a note or a word only, as `anscheck help F20`, asks for its meaning. These
@@ -835,7 +896,7 @@ pub fn options(alloc: Global, words: &[&str]) -> Result<(Options, Option<String>
         Asked::One(options, file) => Ok((options, file)),
         Asked::Why(_) => Ok((Options::WHY, None)),
         Asked::Table(form, _) => Ok((Options::of_table(form), None)),
-        Asked::Mend(mends, file) => Ok((Options::of_mend(mends), file)),
+        Asked::Mend(choice, file) => Ok((Options::of_mend(choice), file)),
         Asked::Redraw(file) => Ok((Options::of_redraw(), file)),
         Asked::Meaning(_) => unreachable!(),
     }

@@ -2,7 +2,7 @@
 //!
 //! [`asked`] has `clap` read what the words mean, and returns what they ask for: the [`Options`] and the
 //! name of one file, the names of the files of `why`, the form of a table and the names of its files, the
-//! [`Mends`] and the name of a file to be mended, or the name of a file to be redrawn; or a [`WordsError`].
+//! [`MendChoice`] and the name of a file to be mended, or the name of a file to be redrawn; or a [`WordsError`].
 //! Before that it sees whether they ask for help on a [`Topic`], a fault, a note or a word by its name, which
 //! `clap` knows nothing of. A first word that is no command is a file's name, and `why` is put before it
 //! (`words_asked`); [`command_named`] is the command of a name, and [`near_command`] the one that may have been meant.
@@ -22,6 +22,6 @@ mod topic;
 mod words;
 
 pub use ans_model::mends::Mends;
-pub use command::{Asked, Command, Form, Options, TableForm};
+pub use command::{Asked, Command, Form, MendChoice, Options, TableForm};
 pub use command_line::{WordsError, asked, command_named, near_command, options};
 pub use topic::{HelpWord, Topic, WordTable, explains};

@@ -429,7 +429,7 @@ too few or none. In 'table': the number that the record states, 0 for none.
 ];
 
 /// What `mend` does, its flags, and what they are about.
-pub(crate) static FIXES: [WordRow; 12] = [
+pub(crate) static FIXES: [WordRow; 13] = [
     (
         "least-lines",
         "\
@@ -499,6 +499,17 @@ try: flags of 'mend' that may make a file of a drawing that it could not fix
 'anscheck why' says which: its hints name the flags. 'mend' writes nothing that
 would still be refused, so if a drawing has several faults, give all flags at
 once. 'anscheck help crlf' and so on explain each of them.
+",
+    ),
+    (
+        "suggested",
+        "\
+suggested: make the changes that the line fix: of 'why' names
+
+  anscheck mend --suggested FILE > FIXED
+is 'anscheck mend' with the flags of that line. If 'why' has no such line, or
+one without flags, it is 'anscheck mend' without flags. A flag that asks for a
+change cannot be given with it.
 ",
     ),
     (

@@ -69,7 +69,7 @@ fn unhelped(reason: Unmended) -> Unhelped {
 }
 
 /// The endings that are looked at.
-fn endings() -> [Ending; 22] {
+fn endings() -> [Ending; 23] {
     [
         Ending::Run(Ok(true)),
         Ending::Run(Ok(false)),
@@ -93,11 +93,12 @@ fn endings() -> [Ending; 22] {
         Ending::UnreadNames,
         Ending::Mended(CUT),
         Ending::NotMended(Mends::NONE, unhelped(Unmended::Torn)),
+        Ending::SuggestedAmong,
     ]
 }
 
 /// The exit status of each, and what it says.
-static ENDS: [(u8, Option<&str>); 22] = [
+static ENDS: [(u8, Option<&str>); 23] = [
     (0, None),
     (1, None),
     (1, Some("it may pass on a cleared screen: see anscheck why")),
@@ -126,6 +127,10 @@ static ENDS: [(u8, Option<&str>); 22] = [
     (2, Some("cannot read the names")),
     (0, None),
     (1, None),
+    (
+        2,
+        Some("mend --suggested takes no flag that asks for a change"),
+    ),
 ];
 
 /// What is said of a file that was not opened, after its name.

@@ -1,7 +1,7 @@
 //! What may be changed of a file that is mended.
 use super::faults::{Row, expect_kinds};
 use super::read_words;
-use ans_options::{Asked, Command, Mends, Options, WordsError, asked};
+use ans_options::{Asked, Command, MendChoice, Mends, Options, WordsError, asked};
 use ans_samples::start;
 use clap::error::ErrorKind::{
     ArgumentConflict, InvalidValue, OutOfMemory, TooManyValues, UnknownArgument, ValueValidation,
@@ -75,8 +75,27 @@ static MENDED: [(&[&str], Mends, Option<&str>); 38] = words! {
     "mend" "--add-record" "80" "--" "25" => mends!(add_record: Some(80)), Some("25");
 };
 
+/// Words that ask for a file mended, how it is found what is to be changed, and the file.
+static CHOSEN: [(&[&str], MendChoice, Option<&str>); 11] = words! {
+    "mend" "--suggested" => MendChoice::Suggested, None;
+    "mend" "--suggested" "f" => MendChoice::Suggested, Some("f");
+    "mend" "f" "--suggested" => MendChoice::Suggested, Some("f");
+    "mend" "-" "--suggested" => MendChoice::Suggested, Some("-");
+    "mend" "--suggested" "--take-out" => MendChoice::Both, None;
+    "mend" "--least-lines" "f" "--suggested" => MendChoice::Both, Some("f");
+    "mend" "--suggested" "--lines" "25" => MendChoice::Both, None;
+    "mend" "--columns=80" "--suggested" => MendChoice::Both, None;
+    "mend" "--suggested" "--add-record" "80" "f" => MendChoice::Both, Some("f");
+    "mend" "--crlf" "--suggested" "--mixed" => MendChoice::Both, None;
+    "mend" "--" "--suggested" => MendChoice::Flags(Mends::NONE), Some("--suggested");
+};
+
 /// Words that are wrong, and the kind of the mistake.
-static FAULTS: [Row; 49] = words! {
+static FAULTS: [Row; 53] = words! {
+    "mend" "--suggested" "--suggested" => ArgumentConflict;
+    "mend" "--suggested=yes" => TooManyValues;
+    "why" "--suggested" => UnknownArgument;
+    "redraw" "--suggested" => UnknownArgument;
     "mend" "--lines" "0" => ValueValidation;
     "mend" "--lines" "8193" => ValueValidation;
     "mend" "--lines" "65537" => ValueValidation;
@@ -129,12 +148,12 @@ static FAULTS: [Row; 49] = words! {
 };
 
 /// What words ask to be changed, and the file's name. It fails where memory runs out.
-fn mends_of(
+fn choice_of(
     rt: &(impl Abort + AllocGlobal),
     words: &[&str],
-) -> Result<(Mends, Option<String>), AllocError> {
+) -> Result<(MendChoice, Option<String>), AllocError> {
     match asked(rt.alloc(), words) {
-        Ok(Asked::Mend(mends, file)) => Ok((mends, file)),
+        Ok(Asked::Mend(choice, file)) => Ok((choice, file)),
         Ok(
             Asked::One(_, _)
             | Asked::Why(_)
@@ -153,8 +172,18 @@ fn mends_of(
 #[test]
 fn words_say_what_is_mended(rt: HostRuntime) -> Result<(), AllocError> {
     for (words, expected, file) in &MENDED {
-        let (mends, name) = mends_of(&rt, words)?;
-        assert_eq!(rt; mends, *expected);
+        let (choice, name) = choice_of(&rt, words)?;
+        assert!(rt; choice == MendChoice::Flags(*expected));
+        assert!(rt; name.as_ref().map(|f| f.as_str()) == *file);
+    }
+    Ok(())
+}
+
+#[test]
+fn words_say_who_finds_what_is_mended(rt: HostRuntime) -> Result<(), AllocError> {
+    for (words, expected, file) in &CHOSEN {
+        let (choice, name) = choice_of(&rt, words)?;
+        assert_eq!(rt; choice, *expected);
         assert!(rt; name.as_ref().map(|f| f.as_str()) == *file);
     }
     Ok(())
@@ -166,7 +195,7 @@ fn words_give_the_options_of_mending(rt: HostRuntime) -> Result<(), AllocError> 
         match read_words(&rt, words)? {
             Ok((found, name)) => {
                 let options = Options {
-                    command: Command::Mend(*expected),
+                    command: Command::Mend(MendChoice::Flags(*expected)),
                     start: start!(any),
                     cells: false,
                 };

@@ -14,8 +14,8 @@ unreachable-requires-in_default-command_named c =
     let command = subst (λ (s : Option (Text × List Row)). IsSomeAnd s IsCommand) met c.requires.command in
     c.in_default-command_named.ensures.none command.0 command.1
 
-pub mends_asked-requires : goal.mends_asked-requires
-mends_asked-requires c =
+pub choice_asked-requires : goal.choice_asked-requires
+choice_asked-requires c =
     let met = rows_met c.args.matches.now c.in-Some.name.now (rows_of (found_of c.in-Some.found.now))
     c.in-Some.ensures.name c.in-Some.ensures.rows in
     subst (λ (s : Option (Text × List Row)). IsSomeAnd s (λ sub. HasNumbersOfMend sub.1)) met c.requires.numbers
@@ -30,9 +30,9 @@ pub returns-in-Mend-clause-ok : goal.returns-in-Mend-clause-ok
 returns-in-Mend-clause-ok c =
     let met = rows_met c.args.matches.now c.in-Some.name.now (rows_of (found_of c.in-Some.found.now))
     c.in-Some.ensures.name c.in-Some.ensures.rows in
-    subst (λ (s : Option (Text × List Row)). IsSomeAnd s (AsksAs (Mend c.mends_asked.result c.in_ok-file.file)))
+    subst (λ (s : Option (Text × List Row)). IsSomeAnd s (AsksAs (Mend c.choice_asked.result c.in_ok-file.file)))
     (sym met)
-    (search rules, c.mends_asked.ensures.is, c.in_ok-file.ensures.ok, c.mends_asked.ensures.range)
+    (search rules, c.choice_asked.ensures.is, c.in_ok-file.ensures.ok, c.choice_asked.ensures.range)
 
 pub returns-in-Table-clause-ok : goal.returns-in-Table-clause-ok
 returns-in-Table-clause-ok c =

@@ -17,7 +17,7 @@ plain_command (Show form) = refl
 plain_command Sauce = refl
 plain_command Tokens = refl
 plain_command (Table form) = refl
-plain_command (Mend mends) = refl
+plain_command (Mend choice) = refl
 plain_command Redraw = refl
 
 pub loop-command-preserved : goal.loop-command-preserved
