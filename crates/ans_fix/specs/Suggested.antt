@@ -1,6 +1,6 @@
 -- Which flags of mending a drawing's own findings call for, and whether a mended file comes of them.
 use Rattle.std.specs.Prelude.{◌≡◌, ℕ, nat_le, Bool, true, false, not, ◌&&◌, ◌||◌, List, [], ◌∷◌, Option, None, Some}
-use Rattle.std.specs.Prelude.{is_some, MatchOption, Result, Ok, Err, if◌then◌else◌}
+use Rattle.std.specs.Prelude.{is_some, MatchBool, MatchOption, Result, Ok, Err, if◌then◌else◌}
 use Rattle.std.specs.List.{list_any}
 use Rattle.ans_model.specs.Bytes.{most_columns}
 use Rattle.ans_model.specs.Screen.State.{Size}
@@ -160,7 +160,24 @@ abbrev pub if_mended : Mends → Result Mended Unmended → Option Mends
 if_mended mends (Ok mended) = Some mends
 if_mended mends (Err reason) = None
 
+-- It is asked for, and a mended file comes of it; or none does.
+abbrev pub IsFixBy : Mends → List ℕ → Option Mends → Type 0
+IsFixBy mends file fix =
+    (answer : Result Mended Unmended) × ComesTo mends file answer × (fix ≡ if_mended mends answer)
+
+-- Line ends are to be changed, and the width too. The line ends may be all that is wrong.
+abbrev pub may_keep_width : Mends → Bool
+may_keep_width mends = (mends.crlf || mends.join_rows) && is_some mends.columns && not (is_some mends.lines)
+
+abbrev pub with_its_width : Mends → Mends
+with_its_width mends = record mends { columns = None }
+
+-- then it is asked for without another width first
+abbrev pub IsFixOf : Mends → List ℕ → Option Mends → Type 0
+IsFixOf mends file fix = MatchBool (may_keep_width mends)
+    ((kept : Option Mends) × IsFixBy (with_its_width mends) file kept
+    × MatchOption kept (IsFixBy mends file fix) (λ narrow. fix ≡ Some narrow)) (IsFixBy mends file fix)
+
 -- What is suggested, if mending the file so comes to a mended file.
 abbrev pub IsFix : List ℕ → Why → Option Mends → Type 0
-IsFix file why fix = MatchOption (suggested why) (fix ≡ None)
-    (λ mends. (answer : Result Mended Unmended) × ComesTo mends file answer × (fix ≡ if_mended mends answer))
+IsFix file why fix = MatchOption (suggested why) (fix ≡ None) (λ mends. IsFixOf mends file fix)

@@ -1,18 +1,21 @@
-use Rattle.std.proofs.Common.{◌≡◌, ◌∙◌, Option, Some, None, Result, ap, subst, sym}
-use Rattle.std.specs.Prelude.{MatchOption}
-use Rattle.ans_mend.specs.declared.outcome.Mended.{Mended}
-use Rattle.ans_mend.specs.declared.outcome.Unmended.{Unmended}
-use Rattle.ans_model.specs.declared.mends.Mends.{Mends}
-use Rattle.ans_fix.specs.Suggested.{if_mended, suggested}
-use Rattle.ans_fix.specs.Trials.{ComesTo}
 use Rattle.ans_fix.proofs.fixes.fix_for.Goals as goal
+use Rattle.std.proofs.Common.{◌≡◌, ◌∙◌, List, ℕ, Err, None, Ok, Option, Result, Some, subst, sym}
+use Rattle.std.specs.Prelude.{IfOk, MatchOption}
+use Rattle.ans_model.specs.declared.mends.Mends.{Mends}
+use Rattle.ans_fix.specs.Suggested.{IsFix, IsFixOf, suggested}
+use Rattle.ans_why.specs.Explained.{Why}
 
-pub returns-in-Ok : goal.returns-in-Ok
-returns-in-Ok c =
-    let some : suggested c.args.why.now ≡ Some c.in-Some.mends = sym c.suggested.ensures ∙ c.in-Some.is in
-    let fix : Some c.in-Some.mends ≡ if_mended c.in-Some.mends c.in_ok-tried.field-0 =
-    sym (ap (if_mended c.in-Some.mends) c.in-Ok.is) in
-    subst (λ (o : Option Mends). MatchOption o (Some c.in-Some.mends ≡ None)
-    (λ mends. (answer : Result Mended Unmended) × ComesTo mends c.args.file.now answer
-    × (Some c.in-Some.mends ≡ if_mended mends answer))) (sym some)
-    (c.in_ok-tried.field-0, c.in_ok-tried.ensures, fix)
+of_suggested : (file : List ℕ) (why : Why) (mends : Mends) (fix : Option Mends) → suggested why ≡ Some mends
+    → IsFixOf mends file fix → IsFix file why fix
+of_suggested file why mends fix some is =
+    subst (λ (o : Option Mends). MatchOption o (fix ≡ None) (λ m. IsFixOf m file fix)) (sym some) is
+
+if_suggested : {E : Type 0} (file : List ℕ) (why : Why) (mends : Mends) (fix : Result (Option Mends) E)
+    → suggested why ≡ Some mends → IfOk fix (IsFixOf mends file) → IfOk fix (IsFix file why)
+if_suggested file why mends (Ok fix) some is = of_suggested file why mends fix some is
+if_suggested file why mends (Err e) some is = is
+
+pub returns-in-Some : goal.returns-in-Some
+returns-in-Some c =
+    if_suggested c.args.file.now c.args.why.now c.in-Some.mends c.fix_of.result
+    (sym c.suggested.ensures ∙ c.in-Some.is) c.fix_of.ensures
