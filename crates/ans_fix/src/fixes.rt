@@ -53,7 +53,7 @@ fn fix_of(alloc: Global, file: &[u8], mends: &Mends) -> Result<Option<Mends>, Al
 }
 
 /// What is suggested for a file of which this is said, if mending a copy of it so comes to a mended file. If line ends
-/// are to be changed and the width too, it is the line ends alone if a mended file comes of that. `AllocError` says that
+/// are to be changed and the width too, only the line ends are if a mended file comes of that. `AllocError` says that
 /// memory ran out.
 pub fn fix_for(alloc: Global, file: &[u8], why: &Why<'_>) -> Result<Option<Mends>, AllocError>
     requires { length file.now ≤ longest_file }

@@ -1,9 +1,11 @@
 -- Walks one after the other.
-use Rattle.std.proofs.Common.{◌≡◌, List, [], ◌∷◌, ◌++◌, Result, Ok, Err, OnOk, IfErr, true, false, map, refl, ap, sym, subst, append-nil, append_assoc, ◌∙◌}
+use Rattle.std.proofs.Common.{◌≡◌, List, [], ◌∷◌, ◌++◌, Result, Ok, Err, OnOk, IfErr, true, false, map, refl, ap, sym}
+use Rattle.std.proofs.Common.{subst, append-nil, append_assoc, ◌∙◌}
 use Rattle.std.proofs.lemmas.List.{reverse-append}
 use Rattle.std.specs.declared.io.ErrorKind.{ErrorKind}
 use Rattle.ans_folders.specs.Paths.{Place, Text, is_folder, is_taken, place_in}
-use Rattle.ans_folders.specs.Walk.{Finds, Found, Hands, IsInOrder, StopsAt, Takes, Walked, after_handing, found_at, found_of, folder_at}
+use Rattle.ans_folders.specs.Walk.{Finds, Found, Hands, IsInOrder, StopsAt, Takes, Walked, after_handing, found_at}
+use Rattle.ans_folders.specs.Walk.{found_of, folder_at}
 use Rattle.ans_folders.specs.Pending.{pending_places, place_of}
 use Rattle.ans_folders.specs.declared.walking.Pending.{Pending}
 use Rattle.ans_folders.specs.Walk.Finds.{nothing, at_place, in_folder, unlisted}

@@ -1,5 +1,6 @@
 -- The paths of what is in a folder, and which files are taken by their names.
-use Rattle.std.specs.Prelude.{ℕ, ◌-◌, Bool, true, false, List, ◌++◌, nat_eq, length, drop, codes, if◌then◌else◌, map, string_bytes}
+use Rattle.std.specs.Prelude.{ℕ, ◌-◌, Bool, true, false, List, ◌++◌, nat_eq, length, drop, codes, if◌then◌else◌, map}
+use Rattle.std.specs.Prelude.{string_bytes}
 use Rattle.std.specs.List.{ends_with}
 use Rattle.std.specs.Char.{to_ascii_lowercase}
 use Rattle.std.specs.Str.{bytes_eq}

@@ -2,7 +2,8 @@
 
 ghost use Rattle.std.specs.Prelude.{◌≡◌, IfOk, OnOk, string_bytes};
 ghost use Rattle.ans_folders.specs.Paths.{Text};
-ghost use Rattle.ans_folders.specs.Endings.{CountsOneMore, counts_of, ending_count, ending_of, further_count, is_further};
+ghost use Rattle.ans_folders.specs.Endings.{CountsOneMore, counts_of, ending_count, ending_of, further_count};
+ghost use Rattle.ans_folders.specs.Endings.{is_further};
 
 use std::alloc::{AllocError, Global};
 use std::collections::BTreeMap;

@@ -186,7 +186,8 @@ table_asked words a form names asks is =
     (m.asks.0, m.asks.1, sym start, rw cells ((λ on. on), (λ on. on)), sym file)
 
 -- where the words ask for a file mended, the options of that are theirs
-pub mend_asked : (words : List Text) (a : Asked) (choice : MendChoice) (file : Option (String Global)) → IsReadAs words a
+pub mend_asked : (words : List Text) (a : Asked) (choice : MendChoice) (file : Option (String Global))
+    → IsReadAs words a
     → a ≡ asked.Mend choice file → AreOptionsOf words (mend_options choice) (option_map string_bytes file)
 mend_asked words a choice file asks is =
     let m = met_by words (Mend choice) (AsksAs (asked.Mend choice file)) (λ sub asks. asks.0) (rw (sym is) asks) in

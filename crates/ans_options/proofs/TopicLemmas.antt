@@ -89,7 +89,8 @@ found_by_name program (Fault (UnknownCell row col)) is = refl
 found_by_name program (Fault cause) is = refl
 found_by_name program (Note WidthAssumed) is = refl
 found_by_name program (Note note) is = refl
-found_by_name program (Word w) is = found_itself (topic_name (Word w)) (topic_named (topic_name (Word w))) (word_found w is)
+found_by_name program (Word w) is =
+    found_itself (topic_name (Word w)) (topic_named (topic_name (Word w))) (word_found w is)
 
 -- no topic has the name of a command
 command_unnamed : (c : Command) → topic_named (command_name c) ≡ None

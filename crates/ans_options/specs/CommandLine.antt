@@ -1,6 +1,7 @@
 -- The command line, and the options that its words give.
 use Rattle.std.specs.Prelude.{map, fold, ◌≡◌, ◌≢◌, ◌↔◌, not, Bool, true, false, List, [], ◌∷◌, Option, Some, codes}
-use Rattle.std.specs.Prelude.{length, option_map, string_bytes, IsSomeAnd, IsTrue, MatchOption, if◌then◌else◌, unwrap_or, ⊤}
+use Rattle.std.specs.Prelude.{length, option_map, string_bytes, IsSomeAnd, IsTrue, MatchOption, if◌then◌else◌}
+use Rattle.std.specs.Prelude.{unwrap_or, ⊤}
 use Rattle.std.specs.Prelude.{◌||◌, ◌&&◌, ◌≤◌, ℕ, IfSome, find, is_some, nat_eq, nat_le, pos}
 use Rattle.std.specs.List.{list_any, starts_with}
 use Rattle.std.specs.Option.{option_map_or, option_or}

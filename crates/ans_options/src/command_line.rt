@@ -482,8 +482,8 @@ fn command_among(commands: &[Command], name: &str) -> Option<Command>
     None
 }
 
-/// The command of this name, in its first form: of `show` the picture in a terminal's colours, of `table` the rows under
-/// their names, of `mend` without flags.
+/// The command of this name, in its first form: of `show` the picture in a terminal's colours, of `table` the rows
+/// under their names, of `mend` without flags.
 pub fn command_named(name: &str) -> Option<Command>
     ensures is { result ≡ command_named name.now }
     ensures some { IfSome result (λ c. name.now ≡ command_name c) }

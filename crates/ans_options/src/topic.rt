@@ -3,7 +3,8 @@ ghost use Rattle.std.specs.Prelude.{◌≡◌, ◌∷◌, [], decimal, get_or, i
 ghost use Rattle.std.specs.List.{position};
 ghost use Rattle.std.specs.Str.{str_eq_ignore_ascii_case};
 ghost use Rattle.ans_model.specs.Text.Words.{texts_of};
-ghost use Rattle.ans_options.specs.Topics.{numbered_named, place_in, topic_named, topic_of, word_in, word_named, word_text};
+ghost use Rattle.ans_options.specs.Topics.{numbered_named, place_in, topic_named, topic_of, word_in, word_named};
+ghost use Rattle.ans_options.specs.Topics.{word_text};
 
 use crate::words::{COLUMNS, DIFFERENCES, FIXES, LINES, STARTS, WordRow};
 use ans_model::fault::Cause;

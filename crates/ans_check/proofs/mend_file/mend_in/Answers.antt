@@ -26,4 +26,5 @@ returns-in_ok-unhelped-in-NotMended g c =
     let unhelped = c.in_ok-unhelped-in-NotMended.unhelped in
     let told : IsReason c.args.mends.now c.args.file.now unhelped.reason =
     rw c.in_ok-unhelped-in-NotMended.ensures.reason reason in
-    is_put (Err unhelped) [] (([], tt, told, refl), c.in_ok-unhelped-in-NotMended.ensures.unhelped) (Puts-nothing c.args.out.now)
+    is_put (Err unhelped) [] (([], tt, told, refl), c.in_ok-unhelped-in-NotMended.ensures.unhelped)
+    (Puts-nothing c.args.out.now)

@@ -1,4 +1,5 @@
-use Rattle.std.proofs.Common.{◌≡◌, ◌∙◌, Bool, List, ℕ, None, Ok, Err, Option, Result, Some, false, refl, subst, sym, true}
+use Rattle.std.proofs.Common.{◌≡◌, ◌∙◌, Bool, List, ℕ, None, Ok, Err, Option, Result, Some, false, refl, subst, sym}
+use Rattle.std.proofs.Common.{true}
 use Rattle.std.specs.Prelude.{IfOk, MatchBool, MatchOption}
 use Rattle.ans_model.specs.declared.mends.Mends.{Mends}
 use Rattle.ans_fix.specs.Suggested.{IsFixBy, IsFixOf, may_keep_width, with_its_width}

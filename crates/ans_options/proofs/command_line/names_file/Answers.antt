@@ -22,6 +22,7 @@ returns-then-ne c = elim c.if-is_none.branch [
       let other = no_command c.command_named.result c.args.word.now w.if-is_none.ensures
       c.command_named.ensures.none in
       let no_help = unsaid _ (sym w.ne.ensures ∙ (sym w.value-is ∙ c.if-ne.true)) in
-      rw (no_command_name c.args.word.now other, no_help) (rw (c.as_bytes.ensures.value) at (ap not c.starts_with.ensures.value))
+      rw (no_command_name c.args.word.now other, no_help)
+      (rw (c.as_bytes.ensures.value) at (ap not c.starts_with.ensures.value))
   | else-is_none w ↦ absurd (true≢false (sym c.if-ne.true ∙ (w.value-is ∙ w.if-is_none.false)))
 ]
