@@ -140,18 +140,36 @@ def is_refused(crate, place, said):
     return bool(verdict) and not (verdict[1] == "not proved" and errors and all(map(GONE.search, errors)))
 
 
+def is_unreadable(crate, place, said):
+    """Whether the compiler or the prover could not read what the edit wrote."""
+    with open(f"{crate.folder}/{place.file}", encoding="utf-8") as its:
+        last = next(it[2] for it in functions_of(its.read()) if it[1] == place.line)
+    lines = re.findall(rf"^(?:\./)?{re.escape(place.file)}:(\d+):\d+: error", said, re.M)
+    return any(place.line <= int(line) <= last for line in lines)
+
+
+def checked_together(rt, crate, batch, kept):
+    """What a check says of the crate with all these edits."""
+    texts = {}
+    for place in batch:
+        text = texts.get(place.file) or open(f"{crate.folder}/{place.file}", encoding="utf-8").read()
+        for old, new in place.pairs:
+            text = text.replace(old, new)
+        texts[place.file] = text
+    return rt.checked(crate, texts, ["--jobs", "1"], kept).stdout
+
+
 def try_together(rt, crate, edits, kept):
     """Tries edits in batches, and returns those that no batch shows to be refused."""
     places = [place_of(crate, edit) for edit in edits]
     left = [edit for edit, place in zip(edits, places) if place is None]
     for batch in in_batches([place for place in places if place]):
-        texts = {}
-        for place in batch:
-            text = texts.get(place.file) or open(f"{crate.folder}/{place.file}", encoding="utf-8").read()
-            for old, new in place.pairs:
-                text = text.replace(old, new)
-            texts[place.file] = text
-        said = rt.checked(crate, texts, ["--jobs", "1"], kept).stdout
+        said = checked_together(rt, crate, batch, kept)
+        while unreadable := [place for place in batch if is_unreadable(crate, place, said)]:
+            # those that are refused before the prover keep it from the others
+            left += [place.edit for place in unreadable]
+            batch = [place for place in batch if place not in unreadable]
+            said = checked_together(rt, crate, batch, kept)
         refused = [place for place in batch if is_refused(crate, place, said)]
         left += [place.edit for place in batch if place not in refused]
         print(f"{crate.name}: of {len(batch)} edits tried together {len(refused)} are refused", flush=True)
