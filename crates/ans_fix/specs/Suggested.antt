@@ -127,11 +127,13 @@ mends_of_content z refusal number =
     else if is_of_lines number then Some (mends_of_rows z (told_hints z.lines refusal) refusal.widths)
     else None
 
--- a file that states no lines calls for the least number of them, and for what its rows do
+-- A file that states no lines calls for the least number of them, and for what its rows do. If they seem to be rows of
+-- another width, there are no stated lines to show which.
 abbrev pub mends_of_enough : Option Enough → Option Mends
 mends_of_enough None = None
-mends_of_enough (Some enough) = Some (record (mends_of_width (wider_width (wider_rows enough.hints.row_ends) [])
-    enough.hints) { least_lines = true; take_out = false })
+mends_of_enough (Some enough) =
+    if is_some (wider_rows enough.hints.row_ends) then None
+    else Some (record (mends_of_width None enough.hints) { least_lines = true; take_out = false })
 
 -- What a record or a layout that is refused calls for, by what is found there: a record; that bytes after it are cut
 -- off, which is done by itself; that it is repaired; or lines.

@@ -1,5 +1,5 @@
 -- What mending comes to, and which steps of it would not help a file.
-use Rattle.std.specs.Prelude.{◌≡◌, ℕ, Bool, true, false, ◌&&◌, ◌==◌, MatchBool, List, Result, Ok, Err, IfErr}
+use Rattle.std.specs.Prelude.{◌≡◌, ℕ, Bool, true, false, is_some, ◌&&◌, ◌||◌, ◌==◌, MatchBool, List, Result, Ok, Err, IfErr}
 use Rattle.ans_mend.specs.Mending.{TellsMended}
 use Rattle.ans_mend.specs.declared.outcome.Mended.{Mended}
 use Rattle.ans_mend.specs.declared.outcome.Unmended.{Unmended}
@@ -36,12 +36,13 @@ IsHelpKnown asked file reason step is_asked is_known = MatchBool is_asked (is_kn
     ((answer : Result Mended Unmended) × ComesTo (with_step step true asked) file answer
     × (is_known ≡ comes_to_same reason answer))
 
--- what was asked for of a file that is not mended for this reason, and with it the steps that are no help
+-- What was asked for of a file that is not mended for this reason, and with it the steps that are no help. With another
+-- width the least number of lines is none: it would make room for rows of a wrong one.
 pub record IsUnhelped (asked : Mends) (file : List ℕ) (unhelped : Unhelped) : Type 0 where
   pub crlf : IsHelpKnown asked file unhelped.reason Crlf asked.crlf unhelped.without_help.crlf
   pub join_rows : IsHelpKnown asked file unhelped.reason JoinRows asked.join_rows unhelped.without_help.join_rows
   pub take_out : IsHelpKnown asked file unhelped.reason TakeOut asked.take_out unhelped.without_help.take_out
-  pub least_lines : IsHelpKnown asked file unhelped.reason LeastLines asked.least_lines
+  pub least_lines : IsHelpKnown asked file unhelped.reason LeastLines (asked.least_lines || is_some asked.columns)
       unhelped.without_help.least_lines
   pub others : unhelped.without_help ≡ record asked {
     crlf = unhelped.without_help.crlf;

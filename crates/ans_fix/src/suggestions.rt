@@ -164,16 +164,19 @@ fn mends_of_content(size: Size, refusal: &Refusal<'_>) -> Option<Mends>
     None
 }
 
-/// What a file that states no lines calls for: the least number of them, and what its rows call for.
+/// What a file that states no lines calls for: the least number of them, and what its rows call for; but nothing if
+/// they seem to be rows of another width, since there are no stated lines to show which.
 fn mends_of_enough(enough: Option<Enough<'_>>) -> Option<Mends>
     ensures { result ≡ mends_of_enough enough.entry }
 {
     let enough = enough?;
-    let width = wider_width(enough.hints.row_ends.wider_rows(), &[]);
+    if enough.hints.row_ends.wider_rows().is_some() {
+        return None;
+    }
     Some(Mends {
         least_lines: true,
         take_out: false,
-        ..mends_of_width(width, &enough.hints)
+        ..mends_of_width(None, &enough.hints)
     })
 }
 

@@ -14,7 +14,8 @@ use std::alloc::{AllocError, Global};
 pub struct Unhelped {
     pub reason: Unmended,
     /// What was asked for, and of the steps `crlf`, `join_rows`, `take_out` and `least_lines` those with which it
-    /// would not be mended for the same reason.
+    /// would not be mended for the same reason. `least_lines` is among them if another width was asked for: it would
+    /// make room for rows of a wrong one.
     pub without_help: Mends,
 }
 
@@ -73,6 +74,7 @@ impl Unhelped {
         ensures unhelped { IfOk result (IsUnhelped asked.now file.now) }
         ensures reason { IfOk result (λ unhelped. unhelped.reason ≡ reason) }
     {
+        let settles_lines = asked.least_lines || asked.columns.is_some();
         let trial = Trial {
             alloc,
             file,
@@ -85,7 +87,7 @@ impl Unhelped {
                 crlf: trial.is_without_help(MendStep::Crlf, asked.crlf)?,
                 join_rows: trial.is_without_help(MendStep::JoinRows, asked.join_rows)?,
                 take_out: trial.is_without_help(MendStep::TakeOut, asked.take_out)?,
-                least_lines: trial.is_without_help(MendStep::LeastLines, asked.least_lines)?,
+                least_lines: trial.is_without_help(MendStep::LeastLines, settles_lines)?,
                 ..*asked
             },
         })
