@@ -1,5 +1,6 @@
 -- What mending comes to, and which steps of it would not help a file.
-use Rattle.std.specs.Prelude.{◌≡◌, ℕ, Bool, true, false, is_some, ◌&&◌, ◌||◌, ◌==◌, MatchBool, List, Result, Ok, Err, IfErr}
+use Rattle.std.specs.Prelude.{◌≡◌, ℕ, Bool, true, false, is_some, ◌&&◌, ◌||◌, ◌==◌, MatchBool, List, Result}
+use Rattle.std.specs.Prelude.{Ok, Err, IfErr}
 use Rattle.ans_mend.specs.Mending.{TellsMended}
 use Rattle.ans_mend.specs.declared.outcome.Mended.{Mended}
 use Rattle.ans_mend.specs.declared.outcome.Unmended.{Unmended}
