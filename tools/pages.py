@@ -22,10 +22,10 @@ TOP = pathlib.Path(__file__).resolve().parent.parent
 
 BUDGETS = {
     "CHANGELOG.md": 540, "CONTRIBUTING.md": 630, "README.md": 1700, "conformance/README.md": 385,
-    "docs/CHANGING.md": 1405, "docs/DECISIONS.md": 3820, "docs/DEFINITIONS.md": 3810, "docs/DESIGN.md": 3125,
-    "docs/FAULTS.md": 3470, "docs/FOLDERS.md": 1280, "docs/GLOSSARY.md": 1100, "docs/MANUAL.md": 3840,
+    "docs/CHANGING.md": 1405, "docs/DECISIONS.md": 3840, "docs/DEFINITIONS.md": 3810, "docs/DESIGN.md": 3125,
+    "docs/FAULTS.md": 3470, "docs/FOLDERS.md": 1280, "docs/GLOSSARY.md": 1100, "docs/MANUAL.md": 3855,
     "docs/PLAYERS.md": 3250, "docs/PROFILE.md": 2915, "docs/PROVED.md": 3145, "docs/SECURITY.md": 1390,
-    "docs/SPEED.md": 760, "docs/TRIED.md": 2380, "docs/anscheck.1": 4155, "library/README.md": 1412,
+    "docs/SPEED.md": 760, "docs/TRIED.md": 2380, "docs/anscheck.1": 4170, "library/README.md": 1412,
     "library/js/README.md": 1464, "page/README.md": 930,
 }
 

@@ -41,7 +41,7 @@ const isEmpty = ({ glyphs, attributes }) => (
 
 /** How many sequences were removed, and where the first was, by what was said of the changes. */
 function takenOut(changes) {
-  const taken = [...changes.matchAll(/^removed (?!\d+ line ends? ).* at (\d+)(?:, and (\d+) more like it)?$/gm)];
+  const taken = [...changes.matchAll(/^removed (?!\d).* at (\d+)(?:, and (\d+) more like it)?$/gm)];
   return {
     count: taken.reduce((sum, [, , more = 0]) => sum + 1 + Number(more), 0),
     first: Math.min(...taken.map(([, first]) => Number(first))),
