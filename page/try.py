@@ -32,7 +32,7 @@ import stand_in  # noqa: E402
 import webkit  # noqa: E402
 from drawings import HIDDEN, NEAR, hostile_contents, largest, make_drawings  # noqa: E402
 from driving import Tries, column, saved, saved_names, show  # noqa: E402
-from expected import expected, made, name_shown, picture_of, redrawn_of, rows_of  # noqa: E402
+from expected import expected, made, name_shown, picture_of, redrawn_of, rows_of, without_flags  # noqa: E402
 from painted import BLINKS, PAINTED, looks_as  # noqa: E402
 from tables import try_filter, try_many, try_steps, try_table  # noqa: E402
 
@@ -78,6 +78,7 @@ def compare(browser, tries, program, paths):
     for path in paths:
         show(browser, [path])
         shown, wanted = browser.value(SHOWN), expected(program, path)
+        shown["changes"] = without_flags(shown["changes"])
         same = tries.want(f"{path.name}: name", browser.value("element('name').textContent"), path.name)
         for key in ("why", "advice", "record", "changes", "redrawn"):
             same &= tries.want(f"{path.name}: {key}", shown[key], wanted[key])

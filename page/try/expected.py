@@ -10,6 +10,7 @@ import tempfile
 RECORD, LINES, COMMENT_COUNT = 128, 98, 104
 FLAGS = 105
 FIX = re.compile(r"^(?:fix|more): .*\n", re.MULTILINE)
+TRY = re.compile(r"^(?:try:|see anscheck why for the place,) .*\n", re.MULTILINE)
 
 
 def said(program, words, path):
@@ -63,10 +64,19 @@ def lines_of_why(program, path):
     return FIX.sub("", text) if "verdict: refused\n" in text else text
 
 
+def without_flags(changes):
+    """What mending says without the flags to try: only the program leaves out those that are no help."""
+    return TRY.sub("", changes)
+
+
 def expected(program, path):
     """What the program says of a drawing, in the form of the page."""
     mended, changes = made(program, "mend", path)
-    told = {"why": lines_of_why(program, path), "record": record_lines(program, path), "changes": changes.decode()}
+    told = {
+        "why": lines_of_why(program, path),
+        "record": record_lines(program, path),
+        "changes": without_flags(changes.decode()),
+    }
     told["advice"] = advice(program, told["why"])
     told["redrawn"] = redrawn(program, path)
     told["picture"] = picture_of(program, path.read_bytes()) or refused_picture(program, path, told["why"])
