@@ -21,7 +21,7 @@ macro_rules! rows {
 
 /// A content, the width and the lines, how many bytes are left if it passes then, and how many line ends,
 /// bytes 00h and sequences go.
-static ENDED: [(&[u8], usize, usize, Option<usize>, usize); 52] = rows! {
+static ENDED: [(&[u8], usize, usize, Option<usize>, usize); 53] = rows! {
     b"ab\0\0", 2 x 1 => Some(2), 2;
     b"ab\r\n\0\r\n\0", 2 x 1 => Some(2), 4;
     b"a\r\n\0", 2 x 1 => Some(3), 1;
@@ -54,7 +54,8 @@ static ENDED: [(&[u8], usize, usize, Option<usize>, usize); 52] = rows! {
     b"a\x1b[9;1H", 2 x 1 => Some(1), 1;
     b"a\x1b[9;1H\x1b[0m\r\n", 2 x 1 => Some(1), 3;
     b"a\x1b[0m\x1b[9;1f\x1b[u", 2 x 1 => Some(5), 2;
-    b"ab\x1b[=7h\0", 2 x 1 => Some(2), 2;
+    b"ab\x1b[=3h\0", 2 x 1 => Some(2), 2;
+    b"ab\x1b[=7h\0", 2 x 1 => Some(7), 1;
     b"ab\r\n\x1b[?7h", 2 x 1 => Some(2), 2;
     b"a\x1b[9H\x1b[m\x1b[m\x1b[m\x1b[m\x1b[m\x1b[m\x1b[m", 2 x 1 => Some(1), 8;
     b"a\x1b[9H\x1b[m\x1b[m\x1b[m\x1b[m\x1b[m\x1b[m\x1b[m\x1b[m", 2 x 1 => None, 0;

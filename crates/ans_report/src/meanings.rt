@@ -143,10 +143,12 @@ drawing that really is longer. No command does that.
 The byte 1Ah ends a drawing, but something follows it before the comments or
 the record. Some programs would play it, others would not.
 
-See the line 'is:' of 'anscheck why'. This counts comments that are not counted,
-if only one number is possible, and removes an older record:
+See the line 'is:' of 'anscheck why'. This counts comments that are not
+counted, if only one number is possible, and removes an older record, if that
+is all there is:
   anscheck mend --record FILE > FIXED
-If a second drawing follows an older record, split the file there.
+Delete an older record with comments yourself. If a second drawing follows it,
+split the file there.
 An arrow in the drawing is this very byte: use another character, such as '>'.
 No command does that.
 "
