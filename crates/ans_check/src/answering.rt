@@ -615,8 +615,8 @@ fn answer_refused<W: Write, E: Write>(
 /// The ending is that of the run; `MayPassCleared` if a check refuses the file for such a fault; `Explained` for `why`
 /// of several files; `Mended` or `NotMended` if a file was to be mended, and `SuggestedAmong` if `--suggested` was
 /// given with other flags; `Redrawn` or `NotRedrawn` if one was to be redrawn; `UnopenedFile` if the named file cannot
-/// be opened; and if the words give no options, what their error says, or `UnreadableWords` if there is no memory for its
-/// text. Of a table it is `Table`, with how its files came out; `NamedInput` if `-` is among the names, and
+/// be opened; and if the words give no options, what their error says, or `UnreadableWords` if there is no memory for
+/// its text. Of a table it is `Table`, with how its files came out; `NamedInput` if `-` is among the names, and
 /// `InputAmong` if it is among several files of `why`; `UnreadNames` if standard input fails before the names end; and
 /// `Run(Err(Memory))` if there is no memory for the names or a row.
 /// `Run(Err(Write))` comes exactly if `output` fails. What fails on `errors` changes no ending.

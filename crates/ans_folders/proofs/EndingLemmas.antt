@@ -20,7 +20,8 @@ module _ (old new : Endings) (ending : Text) where
   }
     where
       new_count : (other : Text) (b : Bool) → bytes_eq ending other ≡ b
-          → unwrap_or (cond (bytes_eq ending other) (Some (ending_count old ending + 1)) (get_by_text old.counts other)) 0
+          → unwrap_or
+          (cond (bytes_eq ending other) (Some (ending_count old ending + 1)) (get_by_text old.counts other)) 0
           ≡ ending_count old other + cond (bytes_eq other ending && not (is_further old ending)) 1 0
       new_count other true is =
           rw (nat_list_eq_equiv.symm other ending, is, own)

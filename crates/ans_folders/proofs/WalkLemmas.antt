@@ -38,7 +38,8 @@ pub Finds-then : {lists : Text → List Entry → Type 0} {fails : Text → Erro
     → Finds lists fails taken places found middle → Finds lists fails taken middle more later
     → Finds lists fails taken places (found ++ more) later
 Finds-then nothing next = next
-Finds-then {lists} {fails} {taken} {places} {middle} {later} {found} {more} (at_place {place = place} {more = others} {rest = rest} is h) next =
+Finds-then {lists} {fails} {taken} {places} {middle} {later} {found} {more}
+    (at_place {place = place} {more = others} {rest = rest} is h) next =
     let P : List Found → Type 0 = λ all. Finds lists fails taken (place ∷ others) all later in
     subst P (sym (append_assoc (found_at taken place) rest more)) (at_place is (Finds-then h next))
 Finds-then (in_folder is sorted h) next = in_folder is sorted (Finds-then h next)

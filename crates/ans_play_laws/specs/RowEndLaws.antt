@@ -57,8 +57,8 @@ pub record PrintsLast (tokens front : List TokenKind) : Type 0 where
   pub prints : Prints token
   pub none_later : AllByRecursion (λ t. ¬ Prints t) later
 
--- What is counted as before something printed in this row is all that had been counted by then, without the last line end
--- if that leads below the row.
+-- What is counted as before something printed in this row is all that had been counted by then, without the last line
+-- end if that leads below the row.
 pub record CountsBefore (ends before : RowEnds) (row : ℕ) : Type 0 where
   pub full : ends.full_before ≡ before.full
   pub ended : ends.ended_before ≡ (if nat_le before.led_to row then before.ended else before.ended_before)

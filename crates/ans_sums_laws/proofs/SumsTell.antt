@@ -60,8 +60,10 @@ sizes_same : (y z : Size) (f g : List ℕ) → IsPlayableSize y → IsPlayableSi
     → line_of (codes "size: " ++ size_text y) ++ f ≡ line_of (codes "size: " ++ size_text z) ++ g → (y ≡ z) × (f ≡ g)
 sizes_same y z f g low high e =
     let after : List ℕ → List ℕ = λ v. behind (behind (behind (behind (behind (behind v))))) in
-    let texts = sym (regrouped (decimal y.width) (decimal y.lines) f) ∙ (ap after e ∙ regrouped (decimal z.width) (decimal z.lines) g) in
-    let width = number_same y.width z.width 0x20 _ _ (omega (arith, low.columns)) (omega (arith, high.columns)) (lit≤ tt) texts in
+    let texts = sym (regrouped (decimal y.width) (decimal y.lines) f)
+    ∙ (ap after e ∙ regrouped (decimal z.width) (decimal z.lines) g) in
+    let width = number_same y.width z.width 0x20 _ _ (omega (arith, low.columns)) (omega (arith, high.columns))
+    (lit≤ tt) texts in
     let lines = number_same y.lines z.lines 0x0A f g (omega (arith, low.lines)) (omega (arith, high.lines)) (lit≤ tt)
     (ap (λ v. behind (behind v)) width.1) in
     (same_size y z width.0 lines.0, lines.1)

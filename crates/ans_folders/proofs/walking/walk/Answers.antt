@@ -19,7 +19,8 @@ pub loop-preserved : goal.loop-preserved
 loop-preserved g c =
     let lists = g.F.Folders.lists c.args.folders in
     let fails = g.F.Folders.fails c.args.folders in
-    let P : List Place → Type 0 = λ later. Finds lists fails c.args.taken (folder_at c.args.folder.now ∷ []) c.loop.invariant.0 later in
+    let P : List Place → Type 0 =
+    λ later. Finds lists fails c.args.taken (folder_at c.args.folder.now ∷ []) c.loop.invariant.0 later in
     let at = popped _ _ _ c.in-Some.ensures.items in
     Walked-then {S = g.row.V-Stop.Denot} lists fails g.V.Visitor.takes g.V.Visitor.stops c.args.taken _ _ _ _ _ _ tt
     (Ok tt) (c.loop.invariant.0, subst P at c.loop.invariant.1, c.loop.invariant.2) c.in_ok-visit.ensures
@@ -28,7 +29,8 @@ pub returns-in_err-visit : goal.returns-in_err-visit
 returns-in_err-visit g c =
     let lists = g.F.Folders.lists c.args.folders in
     let fails = g.F.Folders.fails c.args.folders in
-    let P : List Place → Type 0 = λ later. Finds lists fails c.args.taken (folder_at c.args.folder.now ∷ []) c.loop.invariant.0 later in
+    let P : List Place → Type 0 =
+    λ later. Finds lists fails c.args.taken (folder_at c.args.folder.now ∷ []) c.loop.invariant.0 later in
     let at = popped _ _ _ c.in-Some.ensures.items in
     let same : c.from_residual.result ≡ Err c.in_err-visit.field-0.0 = search rules in
     rw same
