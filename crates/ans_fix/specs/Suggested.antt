@@ -128,7 +128,7 @@ mends_of_content z refusal number =
     else None
 
 -- A file that states no lines calls for the least number of them, and for what its rows do. If they seem to be rows of
--- another width, there are no stated lines to show which.
+-- another width, it calls for nothing: there are no stated lines to show which.
 abbrev pub mends_of_enough : Option Enough → Option Mends
 mends_of_enough None = None
 mends_of_enough (Some enough) =
@@ -167,7 +167,8 @@ abbrev pub IsFixBy : Mends → List ℕ → Option Mends → Type 0
 IsFixBy mends file fix =
     (answer : Result Mended Unmended) × ComesTo mends file answer × (fix ≡ if_mended mends answer)
 
--- Line ends are to be changed, and the width too. The line ends may be all that is wrong.
+-- Line ends are to be changed, and the width too but no number of lines, which comes with exchanged columns and lines.
+-- The line ends may be all that is wrong.
 abbrev pub may_keep_width : Mends → Bool
 may_keep_width mends = (mends.crlf || mends.join_rows) && is_some mends.columns && not (is_some mends.lines)
 

@@ -37,8 +37,9 @@ IsHelpKnown asked file reason step is_asked is_known = MatchBool is_asked (is_kn
     ((answer : Result Mended Unmended) × ComesTo (with_step step true asked) file answer
     × (is_known ≡ comes_to_same reason answer))
 
--- What was asked for of a file that is not mended for this reason, and with it the steps that are no help. With another
--- width the least number of lines is none: it would make room for rows of a wrong one.
+-- What was asked for of a file that is not mended for this reason, and with it the steps that are no help. If
+-- another width is asked for, the least number of lines counts as no help, and is not tried: it would make room for
+-- rows of a wrong width.
 pub record IsUnhelped (asked : Mends) (file : List ℕ) (unhelped : Unhelped) : Type 0 where
   pub crlf : IsHelpKnown asked file unhelped.reason Crlf asked.crlf unhelped.without_help.crlf
   pub join_rows : IsHelpKnown asked file unhelped.reason JoinRows asked.join_rows unhelped.without_help.join_rows

@@ -21,7 +21,8 @@ fn fix_by(alloc: Global, file: &[u8], mends: &Mends) -> Result<Option<Mends>, Al
     }
 }
 
-/// Whether line ends are to be changed, and the width too: the line ends may be all that is wrong.
+/// Whether line ends are to be changed, and the width too but no number of lines, which comes with exchanged columns
+/// and lines: the line ends may be all that is wrong.
 fn may_keep_width(mends: &Mends) -> bool
     ensures { result ≡ may_keep_width mends.now }
 {
@@ -53,8 +54,8 @@ fn fix_of(alloc: Global, file: &[u8], mends: &Mends) -> Result<Option<Mends>, Al
 }
 
 /// What is suggested for a file of which this is said, if mending a copy of it so comes to a mended file. If line ends
-/// are to be changed and the width too, only the line ends are if a mended file comes of that. `AllocError` says that
-/// memory ran out.
+/// are to be changed and the width too, but not the lines, only the line ends are if a mended file comes of that.
+/// `AllocError` says that memory ran out.
 pub fn fix_for(alloc: Global, file: &[u8], why: &Why<'_>) -> Result<Option<Mends>, AllocError>
     requires { length file.now ≤ longest_file }
     ensures { IfOk result (IsFix file.now why.now) }

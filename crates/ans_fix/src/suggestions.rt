@@ -109,7 +109,7 @@ fn are_odd(hints: &Hints, width: Option<u16>) -> bool
 }
 
 /// What a drawing's rows call for, with this width in its record; and if nothing is wrong with them, more lines, or
-/// fewer line ends at the very end.
+/// fewer line ends and sequences at the very end.
 fn mends_of_width(width: Option<u16>, hints: &Hints) -> Mends
     ensures { result ≡ mends_of_width width hints.now }
 {

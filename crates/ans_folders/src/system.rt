@@ -15,7 +15,7 @@ pub struct SystemFolders<'a> {
 }
 
 impl<'a> SystemFolders<'a> {
-    /// The folders of the system that this runtime stands for.
+    /// The folders of the system of this runtime.
     pub fn new(rt: &'a HostRuntime) -> SystemFolders<'a> {
         SystemFolders { rt }
     }

@@ -1,4 +1,4 @@
--- What draws nothing at the very end of a content and is taken out: line ends, bytes 00h and sequences.
+-- What prints nothing at the very end of a content and is taken out: line ends, bytes 00h and sequences.
 use Rattle.std.specs.Prelude.{◌≡◌, ◌⊎◌, ℕ, zero, suc, ◌+◌, ◌-◌, ◌<◌, ◌≤◌, Bool, false, ◌&&◌, ◌||◌, ◌==◌, List, [], ◌∷◌}
 use Rattle.std.specs.Prelude.{length, take, drop, not, Option, None, Some, IsTrue, MatchBool, slice_index, nat_le}
 use Rattle.std.specs.Prelude.{if◌then◌else◌}
@@ -94,7 +94,7 @@ NeverPasses sequences z bytes = (count : ℕ) → LeavesOut sequences bytes coun
 abbrev pub begins_end : ℕ → ℕ → Bool
 begins_end last b = (is_line_end b || b == escape) && not (last == 0x0D && b == 0x0A)
 
--- how many of them there are
+-- how many line ends, bytes 00h and bytes ESC there are: in what LeavesOut takes, each ESC begins one sequence
 abbrev pub ends_after : ℕ → List ℕ → ℕ
 ends_after last [] = 0
 ends_after last (b ∷ bytes) = (if begins_end last b then 1 else 0) + ends_after b bytes

@@ -14,7 +14,7 @@ is_older_record bytes =
     nat_le 128 (length bytes)
     && (starts_with nat_eq bytes (codes "SAUCE00") && list_all is_tail_byte (drop 128 bytes))
 
--- just that follows the first end mark, up to the comments that are counted
+-- nothing but that follows the first end mark, up to the comments that are counted
 abbrev pub has_older : List ℕ → Bool
 has_older file = has_record file && is_older_record (after_end_mark file)
 

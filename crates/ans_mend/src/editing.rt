@@ -85,7 +85,7 @@ fn join_rows(draft: &mut Draft<'_>, mends: &Mends, size: Size) -> Option<Times>
     None
 }
 
-/// Removes line ends at the very end, if sequences are to be removed.
+/// Removes as few line ends, bytes 00h and sequences at the very end as must go, if sequences are to be removed.
 fn take_out_last_ends(draft: &mut Draft<'_>, mends: &Mends, size: Size) -> Option<Times>
     requires { length draft.old.file ≤ longest_file }
     ensures file { AreLastEndsGone mends.now size draft.old.file draft.new.file result }

@@ -1,4 +1,4 @@
-//! What draws nothing at the very end of a content and is removed: line ends, bytes 00h and sequences.
+//! What prints nothing at the very end of a content and is removed: line ends, bytes 00h and sequences.
 
 ghost use Rattle.std.specs.Prelude.{◌≡◌, ℕ, ◌<◌, ◌≤◌, true, false, IfNone, IfSome, length, drop};
 ghost use Rattle.std.specs.List.{list_all};
@@ -120,7 +120,7 @@ fn begins_before(bytes: &[u8], at: usize) -> bool
     at >= 2 && bytes[at - 2] == 0x1B && bytes[at - 1] == b'['
 }
 
-/// Where the sequence begins that ends before an offset, if it is one that draws nothing.
+/// Where the sequence begins that ends before an offset, if it is one that prints nothing.
 fn sequence_before(bytes: &[u8], end: usize) -> Option<usize>
     requires { end ≤ length bytes.now }
     ensures { result ≡ sequence_before bytes.now end }
@@ -136,7 +136,7 @@ fn sequence_before(bytes: &[u8], end: usize) -> Option<usize>
     }
 }
 
-/// Where the last sequence begins, if it draws nothing and at most line ends and bytes 00h follow it.
+/// Where the last sequence begins, if it prints nothing and at most line ends and bytes 00h follow it.
 fn last_sequence(bytes: &[u8]) -> Option<usize>
     ensures some { IfSome result (EndsInSequence bytes.now) }
     ensures none { IfNone result ((start : ℕ) → ¬ EndsInSequence bytes.now start) }
@@ -164,7 +164,7 @@ fn count_before_sequences(size: Size, content: &[u8], sequences: usize) -> Optio
 /// How many sequences at most go.
 const MOST_SEQUENCES: usize = 8;
 
-/// How many bytes of a content are left if as few line ends, bytes 00h and sequences that draw nothing go from its
+/// How many bytes of a content are left if as few line ends, bytes 00h and sequences that print nothing go from its
 /// very end as must for it to pass from the cleared start. None if it does not pass, however many go; of sequences at
 /// most 8 go. It takes no memory.
 pub fn count_passing(size: Size, content: &[u8]) -> Option<usize>
@@ -219,7 +219,7 @@ fn ends_behind(content: &[u8], left: usize) -> Option<Times>
 }
 
 impl<'a> Draft<'a> {
-    /// Removes as few line ends, bytes 00h and sequences that draw nothing, at the very end of the content of a file
+    /// Removes as few line ends, bytes 00h and sequences that print nothing, at the very end of the content of a file
     /// that has a record, as must go for it to pass from the cleared start on a screen of this size, if it then does.
     /// Returns how many, and the offset of the first, in bytes from the file's start.
     pub(crate) fn take_out_last_ends(&mut self, size: Size) -> Option<Times>

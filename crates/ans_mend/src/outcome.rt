@@ -20,7 +20,7 @@ pub struct Edits {
     pub told: Told,
     /// How many line ends after full rows were removed, and where the first began.
     pub row_ends: Option<Times>,
-    /// How many line ends and bytes 00h at the very end were removed, and where the first began.
+    /// How many line ends, bytes 00h and sequences at the very end were removed, and where the first began.
     pub last_ends: Option<Times>,
     /// How many colour sequences got names of colours, and where the first was.
     pub named_colours: Option<Times>,
@@ -41,8 +41,8 @@ pub struct Mended {
     pub width: Option<Reset>,
     /// How many comments the record counted, and counts now, if it was to be repaired.
     pub comments: Option<Reset>,
-    /// How many bytes of an older record were removed, and where the first of them was, in bytes from the file's
-    /// start, if there was one and the record was to be repaired.
+    /// How many bytes an older record had with the tail after it, which were removed, and where the first of them
+    /// was, in bytes from the file's start, if there was one and the record was to be repaired.
     pub older: Option<Times>,
     pub edits: Edits,
     /// The record's non-blink flag, before and now.

@@ -850,8 +850,8 @@ pub fn near_command(alloc: Global, word: &str) -> Result<Option<Command>, AllocE
 /// changes nothing. Cells are asked for if `--cells` is given. A picture comes as a page if `--html`
 /// is, else in a VGA's colours if `--vga` is. A table's rows are JSON if `--json` is given, and else
 /// have a line of names above them unless `--no-header` is. With the other commands nothing is known. What
-/// may be changed to mend is what the flags of `mend` name, or with `--suggested` what the drawing's findings call for;
-/// it takes no other flag, and with one the choice is `Both`. `--add-record` and `--columns` have a number from 1 to
+/// may be changed to mend is what the flags of `mend` name, or what the drawing's findings call for if `--suggested` is
+/// given; if both are given, the choice is `Both`. `--add-record` and `--columns` have a number from 1 to
 /// 1024, and `--lines` one from 1 to 8192, if they are given.
 ///
 /// `help` with the name of a fault, a note or a word only, as `anscheck help F20`, asks for its meaning. These

@@ -10,7 +10,7 @@ use Rattle.ans_mend.specs.LastEnds.{FrontPasses, LeavesMost, is_line_end, splits
 use Rattle.ans_mend.proofs.FrontsPass.{passes_with_fewer}
 use Rattle.ans_mend.proofs.last_ends.count_before_line_ends.Goals as goal
 
--- behind an offset from which on they are line ends they still are
+-- after an offset from which on they are line ends they still are
 ends_later : (bytes : List ℕ) (from more : ℕ) → list_all is_line_end (drop from bytes) ≡ true
     → list_all is_line_end (drop (from + more) bytes) ≡ true
 ends_later bytes from zero ends =
@@ -33,14 +33,14 @@ ends_on bytes from k ends le =
     let up : from + (k - from) ≡ k = omega (arith, le) in
     subst (λ (v : ℕ). list_all is_line_end (drop v bytes) ≡ true) up (ends_later bytes from (k - from) ends)
 
--- what stands around an offset that splits a line end
+-- what is around an offset that splits a line end
 split_tells : (bytes : List ℕ) (k : ℕ) → splits_line_end bytes k ≡ true
     → (get_or bytes (k - 1) 0 ≡ 0x0D) × (get_or bytes k 0 ≡ 0x0A)
 split_tells bytes k splits =
     let both = and_parts (get_or bytes (k - 1) 0 == 0x0D) (get_or bytes k 0 == 0x0A) splits in
     (eqb-true _ _ both.0, eqb-true _ _ both.1)
 
--- nothing stands before the first byte
+-- nothing is before the first byte
 split_is_later : (bytes : List ℕ) (k : ℕ) → splits_line_end bytes k ≡ true → 0 < k
 split_is_later bytes zero splits = let t = split_tells bytes 0 splits in absurd (omega (arith, t))
 split_is_later bytes (suc k) splits = omega arith
