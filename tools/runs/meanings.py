@@ -31,10 +31,10 @@ INTRODUCTION = """
 `at` counts the bytes before the place, from the file's start. `anscheck FILE` has the bytes there, the hints and the
 cursor; once the fault is fixed, another may show.
 
-`anscheck mend` writes a copy: give it a name of its own, since the shell empties a file before it is read. It writes
-nothing that would still be refused, so if there are several faults, give all flags at once. What it writes passes
-from every start; look at its picture. [The manual](MANUAL.md) has the flags, and `anscheck help WORD` explains the
-others of its words.
+`anscheck mend -o FIXED` writes a copy under that name, and with `-i` in its place the drawing itself
+([more](MANUAL.md#writing-files)). It writes nothing that would still be refused, so if there are several faults, give
+all flags at once. What it writes passes from every start; look at its picture. [The manual](MANUAL.md) has the flags,
+and `anscheck help WORD` explains the others of its words.
 
 In the examples `ESC` is the byte 1Bh, `<CR>`, `<LF>` and `<TAB>` are 0Dh, 0Ah and 09h, `<1A>` is the byte of that
 number, and `<RECORD>` the 128 bytes of a record that suits the drawing, except for the bytes that are named, which
@@ -81,7 +81,7 @@ bytes. `sed` removes a mark at its start.
 
 ```text
 (head -c 5000 FILE | sed '1s/^\\xEF\\xBB\\xBF//' | iconv -f UTF-8 -t CP437 && tail -c +5001 FILE) > CONVERTED
-anscheck mend CONVERTED > FIXED
+anscheck mend CONVERTED -o FIXED
 ```
 """),
     ("Start", "F22", """

@@ -15,7 +15,7 @@ pub struct Mends {
     pub crlf: bool,
     /// Whether sequences that are refused are removed: screen modes, font selections, music, 24-bit colours, reports
     /// that are asked for, reassigned keys, and an unfinished one at the end. And as few line ends, bytes 00h and
-    /// sequences that draw nothing are removed at the very end as must go.
+    /// sequences that print nothing are removed at the very end as must go, if at most 8 sequences are enough.
     pub take_out: bool,
     /// Whether the line ends after full rows are removed, if each full row has one.
     pub join_rows: bool,
@@ -28,7 +28,8 @@ pub struct Mends {
     /// Whether the record's flag for bright backgrounds is set.
     pub ice: bool,
     /// Whether the number of comments that the record counts is set to those that are there, if only one number
-    /// is possible, and an older record before it is removed.
+    /// is possible, and an older record is removed if it comes directly after the first end mark and nothing but its
+    /// tail comes between it and the record.
     pub repair_record: bool,
     /// Whether the least number of lines with which the drawing passes is stated, if those that the
     /// record states are too few, or none are. A number in `lines` is stated instead.

@@ -55,12 +55,12 @@ The file does not end in a SAUCE record, so its width and height are unknown.
 
 Often there is a record with a few bytes after it, left by a transfer or an
 editor. This cuts off bytes 00h, 0Ah, 0Dh and 1Ah; cut off others yourself:
-  anscheck mend FILE > FIXED
+  anscheck mend FILE -o FIXED
 If 'anscheck why' says that a record is damaged, as by a transfer as text, get
 the file again.
 If there is none, save the drawing again with a record, or add one for 80
 columns (--lines N if the smallest number of lines is not what you want):
-  anscheck mend --add-record 80 FILE > FIXED
+  anscheck mend --add-record 80 FILE -o FIXED
 "
     ),
     fault!(
@@ -95,7 +95,7 @@ removed it or moved it.
 
 Save the drawing and its comments again. Or give the comments up. This sets
 their number to 0 if nothing is left of them:
-  anscheck mend --record FILE > FIXED
+  anscheck mend --record FILE -o FIXED
 What is left of them could be part of the drawing: delete it yourself.
 "
     ),
@@ -108,9 +108,9 @@ left this at 0.
 
 Look at the hints of 'anscheck why' first: the rows may be broken (see F20). If
 the picture is right, this sets the smallest number of lines that works:
-  anscheck mend --least-lines FILE > FIXED
+  anscheck mend --least-lines FILE -o FIXED
 and this sets 25:
-  anscheck mend --lines 25 FILE > FIXED
+  anscheck mend --lines 25 FILE -o FIXED
 "
     ),
     fault!(
@@ -121,7 +121,7 @@ The record says that the drawing has more than 1024 columns. It is probably
 damaged: drawings are usually 80, 132 or 160 columns wide.
 
 Set the right width, here 80 columns:
-  anscheck mend --columns 80 FILE > FIXED
+  anscheck mend --columns 80 FILE -o FIXED
 Wider drawings are not checked; cut them into strips.
 "
     ),
@@ -146,7 +146,7 @@ the record. Some programs would play it, others would not.
 See the line 'is:' of 'anscheck why'. This counts comments that are not
 counted, if only one number is possible, and removes an older record, if that
 is all there is:
-  anscheck mend --record FILE > FIXED
+  anscheck mend --record FILE -o FIXED
 Delete an older record with comments yourself. If a second drawing follows it,
 split the file there.
 An arrow in the drawing is this very byte: use another character, such as '>'.
@@ -161,7 +161,7 @@ After ESC comes something that no sequence starts with. Some programs print the
 rest as text, others skip it.
 
 This removes font selections, and ANSI music that starts with ESC[|:
-  anscheck mend --take-out FILE > FIXED
+  anscheck mend --take-out FILE -o FIXED
 Name the font in the record instead. Remove others in an editor; for ESC7 and
 ESC8 write ESC[s and ESC[u.
 "
@@ -176,7 +176,7 @@ Programs disagree about what it does.
 To go to the left edge write a carriage return instead of ESC[999D; to go to
 the right edge write ESC[255C instead of ESC[999C, twice if need be. This
 removes what a drawing has no use for, such as ESC[?1049h at its beginning:
-  anscheck mend --take-out FILE > FIXED
+  anscheck mend --take-out FILE -o FIXED
 "
     ),
     fault!(
@@ -198,7 +198,7 @@ ends in a lone ESC, or a quote inside a sequence is never closed.
 
 If part of the drawing is missing, get it again. Otherwise this removes the
 unfinished sequence, unless there is a quote in it:
-  anscheck mend --take-out FILE > FIXED
+  anscheck mend --take-out FILE -o FIXED
 "
     ),
     fault!(
@@ -210,7 +210,7 @@ not know it skip it or print it.
 
 This removes ANSI music with its notes, 24-bit colours that follow an ordinary
 colour, and ESC[c:
-  anscheck mend --take-out FILE > FIXED
+  anscheck mend --take-out FILE -o FIXED
 The letters b G d X @ P L M S T E F ` a e are sequences of modern terminals.
 They repeat a character, move the cursor, or insert, delete or blank something:
 removed, they leave holes. Write in their place what the line 'is:' of
@@ -227,7 +227,7 @@ ANSI.SYS knows this letter, but not with these numbers.
 Write what it knows: ESC[2J clears the screen, ESC[K the rest of a row, ESC[s
 saves the cursor and ESC[u restores it. To erase anything else, print blanks.
 Remove margins and questions to the terminal; for ESC[5n this does it:
-  anscheck mend --take-out FILE > FIXED
+  anscheck mend --take-out FILE -o FIXED
 "
     ),
     fault!(
@@ -238,7 +238,7 @@ The sequence makes a key on the reader's keyboard type something else. This is
 a key bomb; no drawing needs it.
 
 Be wary of where the file came from. This removes all of them:
-  anscheck mend --take-out FILE > FIXED
+  anscheck mend --take-out FILE -o FIXED
 "
     ),
     fault!(
@@ -251,7 +251,7 @@ whether the cursor shows, or a DOS screen mode.
 This removes it. Bright backgrounds (iCE colours) then go into the record's
 flags, where they belong. A mode in the middle of a drawing stays, since it may
 clear the screen: look, and remove it in an editor.
-  anscheck mend --take-out FILE > FIXED
+  anscheck mend --take-out FILE -o FIXED
 "
     ),
     fault!(
@@ -262,7 +262,7 @@ It asks the terminal where the cursor is, and the terminal answers as if you
 had typed it. Bulletin boards used this to find out whether callers have ANSI.
 
 This removes it:
-  anscheck mend --take-out FILE > FIXED
+  anscheck mend --take-out FILE -o FIXED
 "
     ),
     fault!(
@@ -273,10 +273,10 @@ A sequence moves the cursor below the last line (by more than one) or to the
 right of the last column. Every screen does something else then.
 
 Often it is the last sequence of a short drawing, going to row 25. If nothing
-is printed after it, this removes it:
-  anscheck mend --take-out FILE > FIXED
+is printed after it, this removes it, and up to 7 sequences that follow:
+  anscheck mend --take-out FILE -o FIXED
 If the record has too few lines, this adds some:
-  anscheck mend --least-lines FILE > FIXED
+  anscheck mend --least-lines FILE -o FIXED
 If it goes to the right of the last column, the width may be wrong (see F20).
 "
     ),
@@ -287,11 +287,11 @@ If it goes to the right of the last column, the width may be wrong (see F20).
 Something is printed below the last line. Usually the rows are broken; only
 sometimes is the record wrong. The hints of 'anscheck why' say which:
 
-  bare line feeds (a staircase)    anscheck mend --crlf FILE > FIXED
-  line ends after full rows        anscheck mend --join-rows FILE > FIXED
-  made for another width           anscheck mend --columns N FILE > FIXED
+  bare line feeds (a staircase)    anscheck mend --crlf FILE -o FIXED
+  line ends after full rows        anscheck mend --join-rows FILE -o FIXED
+  made for another width           anscheck mend --columns N FILE -o FIXED
   UTF-8                            convert it to code page 437
-  too few lines, picture right     anscheck mend --least-lines FILE > FIXED
+  too few lines, picture right     anscheck mend --least-lines FILE -o FIXED
 
 With the first two, --mixed helps if only some rows need it. Without a record
 the width is that of --add-record N.
@@ -300,8 +300,9 @@ A wrong width is hinted at only if most rows with a line end run over the edge,
 once each; if there is no line end, and the stated lines come out on a common
 width; or if columns and lines seem to be exchanged. Else look at the picture.
 
-If only line ends and bytes 00h follow, this removes them:
-  anscheck mend --take-out FILE > FIXED
+If only line ends, bytes 00h and at most 8 sequences that print nothing follow,
+this removes them:
+  anscheck mend --take-out FILE -o FIXED
 "
     ),
     fault!(
@@ -311,8 +312,9 @@ If only line ends and bytes 00h follow, this removes them:
 A line feed comes below the last line. The screen would scroll and lose its top
 row.
 
-If only line ends and bytes 00h follow, this removes them:
-  anscheck mend --take-out FILE > FIXED
+If only line ends, bytes 00h and at most 8 sequences that print nothing follow,
+this removes them:
+  anscheck mend --take-out FILE -o FIXED
 If more of the drawing follows, see F20: the rows are probably broken.
 "
     ),
@@ -325,7 +327,7 @@ cursor elsewhere the picture moves. (This also happens after a full row if wrap
 was never switched on, and after ESC[u without ESC[s.)
 
 This starts the drawing with ESC[?7h ESC[0;37;40m ESC[2J ESC[H ESC[s:
-  anscheck mend FILE > FIXED
+  anscheck mend FILE -o FIXED
 "
     ),
     fault!(
@@ -336,7 +338,7 @@ ESC[K erases the rest of a row before the drawing has said where the cursor is.
 With the cursor elsewhere it erases another row.
 
 This starts the drawing with ESC[?7h ESC[0;37;40m ESC[2J ESC[H ESC[s:
-  anscheck mend FILE > FIXED
+  anscheck mend FILE -o FIXED
 To keep the rest of the screen, start with ESC[1;1H instead.
 "
     ),
@@ -348,7 +350,7 @@ A line feed comes when the cursor may be below the last line. From some
 starting positions the screen scrolls and loses its top row.
 
 This starts the drawing with ESC[?7h ESC[0;37;40m ESC[2J ESC[H ESC[s:
-  anscheck mend FILE > FIXED
+  anscheck mend FILE -o FIXED
 If it is then refused for F21, see there.
 "
     ),
@@ -360,7 +362,7 @@ At the end some cell depends on what was on the screen before: nothing was
 printed there, or in colours that the drawing never set.
 
 This starts the drawing with ESC[?7h ESC[0;37;40m ESC[2J ESC[H ESC[s:
-  anscheck mend FILE > FIXED
+  anscheck mend FILE -o FIXED
 By hand, set the colours before you clear: clearing fills the screen with them.
 "
     ),
@@ -375,7 +377,7 @@ static NOTES: [NoteRow; 6] = [
 The record does not say how wide the drawing is, and 80 columns are assumed.
 
 If that is wrong, set the width, here to 132:
-  anscheck mend --columns 132 FILE > FIXED
+  anscheck mend --columns 132 FILE -o FIXED
 "
     ),
     note!(
@@ -386,7 +388,7 @@ The drawing runs straight into its comments or record. Viewers that do not know
 SAUCE print those as text; many stop at an end mark, the byte 1Ah.
 
 This adds it:
-  anscheck mend FILE > FIXED
+  anscheck mend FILE -o FIXED
 "
     ),
     note!(
@@ -397,7 +399,7 @@ The record gives a different number of bytes than the drawing has. Someone
 edited the drawing, or bytes were lost.
 
 Check that the drawing is complete. Then this corrects the number:
-  anscheck mend FILE > FIXED
+  anscheck mend FILE -o FIXED
 "
     ),
     note!(

@@ -22,11 +22,11 @@ static FAULTS: [(Cause, &str); 4] = [
         Something is printed below the last line. Usually the rows are broken; only\n\
         sometimes is the record wrong. The hints of 'anscheck why' say which:\n\
         \n\
-        \x20 bare line feeds (a staircase)    anscheck mend --crlf FILE > FIXED\n\
-        \x20 line ends after full rows        anscheck mend --join-rows FILE > FIXED\n\
-        \x20 made for another width           anscheck mend --columns N FILE > FIXED\n\
+        \x20 bare line feeds (a staircase)    anscheck mend --crlf FILE -o FIXED\n\
+        \x20 line ends after full rows        anscheck mend --join-rows FILE -o FIXED\n\
+        \x20 made for another width           anscheck mend --columns N FILE -o FIXED\n\
         \x20 UTF-8                            convert it to code page 437\n\
-        \x20 too few lines, picture right     anscheck mend --least-lines FILE > FIXED\n\
+        \x20 too few lines, picture right     anscheck mend --least-lines FILE -o FIXED\n\
         \n\
         With the first two, --mixed helps if only some rows need it. Without a record\n\
         the width is that of --add-record N.\n\
@@ -35,8 +35,9 @@ static FAULTS: [(Cause, &str); 4] = [
         once each; if there is no line end, and the stated lines come out on a common\n\
         width; or if columns and lines seem to be exchanged. Else look at the picture.\n\
         \n\
-        If only line ends and bytes 00h follow, this removes them:\n\
-        \x20 anscheck mend --take-out FILE > FIXED\n",
+        If only line ends, bytes 00h and at most 8 sequences that print nothing follow,\n\
+        this removes them:\n\
+        \x20 anscheck mend --take-out FILE -o FIXED\n",
     ),
     (
         Cause::PrintUnknownPlace,
@@ -47,7 +48,7 @@ static FAULTS: [(Cause, &str); 4] = [
         was never switched on, and after ESC[u without ESC[s.)\n\
         \n\
         This starts the drawing with ESC[?7h ESC[0;37;40m ESC[2J ESC[H ESC[s:\n\
-        \x20 anscheck mend FILE > FIXED\n",
+        \x20 anscheck mend FILE -o FIXED\n",
     ),
     (
         Cause::UnknownCell { row: 3, col: 7 },
@@ -57,7 +58,7 @@ static FAULTS: [(Cause, &str); 4] = [
         printed there, or in colours that the drawing never set.\n\
         \n\
         This starts the drawing with ESC[?7h ESC[0;37;40m ESC[2J ESC[H ESC[s:\n\
-        \x20 anscheck mend FILE > FIXED\n\
+        \x20 anscheck mend FILE -o FIXED\n\
         By hand, set the colours before you clear: clearing fills the screen with them.\n",
     ),
 ];
@@ -74,7 +75,7 @@ fn faults_and_notes_mean_something(rt: HostRuntime) {
         The record does not say how wide the drawing is, and 80 columns are assumed.\n\
         \n\
         If that is wrong, set the width, here to 132:\n\
-        \x20 anscheck mend --columns 132 FILE > FIXED\n"
+        \x20 anscheck mend --columns 132 FILE -o FIXED\n"
     );
 }
 
