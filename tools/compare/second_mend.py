@@ -196,7 +196,7 @@ def without_older_record(file, is_asked, said):
     if len(after) < 128 or not after.startswith(b"SAUCE00") or after[128:].strip(b"\0\n\r\x1a"):
         return file
     begin = len(content) + 1
-    said.append(("older record", f"removed {len(after)} bytes of an older record, at {begin}"))
+    said.append(("older record", f"removed an older record, {len(after)} bytes in all, at {begin}"))
     return file[:begin] + file[begin + len(after):]
 
 
@@ -211,7 +211,7 @@ def idle_flags(asked, said, old_flags, is_stated_new):
     rows = [
         ("add-record", asked.width and "added a record" not in kinds, "the file has a record"),
         ("columns", asked.columns and "columns" not in kinds, "the record states them"),
-        ("record", asked.record and not kinds & {"comments", "older record"}, "the number of comments stays"),
+        ("record", asked.record and not kinds & {"comments", "older record"}, "no comments to count and no older record to remove"),
         ("crlf", asked.crlf and "returns" not in kinds, some[0]),
         ("take-out", asked.take_out and not taken, "nothing of that kind is refused"),
         ("ice", asked.ice and old_flags & 1, "the flag is set"),

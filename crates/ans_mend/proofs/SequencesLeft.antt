@@ -1,18 +1,17 @@
 -- What is left of a content without the sequences at its end.
-use Rattle.std.proofs.Common.{◌≡◌, ℕ, zero, suc, ◌+◌, ◌-◌, ◌<◌, ◌≤◌, Bool, true, false, List, inl, inr, length}
-use Rattle.std.proofs.Common.{take, drop}
-use Rattle.std.proofs.Common.{get_or, refl, sym, subst, ◌∙◌, arith, length-take}
-use Rattle.std.specs.Prelude.{◌&&◌, Option, None, Some, IfSome, IfNone, if◌then◌else◌}
+use Rattle.std.proofs.Common.{◌≡◌, ℕ, zero, suc, ◌+◌, ◌-◌, ◌<◌, ◌≤◌, true, false, List, inl, inr, length}
+use Rattle.std.proofs.Common.{take, drop, get_or, sym, subst, arith, length-take}
+use Rattle.std.specs.Prelude.{Option, None, Some, IfSome, IfNone}
 use Rattle.std.specs.List.{list_all}
-use Rattle.std.proofs.lemmas.Bool.{and_parts, cases_lt}
+use Rattle.std.proofs.lemmas.Bool.{cases_lt}
 use Rattle.std.proofs.lemmas.Grind.{common_steps}
 use Rattle.std.proofs.lemmas.List.{take-take}
+use Rattle.ans_model.specs.Bytes.{bracket, escape}
 use Rattle.ans_model.specs.Screen.State.{Size}
 use Rattle.ans_model.specs.Screen.StartClass.{all_known}
 use Rattle.ans_model.specs.Verdict.Good.{IsGood}
-use Rattle.ans_mend.specs.LastEnds.{EndsInSequence, FrontPasses, LeavesMost, LeavesOut, LeavesOutEnds, NeverPasses}
-use Rattle.ans_mend.specs.LastEnds.{begins_before, is_line_end, is_parameter, is_quiet_letter, parameters_from}
-use Rattle.ans_mend.specs.LastEnds.{sequence_before}
+use Rattle.ans_mend.specs.LastEnds.{EndsInSequence, FrontPasses, IsQuietSequence, LeavesMost, LeavesOut}
+use Rattle.ans_mend.specs.LastEnds.{LeavesOutEnds, NeverPasses, is_line_end, is_parameter, is_quiet_letter}
 use Rattle.ans_mend.proofs.FrontsPass.{end_from}
 
 -- ---- the last sequence
@@ -20,89 +19,68 @@ use Rattle.ans_mend.proofs.FrontsPass.{end_from}
 letter_no_end : (b : ℕ) → is_quiet_letter b ≡ true → is_line_end b ≡ true → ⊥
 letter_no_end b quiet ends = grind (arith, common_steps)
 
-parameters_within : (bytes : List ℕ) (end : ℕ) → parameters_from bytes end ≤ end
-parameters_within bytes zero = omega arith
-parameters_within bytes (suc end) = go (is_parameter (get_or bytes end 0)) (parameters_within bytes end)
-  where
-    go : (b : Bool) → parameters_from bytes end ≤ end → (if b then parameters_from bytes end else suc end) ≤ suc end
-    go true le = omega (arith, le)
-    go false le = omega arith
+escape_no_parameter : (b : ℕ) → b ≡ escape → is_parameter b ≡ true → ⊥
+escape_no_parameter b e parameter = grind (arith, common_steps)
 
--- it begins before its letter
-record IsBefore (bytes : List ℕ) (end start : ℕ) : Type 0 where
-  some : 0 < end
-  letter : is_quiet_letter (get_or bytes (end - 1) 0) ≡ true
-  order : start < end
+escape_no_bracket : (b : ℕ) → b ≡ escape → b ≡ bracket → ⊥
+escape_no_bracket b e f = grind (arith, common_steps)
 
-letter_before : (bytes : List ℕ) (end start : ℕ) → sequence_before bytes end ≡ Some start → IsBefore bytes end start
-letter_before bytes zero start e = absurd (cc)
-letter_before bytes (suc last) start e =
-    go (is_quiet_letter (get_or bytes last 0)) (begins_before bytes (parameters_from bytes last)) refl refl
-  where
-    within : parameters_from bytes last ≤ last
-    within = parameters_within bytes last
+-- no letter of such a sequence is among the line ends that follow
+no_later : (bytes : List ℕ) (from start letter : ℕ) → list_all is_line_end (drop from bytes) ≡ true
+    → IsQuietSequence bytes start letter → letter < length bytes → letter < from
+no_later bytes from start letter ends s within = elim (cases_lt letter from) [
+  | inl lt ↦ lt
+  | inr le ↦
+      absurd (letter_no_end (get_or bytes letter 0) s.ends (end_from bytes from letter ends le within))
+]
 
-    go : (quiet begins : Bool) → is_quiet_letter (get_or bytes last 0) ≡ quiet
-        → begins_before bytes (parameters_from bytes last) ≡ begins → IsBefore bytes (suc last) start
-    go true true quiet begins =
-        let same : Some (parameters_from bytes last - 2) ≡ Some start = rw (quiet, begins) at e in
-        let start_is : parameters_from bytes last - 2 ≡ start = cc in
-        let last_is : last ≡ suc last - 1 = omega arith in
-        record {
-          some = omega arith;
-          letter = subst (λ (n : ℕ). is_quiet_letter (get_or bytes n 0) ≡ true) last_is quiet;
-          order = omega (arith, start_is, within);
-        }
-    go true false quiet begins =
-        let none : ◌≡◌ {A = Option ℕ} None (Some start) = rw (quiet, begins) at e in absurd (cc)
-    go false begins quiet begins_is =
-        let none : ◌≡◌ {A = Option ℕ} None (Some start) = rw quiet at e in absurd (cc)
+-- of two sequences with one letter none begins later
+begins_no_later : (bytes : List ℕ) (a b letter : ℕ) → IsQuietSequence bytes a letter
+    → IsQuietSequence bytes b letter → a < b → ⊥
+begins_no_later bytes a b letter s t lt = elim (cases_lt (a + 1) b) [
+  | inl more ↦
+      escape_no_parameter (get_or bytes b 0) t.opens
+      (s.parameters b (omega (arith, more)) (omega (arith, t.order)))
+  | inr le ↦
+      let next : b ≡ a + 1 = omega (arith, lt, le) in
+      escape_no_bracket (get_or bytes b 0) t.opens
+      (subst (λ (n : ℕ). get_or bytes n 0 ≡ bracket) (sym next) s.goes_on)
+]
 
--- no such sequence ends among the line ends that follow it
-no_later : (bytes : List ℕ) (from end start : ℕ) → list_all is_line_end (drop from bytes) ≡ true
-    → sequence_before bytes end ≡ Some start → end ≤ length bytes → end ≤ from
-no_later bytes from end start ends begins within = elim (cases_lt from end) [
-  | inl lt ↦
-      let h = letter_before bytes end start begins in
-      let is_end : is_line_end (get_or bytes (end - 1) 0) ≡ true =
-      end_from bytes from (end - 1) ends (omega (arith, lt)) (omega (arith, within, h.some)) in
-      absurd (letter_no_end (get_or bytes (end - 1) 0) h.letter is_end)
-  | inr le ↦ le
+begins_at_one : (bytes : List ℕ) (a b letter : ℕ) → IsQuietSequence bytes a letter
+    → IsQuietSequence bytes b letter → a ≡ b
+begins_at_one bytes a b letter s t = elim (cases_lt a b) [
+  | inl lt ↦ absurd (begins_no_later bytes a b letter s t lt)
+  | inr le ↦ elim (cases_lt b a) [
+    | inl lt ↦ absurd (begins_no_later bytes b a letter t s lt)
+    | inr ge ↦ omega (arith, le, ge)
+  ]
 ]
 
 -- so there is one last sequence
 pub begins_once : (bytes : List ℕ) (a b : ℕ) → EndsInSequence bytes a → EndsInSequence bytes b → a ≡ b
 begins_once bytes a b s t =
-    let one : s.end ≤ t.end = no_later bytes t.end s.end a t.ends s.begins s.within in
-    let other : t.end ≤ s.end = no_later bytes s.end t.end b s.ends t.begins t.within in
-    let same : s.end ≡ t.end = omega (arith, one, other) in
-    let both : Some a ≡ Some b = sym (subst (λ (v : ℕ). sequence_before bytes v ≡ Some a) same s.begins) ∙ t.begins in
-    cc
+    let one : s.letter < t.letter + 1 = no_later bytes (t.letter + 1) a s.letter t.ends s.sequence s.within in
+    let other : t.letter < s.letter + 1 = no_later bytes (s.letter + 1) b t.letter s.ends t.sequence t.within in
+    let same : s.letter ≡ t.letter = omega (arith, one, other) in
+    begins_at_one bytes a b t.letter (subst (IsQuietSequence bytes a) same s.sequence) t.sequence
 
--- none ends where the line ends begin, so there is none
-pub begins_nowhere : (bytes : List ℕ) (end : ℕ) → list_all is_line_end (drop end bytes) ≡ true
-    → ((count : ℕ) → count < end → list_all is_line_end (drop count bytes) ≡ false)
-    → sequence_before bytes end ≡ None → (start : ℕ) → ¬ EndsInSequence bytes start
-begins_nowhere bytes end ends others none start s =
-    let le : s.end ≤ end = no_later bytes end s.end start ends s.begins s.within in
-    elim (cases_lt s.end end) [
-      | inl lt ↦ absurd (cc (others s.end lt, s.ends))
-      | inr ge ↦
-          let same : s.end ≡ end = omega (arith, le, ge) in
-          absurd (cc (subst (λ (v : ℕ). sequence_before bytes v ≡ Some start) same s.begins, none))
-    ]
-
-pub none_begins : (bytes : List ℕ) (end : ℕ) → list_all is_line_end (drop end bytes) ≡ true
+-- it has the last letter that is no line end, so there is none if no sequence has that letter
+pub none_ends : (bytes : List ℕ) (end : ℕ) → list_all is_line_end (drop end bytes) ≡ true
     → ((count : ℕ) → count < end → list_all is_line_end (drop count bytes) ≡ false) → (found : Option ℕ)
-    → found ≡ sequence_before bytes end → IfNone found ((start : ℕ) → ¬ EndsInSequence bytes start)
-none_begins bytes end ends others None is = begins_nowhere bytes end ends others (sym is)
-none_begins bytes end ends others (Some start) is = tt
-
-pub begins_early : (bytes : List ℕ) (end : ℕ) → end ≤ length bytes → (found : Option ℕ)
-    → found ≡ sequence_before bytes end → IfSome found (λ start. start ≤ length bytes)
-begins_early bytes end within None is = tt
-begins_early bytes end within (Some start) is =
-    let h = letter_before bytes end start (sym is) in omega (arith, h.order, within)
+    → IfNone found ((start : ℕ) → ¬ IsQuietSequence bytes start (end - 1))
+    → IfNone found ((start : ℕ) → ¬ EndsInSequence bytes start)
+none_ends bytes end ends others (Some start) h = tt
+none_ends bytes end ends others None h = λ start s. go start s
+  where
+    go : (start : ℕ) → ¬ EndsInSequence bytes start
+    go start s = elim (cases_lt (s.letter + 1) end) [
+      | inl lt ↦ absurd (cc (others (s.letter + 1) lt, s.ends))
+      | inr le ↦
+          let early : s.letter < end = no_later bytes end start s.letter ends s.sequence s.within in
+          let last : s.letter ≡ end - 1 = omega (arith, early, le) in
+          h start (subst (IsQuietSequence bytes start) last s.sequence)
+    ]
 
 -- ---- how many bytes stay
 
@@ -125,8 +103,8 @@ ends_leave (suc n) bytes count h = inl h
 begins_within : (bytes : List ℕ) (start count : ℕ) → LeavesOutEnds bytes count → EndsInSequence bytes start
     → start < count
 begins_within bytes start count h s =
-    let le : s.end ≤ count = no_later bytes count s.end start h.ends s.begins s.within in
-    omega (arith, le, (letter_before bytes s.end start s.begins).order)
+    let lt : s.letter < count = no_later bytes count start s.letter h.ends s.sequence s.within in
+    omega (arith, lt, s.sequence.order)
 
 -- ---- with line ends alone
 

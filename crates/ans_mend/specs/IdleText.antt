@@ -67,7 +67,7 @@ abbrev pub idle_text : Mended → List ℕ
 idle_text m =
     idle_line (idle_record m) (codes "--add-record: nothing done, the file has a record\n")
     ++ (idle_line (idle_columns m) (codes "--columns: nothing done, the record states them\n")
-    ++ (idle_line (idle_comments m) (codes "--record: nothing done, the number of comments stays\n")
+    ++ (idle_line (idle_comments m) (codes "--record: nothing done, no comments to count and no older record to remove\n")
     ++ (idle_line (idle_crlf m) (crlf_reason m.asked)
     ++ (idle_line (idle_take_out m) (codes "--take-out: nothing done, nothing of that kind is refused\n")
     ++ (idle_line (idle_ice m) (codes "--ice: nothing done, the flag is set\n")

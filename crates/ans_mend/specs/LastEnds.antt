@@ -1,6 +1,6 @@
 -- What prints nothing at the very end of a content and is taken out: line ends, bytes 00h and sequences.
-use Rattle.std.specs.Prelude.{◌≡◌, ◌⊎◌, ℕ, zero, suc, ◌+◌, ◌-◌, ◌<◌, ◌≤◌, Bool, false, ◌&&◌, ◌||◌, ◌==◌, List, [], ◌∷◌}
-use Rattle.std.specs.Prelude.{length, take, drop, not, Option, None, Some, IsTrue, MatchBool, slice_index, nat_le}
+use Rattle.std.specs.Prelude.{◌≡◌, ◌⊎◌, ℕ, zero, suc, ◌+◌, ◌-◌, ◌<◌, ◌≤◌, Bool, true, false, ◌&&◌, ◌||◌, ◌==◌, List, [], ◌∷◌}
+use Rattle.std.specs.Prelude.{length, take, drop, not, Option, None, Some, IsTrue, MatchBool, slice_index}
 use Rattle.std.specs.Prelude.{if◌then◌else◌}
 use Rattle.std.specs.Int.{is_in_range}
 use Rattle.std.specs.List.{list_all}
@@ -38,29 +38,20 @@ is_quiet_letter b =
 abbrev pub is_parameter : ℕ → Bool
 is_parameter b = is_in_range 0x30 0x3F b
 
--- from where on there are only parameters before this offset
-abbrev pub parameters_from : List ℕ → ℕ → ℕ
-parameters_from bytes zero = 0
-parameters_from bytes (suc end) = if is_parameter (slice_index bytes end) then parameters_from bytes end else suc end
-
--- ESC and `[` are before this offset
-abbrev pub begins_before : List ℕ → ℕ → Bool
-begins_before bytes at =
-    nat_le 2 at && (slice_index bytes (at - 2) == escape && slice_index bytes (at - 1) == bracket)
-
--- where the sequence begins that ends before this offset: ESC, `[`, parameters, and such a letter
-abbrev pub sequence_before : List ℕ → ℕ → Option ℕ
-sequence_before bytes zero = None
-sequence_before bytes (suc last) =
-    if is_quiet_letter (slice_index bytes last) && begins_before bytes (parameters_from bytes last)
-    then Some (parameters_from bytes last - 2) else None
+-- A sequence begins here and ends with the letter at that offset: ESC, `[`, parameters, and such a letter.
+pub record IsQuietSequence (bytes : List ℕ) (start letter : ℕ) : Type 0 where
+  pub order : start + 2 ≤ letter
+  pub opens : slice_index bytes start ≡ escape
+  pub goes_on : slice_index bytes (start + 1) ≡ bracket
+  pub parameters : (at : ℕ) → start + 2 ≤ at → at < letter → is_parameter (slice_index bytes at) ≡ true
+  pub ends : is_quiet_letter (slice_index bytes letter) ≡ true
 
 -- The last sequence begins here. At most line ends and bytes 00h follow it.
 pub record EndsInSequence (bytes : List ℕ) (start : ℕ) : Type 0 where
-  pub end : ℕ
-  pub within : end ≤ length bytes
-  pub begins : sequence_before bytes end ≡ Some start
-  pub ends : IsTrue (list_all is_line_end (drop end bytes))
+  pub letter : ℕ
+  pub within : letter < length bytes
+  pub sequence : IsQuietSequence bytes start letter
+  pub ends : IsTrue (list_all is_line_end (drop (letter + 1) bytes))
 
 -- This many of the first bytes stay, and what goes has at most this number of sequences.
 abbrev pub LeavesOut : ℕ → List ℕ → ℕ → Type 0

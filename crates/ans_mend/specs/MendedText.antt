@@ -88,9 +88,8 @@ comments_line (Some comments) = reset_line (codes "comments ") comments
 abbrev pub older_line : Option Times → List ℕ
 older_line None = []
 older_line (Some older) =
-    codes "removed "
-    ++ (counted_text older.count (codes "byte")
-    ++ (codes " of an older record, at " ++ (decimal older.first ++ codes "\n")))
+    codes "removed an older record, "
+    ++ (counted_text older.count (codes "byte") ++ (codes " in all, at " ++ (decimal older.first ++ codes "\n")))
 
 -- the flag is set, cleared, or stays, which is said if a switch for bright backgrounds was removed
 abbrev pub flag_line : Bool → Bool → Bool → List ℕ

@@ -159,7 +159,7 @@ pub(crate) fn put_idle_lines<W: Write>(out: &mut Outbox<'_, W>, mended: &Mended)
     put_idle(
         out,
         idle_comments(mended),
-        b"--record: nothing done, the number of comments stays\n",
+        b"--record: nothing done, no comments to count and no older record to remove\n",
     );
     put_idle(out, idle_crlf(mended), crlf_reason(&mended.asked));
     put_idle(

@@ -1,13 +1,13 @@
 //! What prints nothing at the very end of a content and is removed: line ends, bytes 00h and sequences.
 
-ghost use Rattle.std.specs.Prelude.{◌≡◌, ℕ, ◌<◌, ◌≤◌, true, false, IfNone, IfSome, length, drop};
+ghost use Rattle.std.specs.Prelude.{◌≡◌, ℕ, ◌-◌, ◌<◌, ◌≤◌, true, false, IfNone, IfSome, length, drop, slice_index};
+ghost use Rattle.std.specs.Prelude.{◌&&◌, ◌==◌, nat_le};
 ghost use Rattle.std.specs.List.{list_all};
-ghost use Rattle.ans_model.specs.Bytes.{longest_file};
+ghost use Rattle.ans_model.specs.Bytes.{bracket, escape, longest_file};
 ghost use Rattle.ans_mend.specs.Drafts.{memory_of};
-ghost use Rattle.ans_mend.specs.LastEnds.{EndsInSequence, FrontPasses, HasFewerEnds, LeavesMost, NeverPasses};
-ghost use Rattle.ans_mend.specs.LastEnds.{begins_before, begins_end, is_line_end, is_parameter, is_quiet_letter};
-ghost use Rattle.ans_mend.specs.LastEnds.{line_ends, most_sequences, parameters_from, sequence_before, splits_line_end};
-ghost use Rattle.ans_mend.specs.LastEnds.{times_at};
+ghost use Rattle.ans_mend.specs.LastEnds.{EndsInSequence, FrontPasses, HasFewerEnds, IsQuietSequence, LeavesMost};
+ghost use Rattle.ans_mend.specs.LastEnds.{NeverPasses, begins_end, is_line_end, is_parameter, is_quiet_letter};
+ghost use Rattle.ans_mend.specs.LastEnds.{line_ends, most_sequences, splits_line_end, times_at};
 
 use crate::draft::Draft;
 use crate::keeping::keep;
@@ -102,8 +102,9 @@ fn is_parameter(byte: u8) -> bool
 /// From where on there are only parameters before an offset.
 fn parameters_from(bytes: &[u8], end: usize) -> usize
     requires { end ≤ length bytes.now }
-    ensures start { result ≡ parameters_from bytes.now end }
     ensures within { result ≤ end }
+    ensures parameters { (at : ℕ) → result ≤ at → at < end → is_parameter (slice_index bytes.now at) ≡ true }
+    ensures others { 0 < result → is_parameter (slice_index bytes.now (result - 1)) ≡ false }
 {
     let mut start = end;
     'parameters: while start > 0 && is_parameter(bytes[start - 1]) {
@@ -112,24 +113,26 @@ fn parameters_from(bytes: &[u8], end: usize) -> usize
     start
 }
 
-/// Whether ESC and `[` are before an offset.
-fn begins_before(bytes: &[u8], at: usize) -> bool
+/// Whether ESC and `[` are directly before an offset.
+fn opens_before(bytes: &[u8], at: usize) -> bool
     requires { at ≤ length bytes.now }
-    ensures { result ≡ begins_before bytes.now at }
+    ensures { result ≡ (nat_le 2 at
+        && (slice_index bytes.now (at - 2) == escape && slice_index bytes.now (at - 1) == bracket)) }
 {
     at >= 2 && bytes[at - 2] == 0x1B && bytes[at - 1] == b'['
 }
 
-/// Where the sequence begins that ends before an offset, if it is one that prints nothing.
-fn sequence_before(bytes: &[u8], end: usize) -> Option<usize>
-    requires { end ≤ length bytes.now }
-    ensures { result ≡ sequence_before bytes.now end }
+/// Where the sequence begins whose letter is at an offset, if it is one that prints nothing.
+fn sequence_to(bytes: &[u8], letter: usize) -> Option<usize>
+    requires { letter < length bytes.now }
+    ensures some { IfSome result (λ start. IsQuietSequence bytes.now start letter) }
+    ensures none { IfNone result ((start : ℕ) → ¬ IsQuietSequence bytes.now start letter) }
 {
-    if end == 0 || !is_quiet_letter(bytes[end - 1]) {
+    if !is_quiet_letter(bytes[letter]) {
         return None;
     }
-    let start = parameters_from(bytes, end - 1);
-    if begins_before(bytes, start) {
+    let start = parameters_from(bytes, letter);
+    if opens_before(bytes, start) {
         Some(start - 2)
     } else {
         None
@@ -142,7 +145,11 @@ fn last_sequence(bytes: &[u8]) -> Option<usize>
     ensures none { IfNone result ((start : ℕ) → ¬ EndsInSequence bytes.now start) }
     ensures within { IfSome result (λ start. start ≤ length bytes.now) }
 {
-    sequence_before(bytes, count_before_ends(bytes))
+    let end = count_before_ends(bytes);
+    if end == 0 {
+        return None;
+    }
+    sequence_to(bytes, end - 1)
 }
 
 /// The same as [`count_passing`], if at most that many sequences go.

@@ -135,9 +135,9 @@ fn put_older_line<W: Write>(out: &mut Outbox<'_, W>, older: &Option<Times>)
     ensures { Puts W.contents out.old out.new (older_line older.now) }
 {
     if let Some(older) = older {
-        out.put(b"removed ");
+        out.put(b"removed an older record, ");
         put_counted(out, older.count as u64, b"byte");
-        out.put(b" of an older record, at ");
+        out.put(b" in all, at ");
         out.put_decimal(older.first as u64);
         out.put(b"\n");
     }

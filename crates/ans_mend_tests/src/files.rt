@@ -147,7 +147,7 @@ static COMMENTS: [Row; 3] = [
         text: ended!(
             "",
             "27",
-            "--record: nothing done, the number of comments stays\n"
+            "--record: nothing done, no comments to count and no older record to remove\n"
         ),
     },
     Row {

@@ -103,7 +103,7 @@ const SAID_ONCE: &[u8] = b"cut off 1 byte after the record, at 137\n\
     added an end mark and a record for 1 column, at 9\n\
     columns 1, was 80\n\
     comments 3, was 0\n\
-    removed 1 byte of an older record, at 30\n\
+    removed an older record, 1 byte in all, at 30\n\
     added 1 carriage return before a line feed, at 4\n\
     removed <ESC>[?33h at 0\n\
     set the non-blink flag\n\
@@ -168,7 +168,7 @@ fn changed_often() -> Mended {
 
 const SAID_OFTEN: &[u8] = b"cut off 2 bytes after the record, at 2724\n\
     added an end mark and a record for 1024 columns, at 2596, in place of 3 bytes\n\
-    removed 129 bytes of an older record, at 31\n\
+    removed an older record, 129 bytes in all, at 31\n\
     added 2 carriage returns before line feeds, first at 4\n\
     removed <ESC>[?25l at 5, and 1 more like it\n\
     removed <ESC>[=3h at 0\n\
@@ -258,7 +258,7 @@ static IDLE: [(Mends, &str); 13] = [
             repair_record: true,
             ..Mends::NONE
         },
-        "--record: nothing done, the number of comments stays\n",
+        "--record: nothing done, no comments to count and no older record to remove\n",
     ),
     (
         Mends {

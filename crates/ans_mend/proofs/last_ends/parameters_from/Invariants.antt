@@ -1,11 +1,12 @@
-use Rattle.std.proofs.Common.{◌≡◌, ◌≤◌}
-use Rattle.ans_mend.specs.LastEnds.{parameters_from}
+use Rattle.std.proofs.Common.{◌≡◌, ◌<◌, ◌≤◌, ℕ, true}
+use Rattle.std.specs.Prelude.{slice_index}
+use Rattle.ans_mend.specs.LastEnds.{is_parameter}
 use Rattle.ans_mend.proofs.last_ends.parameters_from.Given as goal
 
 abbrev pub invariant-parameters : goal.invariant-parameters
 invariant-parameters l = record {
   within : l.start ≤ l.end;
-  same : parameters_from l.bytes l.start ≡ parameters_from l.bytes l.end;
+  parameters : (at : ℕ) → l.start ≤ at → at < l.end → is_parameter (slice_index l.bytes at) ≡ true;
 }
 
 abbrev pub decreases-parameters : goal.decreases-parameters
