@@ -12,12 +12,13 @@ import pathlib
 import re
 import sys
 import tomllib
+from typing import NamedTuple
 
 TOP = pathlib.Path(__file__).resolve().parent.parent
 HELPS = TOP / "crates/anscheck_rows/data/helps.toml"
 FOLDER = TOP / "crates/anscheck/completions"
 WORD = re.compile(r'^    \(\n        "([\w-]+)",$', re.MULTILINE)
-OPTION = re.compile(r"^ +(?:-\w, )?--([\w-]+)(?: <(\w+)>)? +(\S.*)$", re.MULTILINE)
+OPTION = re.compile(r"^ +(?:-(\w), )?--([\w-]+)(?: <(\w+)>)? +(\S.*)$", re.MULTILINE)
 COMMAND = re.compile(r"^  (\w+) +(\S.*)$", re.MULTILINE)
 WORDS = TOP / "crates/ans_options/src/words.rt"
 NUMBERED = [f"F{n}" for n in range(1, 26) if n != 18] + [f"N{n}" for n in range(1, 7)]
@@ -81,6 +82,21 @@ complete -c anscheck -n "not __fish_seen_subcommand_from $commands" -s V -l vers
 """
 
 
+class Option(NamedTuple):
+    """An option: its letter and its value's name, each an empty word if there is none, its name, and what it is for."""
+    letter: str
+    name: str
+    value: str
+    what: str
+
+    def spellings(self):
+        """What may be typed for it."""
+        return ([f"-{self.letter}"] if self.letter else []) + [f"--{self.name}"]
+
+    def has_number(self):
+        return self.value == "N"
+
+
 def helps():
     """The text of each help, by its command; that of the program is the empty word's."""
     rows = tomllib.loads(HELPS.read_text(encoding="utf-8"))["row"]
@@ -98,8 +114,8 @@ def section(text, title):
 
 
 def options(text):
-    """The options of a help except its own: the name, the value's name or an empty word, and what each is for."""
-    return [option for option in OPTION.findall(section(text, "Options")) if option[0] != "help"]
+    """The options of a help except its own."""
+    return [option for option in map(Option._make, OPTION.findall(section(text, "Options"))) if option.name != "help"]
 
 
 def quoted(text):
@@ -108,25 +124,28 @@ def quoted(text):
 
 
 def bash(commands, flags):
-    valued = sorted({f"--{name}" for named in flags.values() for name, value, _ in named if value})
+    valued = sorted({f"--{option.name}" for named in flags.values() for option in named if option.has_number()})
     cases = [
-        f'            {command}) flags="{" ".join(f"--{name}" for name, _, _ in named)} --help" ;;'
+        f'            {command}) flags="{" ".join(word for option in named for word in option.spellings())} --help" ;;'
         for command, named in flags.items() if named
     ]
     return BASH.format(
         made=MADE, commands=" ".join(commands), topics=" ".join(topics()), valued=" ".join(valued), cases="\n".join(cases))
 
 
-def zsh_flag(name, value, what):
-    what = what.replace("[", r"\[").replace("]", r"\]").replace(":", r"\:")
-    return f"'--{name}[{quoted(what)}]" + (f":{value}: '" if value else "'")
+def zsh_flags(option):
+    """An option for each of its spellings. Its value is a number, which nothing completes, or the name of a file."""
+    what = quoted(option.what.replace("[", r"\[").replace("]", r"\]").replace(":", r"\:"))
+    value = f":{option.value}:{' ' if option.has_number() else '_files'}" if option.value else ""
+    return [f"'{word}[{what}]{value}'" for word in option.spellings()]
 
 
 def zsh(commands, flags):
     listed = "\n".join(f"        '{name}:{quoted(what)}'" for name, what in commands.items())
     cases = []
     for command, named in flags.items():
-        words = [zsh_flag(*option) for option in named] + ["'--help[Print help]'", "'*:file:_files'"]
+        words = [word for option in named for word in zsh_flags(option)]
+        words += ["'--help[Print help]'", "'*:file:_files'"]
         cases.append(f"        {command})\n            _arguments " + " \\\n                ".join(words) + "\n            ;;")
     return ZSH.format(made=MADE, commands=listed, topics=" ".join(topics()), cases="\n".join(cases))
 
@@ -138,10 +157,11 @@ def fish(commands, flags):
     for words in (" ".join(commands), " ".join(topics())):
         lines.append(f"complete -c anscheck -n \"__fish_seen_subcommand_from help\" -f -a '{words}'")
     for command, named in flags.items():
-        for name, value, what in named:
-            takes = " -x" if value else ""
-            lines.append(
-                f'complete -c anscheck -n "__fish_seen_subcommand_from {command}" -l {name}{takes} -d \'{quoted(what)}\'')
+        for option in named:
+            letter = f" -s {option.letter}" if option.letter else ""
+            takes = (" -x" if option.has_number() else " -r -F") if option.value else ""
+            lines.append(f'complete -c anscheck -n "__fish_seen_subcommand_from {command}"{letter} -l {option.name}{takes}'
+                         f" -d '{quoted(option.what)}'")
     return FISH.format(made=MADE, commands=" ".join(commands), lines="\n".join(lines))
 
 

@@ -6,7 +6,8 @@
 The flags are those of `crates/ans_model/src/mends.rt`: a table of those without a value, each with its bit, and the
 fields that hold a number. The manual page, the completions, ans.h, the package for JavaScript and the page for browsers
 have the same, in their own spelling: `--join-rows`, `ANS_JOIN_ROWS`, `joinRows`. The manual page and the completions
-also have `--suggested`, which names no change. It prints each difference, and ends with status 1 if there is one.
+also have `--suggested`, which names no change, and the options that say how files are written, which the page has in a
+list of their own. It prints each difference, and ends with status 1 if there is one.
 """
 import pathlib
 import re
@@ -18,6 +19,8 @@ COMPLETIONS = "crates/anscheck/completions"
 
 # the flag of the program that names no change
 CHOOSING = ["suggested"]
+# those that say how files are written, with the letters that stand for them
+WRITING = {"output": "o", "in-place": "i", "dry-run": "n"}
 
 
 def text_of(name):
@@ -66,6 +69,16 @@ def flags_of_manual():
     yield "docs/anscheck.1, options", re.findall(r"^\.It Fl Fl ([\w-]+)", options, re.MULTILINE)
 
 
+def writing_of_manual():
+    """The letters in the synopsis of each command that writes files, and the letters and names in the list of them."""
+    for command in ("mend", "redraw"):
+        synopsis = between("docs/anscheck.1", rf"\.Cm {command}\n", r"\n\.Nm")
+        yield f"docs/anscheck.1, letters of {command}", re.findall(r"Fl (\w)\b(?! Fl)", synopsis)
+    options = between("docs/anscheck.1", r"\.Sh WRITING FILES\n", r"\n\.El")
+    names = re.findall(r"^\.It Fl (\w)(?: Ar \w+)? , Fl Fl ([\w-]+)", options, re.MULTILINE)
+    yield "docs/anscheck.1, options of writing", [f"{letter} {name}" for letter, name in names]
+
+
 def flags_of_completions():
     """The flags that each shell completes, except --help."""
     bash = between(f"{COMPLETIONS}/anscheck.bash", r'mend\) flags="', '"')
@@ -73,7 +86,7 @@ def flags_of_completions():
     fish = text_of(f"{COMPLETIONS}/anscheck.fish")
     yield f"{COMPLETIONS}/anscheck.bash", [name for name in re.findall(r"--([\w-]+)", bash) if name != "help"]
     yield f"{COMPLETIONS}/_anscheck", [name for name in re.findall(r"'--([\w-]+)", zsh) if name != "help"]
-    yield f"{COMPLETIONS}/anscheck.fish", re.findall(r'subcommand_from mend" -l ([\w-]+)', fish)
+    yield f"{COMPLETIONS}/anscheck.fish", re.findall(r'subcommand_from mend"(?: -s \w)? -l ([\w-]+)', fish)
 
 
 def bits_of_header():
@@ -118,8 +131,13 @@ def places():
     flags, numbers = bits(), valued()
     in_package, options = {in_camel_case(it): flags[it] for it in flags}, options_of_package()
     boxes, fields = bits_of_page()
-    for place, found in (*flags_of_manual(), *flags_of_completions()):
+    for place, found in flags_of_manual():
         yield place, sorted([*flags, *numbers, *CHOOSING]), sorted(found)
+    for place, found in flags_of_completions():
+        yield place, sorted([*flags, *numbers, *CHOOSING, *WRITING]), sorted(found)
+    for place, found in writing_of_manual():
+        wanted = [f"{WRITING[name]} {name}" if "options" in place else WRITING[name] for name in WRITING]
+        yield place, wanted, found
     yield "library/ans.h", {in_capitals(it): flags[it] for it in flags}, bits_of_header()
     yield "library/js/numbers.js", in_package, bits_of_package()
     yield "library/js/index.d.ts, true or false", sorted(in_package), options["boolean"]

@@ -3,6 +3,7 @@
 mod cut_off;
 mod meanings;
 mod mended_files;
+mod no_disk;
 mod redrawn_files;
 mod shelf;
 

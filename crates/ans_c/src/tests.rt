@@ -270,8 +270,7 @@ fn texts_are_handed_over(rt: HostRuntime) -> Result<(), Fail> {
         from the bottom right: row 2, column 2\n\
         players: own-colours\n\
         players differ: own-colours, 2 times, first at 0\n\
-        taller screens: same\n\
-        fix: anscheck mend\n";
+        taller screens: same\n";
     let passed = ans_why_on(&file, &mut rows, &mut bytes, &mut text, &mut length);
     let told = text.get(..length).ok_or("why")?;
     assert!(rt; passed == PASS && told.starts_with(why));

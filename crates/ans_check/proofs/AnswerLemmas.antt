@@ -11,27 +11,34 @@ use Rattle.ans_write.specs.declared.outbox.WriteFault.{WriteFault}
 use Rattle.ans_write.proofs.PutsLemmas.{WritesText-finished}
 use Rattle.ans_write.specs.declared.tried.Tried.{Tried}
 use Rattle.clap.specs.Words.{Text}
-use Rattle.ans_options.specs.declared.command.TableForm.{TableForm}
 use Rattle.ans_check.specs.declared.naming.Naming.{Naming}
-use Rattle.ans_options.specs.CommandLine.{why_options}
-use Rattle.ans_check.specs.Answer.{EndsBy, EndsExplained, EndsNamed, EndsServed, EndsWhy, Says, Tells, message_of}
-use Rattle.ans_check.specs.Answer.{said_text}
+use Rattle.std.specs.Global.{Global}
+use Rattle.std.proofs.Common.{String, Vec}
+use Rattle.ans_options.specs.declared.command.Asked.{Asked}
+use Rattle.ans_options.specs.declared.command.Asked.TheVariants as asked
+use Rattle.ans_options.specs.declared.command.MendChoice.{MendChoice}
+use Rattle.ans_options.specs.declared.command.Writing.{Writing}
+use Rattle.ans_check.specs.Answer.{EndsBy, EndsExplained, EndsNamed, EndsServed, EndsWhy, IsAimOf}
+use Rattle.ans_check.specs.declared.fates.Goal.{Goal}
+use Rattle.ans_check.specs.Said.{Says, Tells, message_of, said_text}
 use Rattle.std.specs.declared.io.ErrorKind.{ErrorKind}
 use Rattle.ans_report.specs.Message.{message_line}
 use Rattle.ans_table.specs.declared.counts.Counts.{Counts}
+use Rattle.ans_written.specs.declared.counts.FileCounts.{FileCounts}
 use Rattle.ans_mend.specs.declared.outcome.Mended as outcome
 use Rattle.ans_fix.specs.declared.without_help.Unhelped.{Unhelped}
 use Rattle.ans_redraw.specs.declared.outcome.Redrawn as redrawing
 use Rattle.ans_redraw.specs.declared.outcome.Unredrawn.{Unredrawn}
 use Rattle.ans_model.specs.declared.mends.Mends.{Mends}
-use Rattle.ans_check.specs.CommandText.{Reports}
-use Rattle.ans_check.specs.Naming.{first_called}
+use Rattle.ans_check.specs.Naming.{file_called, first_called}
+use Rattle.ans_check.specs.WhyTold.{ReportsTold}
 use Rattle.ans_check.specs.declared.errors.RunError.TheVariants as error
+use Rattle.ans_options.specs.declared.command.TableChoice.{TableChoice}
 use Rattle.ans_check.specs.declared.exit_status.Ending.{Ending}
 use Rattle.ans_check.specs.declared.exit_status.Ending.TheVariants.{Run, Help, Usage, UnreadableWords, UnopenedFile}
 use Rattle.ans_check.specs.declared.exit_status.Ending.TheVariants.{Table, NamedInput, UnreadNames, Mended, NotMended}
 use Rattle.ans_check.specs.declared.exit_status.Ending.TheVariants.{Redrawn, NotRedrawn, Explained, InputAmong}
-use Rattle.ans_check.specs.declared.exit_status.Ending.TheVariants.{SuggestedAmong}
+use Rattle.ans_check.specs.declared.exit_status.Ending.TheVariants.{Filed, Mistaken, ToTerminal, Unsaved}
 use Rattle.ans_check.specs.declared.exit_status.Ending.TheVariants.{MayPassCleared}
 
 -- what was written by its result is what was written by whether the device has failed
@@ -67,7 +74,10 @@ said contents errors after naming (Explained counts) works h = h
 said contents errors after naming NamedInput works h = h
 said contents errors after naming InputAmong works h = h
 said contents errors after naming UnreadNames works h = h
-said contents errors after naming SuggestedAmong works h = h
+said contents errors after naming (Mistaken mistake) works h = h
+said contents errors after naming ToTerminal works h = h
+said contents errors after naming (Filed counts) works h = h
+said contents errors after naming (Unsaved e) works h = h
 said contents errors after naming (Mended mended) works h = h
 said contents errors after naming (NotMended asked unhelped) works h = h
 said contents errors after naming (Redrawn redrawn) works h = h
@@ -91,7 +101,10 @@ says_as naming other (Explained counts) = refl
 says_as naming other NamedInput = refl
 says_as naming other InputAmong = refl
 says_as naming other UnreadNames = refl
-says_as naming other SuggestedAmong = refl
+says_as naming other (Mistaken mistake) = refl
+says_as naming other ToTerminal = refl
+says_as naming other (Filed counts) = refl
+says_as naming other (Unsaved e) = refl
 says_as naming other (Mended mended) = refl
 says_as naming other (NotMended asked unhelped) = refl
 says_as naming other (Redrawn redrawn) = refl
@@ -112,21 +125,21 @@ said_something contents errors after (Some text) h told = told
 
 -- the table of names that the words give
 pub ends_by_names : {R W : Type 0} (remaining : R → Option (List ℕ)) (contents : W → Option (List ℕ))
-    (is_standard : R → Type 0) (is_file : Text → R → Type 0) (fails : Text → ErrorKind → Type 0) (form : TableForm)
+    (is_standard : R → Type 0) (is_file : Text → R → Type 0) (fails : Text → ErrorKind → Type 0) (choice : TableChoice)
     (names : List Text) (output after : Tried W) (ending : Ending) → 1 ≤ length names
-    → EndsNamed contents remaining is_file fails form names output after ending
-    → EndsBy remaining contents is_standard is_file fails form names output after ending
-ends_by_names remaining contents is_standard is_file fails form [] output after ending some h = absurd (omega arith)
-ends_by_names remaining contents is_standard is_file fails form (name ∷ more) output after ending some h = h
+    → EndsNamed contents remaining is_file fails choice names output after ending
+    → EndsBy remaining contents is_standard is_file fails choice names output after ending
+ends_by_names remaining contents is_standard is_file fails choice [] output after ending some h = absurd (omega arith)
+ends_by_names remaining contents is_standard is_file fails choice (name ∷ more) output after ending some h = h
 
 -- the table of names on standard input
 pub ends_by_input : {R W : Type 0} (remaining : R → Option (List ℕ)) (contents : W → Option (List ℕ))
-    (is_standard : R → Type 0) (is_file : Text → R → Type 0) (fails : Text → ErrorKind → Type 0) (form : TableForm)
+    (is_standard : R → Type 0) (is_file : Text → R → Type 0) (fails : Text → ErrorKind → Type 0) (choice : TableChoice)
     (names : List Text) (output after : Tried W) (ending : Ending) → length names ≤ 0
-    → EndsBy remaining contents is_standard is_file fails form [] output after ending
-    → EndsBy remaining contents is_standard is_file fails form names output after ending
-ends_by_input remaining contents is_standard is_file fails form [] output after ending none h = h
-ends_by_input remaining contents is_standard is_file fails form (name ∷ more) output after ending none h =
+    → EndsBy remaining contents is_standard is_file fails choice [] output after ending
+    → EndsBy remaining contents is_standard is_file fails choice names output after ending
+ends_by_input remaining contents is_standard is_file fails choice [] output after ending none h = h
+ends_by_input remaining contents is_standard is_file fails choice (name ∷ more) output after ending none h =
     absurd (omega arith)
 
 -- the answer on one file, or on standard input
@@ -134,7 +147,7 @@ pub why_of_one : {R W : Type 0} (remaining : R → Option (List ℕ)) (contents 
     (is_file : Text → R → Type 0) (is_standard : R → Type 0) (fails : Text → ErrorKind → Type 0)
     (words names : List Text) (first : Option Text) (output after : Tried W) (ending : Ending)
     → length names ≤ 1 → first ≡ first_called names
-    → EndsServed remaining contents is_file is_standard fails (Reports why_options) Run first output after ending
+    → EndsServed remaining contents is_file is_standard fails (ReportsTold (file_called first)) Run first output after ending
     → EndsWhy remaining contents is_file is_standard fails words names output after ending
 why_of_one remaining contents is_file is_standard fails words [] first output after ending few is h = rw is at h
 why_of_one remaining contents is_file is_standard fails words (name ∷ []) first output after ending few is h =
@@ -155,23 +168,40 @@ why_of_several remaining contents is_file is_standard fails words (name ∷ next
 
 -- an ending of which no more is told says its message
 pub said_as_message : (naming : Naming) (ending : Ending) → ((counts : Counts) → ending ≡ Table counts → ⊥)
-    → ((counts : Counts) → ending ≡ Explained counts → ⊥) → ((m : outcome.Mended) → ending ≡ Mended m → ⊥)
+    → ((counts : Counts) → ending ≡ Explained counts → ⊥) → ((counts : FileCounts) → ending ≡ Filed counts → ⊥)
+    → ((m : outcome.Mended) → ending ≡ Mended m → ⊥)
     → ((asked : Mends) (unhelped : Unhelped) → ending ≡ NotMended asked unhelped → ⊥)
     → ((r : redrawing.Redrawn) → ending ≡ Redrawn r → ⊥) → ((reason : Unredrawn) → ending ≡ NotRedrawn reason → ⊥)
     → said_text naming ending ≡ option_map message_line (message_of naming ending)
-said_as_message naming (Table counts) t e m n r u = absurd (t counts refl)
-said_as_message naming (Explained counts) t e m n r u = absurd (e counts refl)
-said_as_message naming (Mended mended) t e m n r u = absurd (m mended refl)
-said_as_message naming (NotMended asked unhelped) t e m n r u = absurd (n asked unhelped refl)
-said_as_message naming (Redrawn redrawn) t e m n r u = absurd (r redrawn refl)
-said_as_message naming (NotRedrawn reason) t e m n r u = absurd (u reason refl)
-said_as_message naming (Run answer) t e m n r u = refl
-said_as_message naming MayPassCleared t e m n r u = refl
-said_as_message naming Help t e m n r u = refl
-said_as_message naming Usage t e m n r u = refl
-said_as_message naming UnreadableWords t e m n r u = refl
-said_as_message naming (UnopenedFile reason) t e m n r u = refl
-said_as_message naming NamedInput t e m n r u = refl
-said_as_message naming InputAmong t e m n r u = refl
-said_as_message naming UnreadNames t e m n r u = refl
-said_as_message naming SuggestedAmong t e m n r u = refl
+said_as_message naming (Table counts) t e f m n r u = absurd (t counts refl)
+said_as_message naming (Explained counts) t e f m n r u = absurd (e counts refl)
+said_as_message naming (Mended mended) t e f m n r u = absurd (m mended refl)
+said_as_message naming (NotMended asked unhelped) t e f m n r u = absurd (n asked unhelped refl)
+said_as_message naming (Redrawn redrawn) t e f m n r u = absurd (r redrawn refl)
+said_as_message naming (NotRedrawn reason) t e f m n r u = absurd (u reason refl)
+said_as_message naming (Run answer) t e f m n r u = refl
+said_as_message naming MayPassCleared t e f m n r u = refl
+said_as_message naming Help t e f m n r u = refl
+said_as_message naming Usage t e f m n r u = refl
+said_as_message naming UnreadableWords t e f m n r u = refl
+said_as_message naming (UnopenedFile reason) t e f m n r u = refl
+said_as_message naming NamedInput t e f m n r u = refl
+said_as_message naming InputAmong t e f m n r u = refl
+said_as_message naming UnreadNames t e f m n r u = refl
+said_as_message naming (Mistaken mistake) t e f m n r u = refl
+said_as_message naming ToTerminal t e f m n r u = refl
+said_as_message naming (Unsaved error) t e f m n r u = refl
+said_as_message naming (Filed counts) t e f m n r u = absurd (f counts refl)
+
+-- what is asked has no goal but to mend or to redraw
+pub aimless : (a : Asked) (goal : Goal) → IsAimOf a (Some goal)
+    → ((choice : MendChoice) (writing : Writing) (names : Vec (String Global) Global)
+    → a ≡ asked.Mend choice writing names → ⊥)
+    → ((writing : Writing) (names : Vec (String Global) Global) → a ≡ asked.Redraw writing names → ⊥) → ⊥
+aimless (asked.Mend choice writing names) goal aim mends redraws = mends choice writing names refl
+aimless (asked.Redraw writing names) goal aim mends redraws = redraws writing names refl
+aimless (asked.One options file) goal aim mends redraws = cc
+aimless (asked.Why names) goal aim mends redraws = cc
+aimless (asked.Table choice names) goal aim mends redraws = cc
+aimless (asked.Mistaken command mistake) goal aim mends redraws = cc
+aimless (asked.Meaning topic) goal aim mends redraws = cc

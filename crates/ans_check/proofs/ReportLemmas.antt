@@ -38,6 +38,8 @@ use Rattle.ans_check.specs.declared.check_file.Checked.{Checked}
 use Rattle.ans_check.specs.declared.check_file.Checked.TheVariants as checked
 use Rattle.ans_model.specs.declared.mends.Mends.{Mends}
 use Rattle.ans_fix.specs.Suggested.{IsFix}
+use Rattle.clap.specs.Words.{Text}
+use Rattle.ans_check.specs.LastWords.{last_words}
 use Rattle.ans_check.specs.WhyTold.{ReportsTold, told_text}
 use Rattle.ans_why.specs.Explained.{IsTrueOf, Why}
 use Rattle.ans_options.specs.declared.command.Form.{Form}
@@ -179,9 +181,10 @@ picture_reported file start form parts picture h = record {
 }
 
 -- what is said of a file, where it is true
-pub why_reported : (file : List ℕ) (why : Why) (fix : Option Mends) (passed : Bool) → IsTrueOf file why
-    → IsFix file why fix → passed ≡ is_pass why → ReportsTold file passed (told_text why fix)
-why_reported file why fix passed h tried e = record {
+pub why_reported : (name : Option Text) (file : List ℕ) (why : Why) (fix : Option Mends) (passed : Bool)
+    → IsTrueOf file why → IsFix file why fix → passed ≡ is_pass why
+    → ReportsTold name file passed (told_text (last_words name) why fix)
+why_reported name file why fix passed h tried e = record {
   said = why;
   told = record { is_true = h; fix = fix; is_fix = tried; text_is = refl };
   passed_is = e;

@@ -126,16 +126,16 @@ ends_err {W} {T} {U} {MayEnd} {old} {between} {new} {e} same h = record {
 }
 
 -- ---- rows
-abbrev one_row : Text → Outcome → List ℕ → Told
+abbrev pub one_row : Text → Outcome → List ℕ → Told
 one_row name outcome text = record { name = name; outcome = outcome; text = text }
 
-abbrev texts : List Told → List ℕ
+abbrev pub texts : List Told → List ℕ
 texts rows = flat_map (λ row. row.text) rows
 
-abbrev row_names : List Told → List Text
+abbrev pub row_names : List Told → List Text
 row_names rows = map (λ row. row.name) rows
 
-abbrev outcomes : List Told → List Outcome
+abbrev pub outcomes : List Told → List Outcome
 outcomes rows = map (λ row. row.outcome) rows
 
 module _ {W : Type 0} (contents : W → Option (List ℕ)) (tells : Text → Outcome → List ℕ → Type 0)

@@ -144,7 +144,7 @@ ReportsNeeds file false text = ReportsRefusal file all_known None text
 -- for one file, which has no name here; what its row would say first is reported as `needs` reports it. A file that is
 -- to be mended or redrawn has no report either, and what it needs is reported too.
 abbrev pub ReportsBy : Command → Start → Bool → List ℕ → Bool → List ℕ → Type 0
-ReportsBy Why start cells file passed text = ReportsTold file passed text
+ReportsBy Why start cells file passed text = ReportsTold None file passed text
 ReportsBy Check start cells file passed text = ReportsCheck file start cells passed text
 ReportsBy (Show form) start cells file passed text = ReportsShow file start form passed text
 ReportsBy Sauce start cells file passed text = ReportsSauce file passed text

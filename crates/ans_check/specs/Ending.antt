@@ -8,10 +8,13 @@ use Rattle.ans_fix.specs.declared.without_help.Unhelped.{Unhelped}
 use Rattle.ans_redraw.specs.declared.outcome.Redrawn as redrawing
 use Rattle.ans_redraw.specs.declared.outcome.Unredrawn.{Unredrawn}
 use Rattle.ans_model.specs.declared.mends.Mends.{Mends}
+use Rattle.ans_options.specs.Mistakes.{mistake_text}
 use Rattle.ans_options.specs.declared.command_line.WordsError.{WordsError}
 use Rattle.ans_options.specs.declared.command_line.WordsError.TheVariants as words_error
+use Rattle.ans_save.specs.Reasons.{error_text}
 use Rattle.ans_table.specs.Counting.{counts_status}
 use Rattle.ans_table.specs.Unopened.{plain_text}
+use Rattle.ans_written.specs.Outcomes as outcomes
 use Rattle.ans_check.specs.declared.check_file.Checked.{Checked}
 use Rattle.ans_check.specs.declared.check_file.Checked.TheVariants as checked
 use Rattle.ans_check.specs.declared.errors.RunError.{RunError}
@@ -19,7 +22,8 @@ use Rattle.ans_check.specs.declared.exit_status.Ending.{Ending}
 use Rattle.ans_check.specs.declared.exit_status.Ending.TheVariants.{Run, Help, Usage, UnreadableWords, UnopenedFile}
 use Rattle.ans_check.specs.declared.exit_status.Ending.TheVariants.{Table, NamedInput, UnreadNames, Mended, NotMended}
 use Rattle.ans_check.specs.declared.exit_status.Ending.TheVariants.{Redrawn, NotRedrawn, Explained, InputAmong}
-use Rattle.ans_check.specs.declared.exit_status.Ending.TheVariants.{MayPassCleared, SuggestedAmong}
+use Rattle.ans_check.specs.declared.exit_status.Ending.TheVariants.{MayPassCleared, Mistaken, ToTerminal, Filed}
+use Rattle.ans_check.specs.declared.exit_status.Ending.TheVariants.{Unsaved}
 use Rattle.ans_check.specs.Run.{run_error_text, status_of}
 
 -- the exit status of each ending
@@ -37,7 +41,10 @@ ending_status NamedInput = 2
 ending_status UnreadNames = 2
 ending_status (Mended mended) = 0
 ending_status (NotMended asked unhelped) = 1
-ending_status SuggestedAmong = 2
+ending_status (Mistaken mistake) = 2
+ending_status ToTerminal = 2
+ending_status (Filed counts) = outcomes.counts_status counts
+ending_status (Unsaved e) = 2
 ending_status (Redrawn redrawn) = 0
 ending_status (NotRedrawn reason) = 1
 
@@ -58,7 +65,10 @@ ending_message InputAmong = Some (codes "'-' is standard input, and cannot be on
 ending_message UnreadNames = Some (codes "cannot read the names")
 ending_message (Mended mended) = None
 ending_message (NotMended asked unhelped) = None
-ending_message SuggestedAmong = Some (codes "mend --suggested takes no flag that asks for a change")
+ending_message (Mistaken mistake) = Some (mistake_text mistake)
+ending_message ToTerminal = Some (codes "standard output is a terminal: give -o FILE, or pipe it")
+ending_message (Filed counts) = None
+ending_message (Unsaved e) = Some (error_text e)
 ending_message (Redrawn redrawn) = None
 ending_message (NotRedrawn reason) = None
 

@@ -9,9 +9,13 @@ pub mod CommandText
 pub mod Reported
 pub mod Served
 pub mod Suggesting
+pub mod Further
+pub mod Listing
 pub mod Table
+pub mod LastWords
 pub mod WhyTold
 pub mod WhyRows
-pub mod Listing
+pub mod Said
+pub mod Fates
 pub mod Answer
 pub mod SystemInput

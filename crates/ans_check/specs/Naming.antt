@@ -49,9 +49,10 @@ abbrev pub name_called : Asked → Option Text
 name_called (asked.One options file) =
     if tells_reason options.command then file_called (option_map string_bytes file) else None
 name_called (asked.Why names) = file_called (first_called (map string_bytes names.items))
-name_called (asked.Mend choice file) = file_called (option_map string_bytes file)
-name_called (asked.Redraw file) = file_called (option_map string_bytes file)
-name_called (asked.Table form names) = None
+name_called (asked.Mend choice writing names) = file_called (first_called (map string_bytes names.items))
+name_called (asked.Redraw writing names) = file_called (first_called (map string_bytes names.items))
+name_called (asked.Table choice names) = None
+name_called (asked.Mistaken command mistake) = None
 name_called (asked.Meaning topic) = None
 
 abbrev pub is_why : Asked → Bool

@@ -33,24 +33,25 @@ outcome_of_why (Passes parts pass) = pass_outcome pass.needs
 outcome_of_why _ = Refused
 
 -- what is wrong with the file is said, or what it relies on
-pub record TellsJudged (file : List ℕ) (outcome : Outcome) (text : List ℕ) : Type 0 where
+pub record TellsJudged (name : Text) (file : List ℕ) (outcome : Outcome) (text : List ℕ) : Type 0 where
   pub said : Why
-  pub told : IsToldOf file said text
+  pub told : IsToldOf (Some name) file said text
   pub outcome_is : outcome ≡ outcome_of_why said
 
 -- the file was not read, and the reason is given
 abbrev pub TellsUnread : reason.Unread → Outcome → List ℕ → Type 0
 TellsUnread e outcome text = (outcome ≡ Unread) × (text ≡ error_line e)
 
--- What is said of a file, of which this was read. Memory may run out for judging it, or for trying to mend it.
-abbrev pub TellsWhyOf : Given → Outcome → List ℕ → Type 0
-TellsWhyOf (Ok file) outcome text = TellsJudged file outcome text ⊎ TellsUnread why.Memory outcome text
-TellsWhyOf (Err e) outcome text = TellsUnread e outcome text
+-- What is said of the file of this name, of which this was read. Memory may run out for judging it, for trying to mend
+-- it, or for the names of a command.
+abbrev pub TellsWhyOf : Text → Given → Outcome → List ℕ → Type 0
+TellsWhyOf name (Ok file) outcome text = TellsJudged name file outcome text ⊎ TellsUnread why.Memory outcome text
+TellsWhyOf name (Err e) outcome text = TellsUnread e outcome text
 
 -- the same after the line of its name
 pub record TellsWhy (name : Text) (given : Given) (outcome : Outcome) (text : List ℕ) : Type 0 where
   pub body : List ℕ
-  pub told : TellsWhyOf given outcome body
+  pub told : TellsWhyOf name given outcome body
   pub text_is : text ≡ file_line name ++ body
 
 -- What is wrong with each of these files was written, or a prefix of it.

@@ -1,19 +1,23 @@
 //! From the program's words to its ending.
 
 ghost use Rattle.std.specs.Prelude.{◌≡◌, ◌≢◌, ◌++◌, [], None, false, IfSome, IsSomeAnd, is_some, not};
-ghost use Rattle.std.specs.Prelude.{option_map, string_bytes, true, unwrap_or, map, IfErr, IfNone, IfOk};
+ghost use Rattle.std.specs.Prelude.{option_map, string_bytes, true, unwrap_or, map, Err, IfErr, IfNone, IfOk, Some};
 ghost use Rattle.std.specs.List.{list_any};
 ghost use Rattle.ans_model.specs.Text.Words.{texts_of};
 ghost use Rattle.ans_report.specs.Message.{message_line};
 ghost use Rattle.ans_table.specs.NameText.{name_text};
 ghost use Rattle.ans_write.specs.Puts.{Puts};
 ghost use Rattle.ans_write.specs.Tried.{has_failed};
-ghost use Rattle.ans_check.specs.Answer.{EndsAfter, EndsAsTold, EndsBy, EndsNamed, EndsServed, EndsSo, EndsWritten};
-ghost use Rattle.ans_check.specs.Answer.{IsNamed, PrintsHelp, Says, Tells, said_text};
-ghost use Rattle.ans_check.specs.Answer.{EndsExplained, EndsMend, EndsOne, EndsWhy, TellsFailure, is_check};
-ghost use Rattle.ans_check.specs.Answer.{ending_of_table, ending_of_whys, meaning_text, message_of, named_message};
-ghost use Rattle.ans_check.specs.Ending.{ending_of_words};
-ghost use Rattle.ans_check.specs.Listing.{was_read_whole, names_in, listed_bytes};
+ghost use Rattle.ans_redraw.specs.Redrawing.{TellsRedrawn};
+ghost use Rattle.ans_check.specs.Answer.{Answers, EndsAfter, EndsAsTold, EndsBy, EndsListed, EndsNamed, EndsServed, EndsSo};
+ghost use Rattle.ans_check.specs.Answer.{AreMendedBy, EndsExplained, EndsMend, EndsOne, EndsWhy, EndsWritten, IsAimOf};
+ghost use Rattle.ans_check.specs.Answer.{EndsFiled, PrintsHelp, TellsFailure, UnlessTerminal, ending_of_table};
+ghost use Rattle.ans_check.specs.Answer.{ending_of_listing, ending_of_whys, is_check, meaning_text};
+ghost use Rattle.ans_check.specs.Ending.{ending_of_redrawing, ending_of_words};
+ghost use Rattle.ans_check.specs.Said.{IsNamed, Says, Tells, file_counts_said, message_of, named_message, reason_said};
+ghost use Rattle.ans_check.specs.Said.{said_text, unsaved_text};
+ghost use Rattle.ans_check.specs.declared.errors.RunError.TheVariants.{Write};
+ghost use Rattle.ans_check.specs.declared.exit_status.Ending.TheVariants.{Run};
 ghost use Rattle.ans_check.specs.Answer.{SaysOf};
 ghost use Rattle.ans_check.specs.Naming.{IsUnopened, first_called, front_text, is_guessed, meant_text, missing_text};
 ghost use Rattle.ans_check.specs.Naming.{names_standard, reason_told, unnamed, unopened_text};
@@ -21,20 +25,27 @@ ghost use Rattle.ans_check.specs.Naming.{names_standard, reason_told, unnamed, u
 use crate::check_file::Checking;
 use crate::errors::RunError;
 use crate::exit_status::Ending;
+use crate::fates::{Goal, goal_of};
+use crate::filing::file_named;
 use crate::inputs::Inputs;
-use crate::listing::Listing;
-use crate::naming::{Meant, Naming, first_of, is_guessed, name_of, naming_of, unnamed};
+use crate::listing::Listed;
+use crate::naming::{
+    Meant, Naming, file_called, first_of, is_guessed, name_of, naming_of, unnamed,
+};
 use crate::redraw_file::Redrawing;
-use crate::rows::table;
+use crate::rows::{table, table_listed};
 use crate::suggesting::Suggesting;
 use crate::task::{Task, serve_task};
 use crate::why_rows::{explain, put_unread_counts};
+use crate::why_told::Explaining;
 use ans_mend::{put_mended, put_unmended};
-use ans_options::{Asked, Command, MendChoice, Options, TableForm, Topic, WordsError, asked};
+use ans_options::{Asked, Command, MendChoice, Options, TableChoice, Topic, WordsError, asked};
 use ans_redraw::{put_redrawn, put_unredrawn};
 use ans_report::{Tried, fault_meaning, note_meaning};
+use ans_save::{Disk, Reason, SaveError};
 use ans_table::{Counts, Unopened, put_counts, put_name};
 use ans_write::Outbox;
+use ans_written::{FileCounts, put_file_counts};
 use std::alloc::{AllocError, Global};
 use std::io::Write;
 
@@ -45,6 +56,7 @@ fn says_nothing(ending: &Ending) -> bool
     match ending {
         Ending::Run(Ok(_)) | Ending::Help | Ending::Usage => true,
         Ending::Explained(counts) => counts.unread == 0,
+        Ending::Filed(counts) => counts.files <= 1,
         _ => false,
     }
 }
@@ -121,11 +133,41 @@ fn put_unopened<W: Write>(out: &mut Outbox<'_, W>, naming: &Naming<'_>, reason: 
 }
 
 /// Puts a message that speaks of the input, after its name if that is given.
-fn put_input_message<W: Write>(out: &mut Outbox<'_, W>, naming: &Naming<'_>, text: &str)
+pub(crate) fn put_input_message<W: Write>(out: &mut Outbox<'_, W>, naming: &Naming<'_>, text: &str)
     ensures { Puts W.contents out.old out.new (front_text naming.now ++ text.now) }
 {
     put_front(out, naming);
     out.put(text.as_bytes());
+}
+
+/// Puts the system's reason why a file is not written, if there is one.
+fn put_save_reason<W: Write>(out: &mut Outbox<'_, W>, reason: Option<Reason>)
+    ensures { Puts W.contents out.old out.new (reason_said reason) }
+{
+    if let Some(reason) = reason {
+        out.put(b": ");
+        out.put(reason.text().as_bytes());
+    }
+}
+
+/// Puts why a file is not written, after its name if that is given.
+fn put_unsaved<W: Write>(out: &mut Outbox<'_, W>, naming: &Naming<'_>, error: SaveError)
+    ensures { Puts W.contents out.old out.new (unsaved_text naming.now error) }
+{
+    put_front(out, naming);
+    out.put(b"not written: ");
+    out.put(error.text().as_bytes());
+    put_save_reason(out, error.reason());
+}
+
+/// Puts how many of several files became what.
+fn put_counts_of_files<W: Write>(out: &mut Outbox<'_, W>, counts: &FileCounts)
+    ensures { Puts W.contents out.old out.new (unwrap_or (file_counts_said counts.now) []) }
+{
+    if counts.files <= 1 {
+        return;
+    }
+    put_file_counts(out, counts);
 }
 
 /// Puts the message of an ending, which has this text if no name is given.
@@ -141,6 +183,7 @@ fn put_named_message<W: Write>(
         Ending::UnopenedFile(reason) => put_unopened(out, naming, *reason),
         Ending::Run(Err(RunError::Read)) => put_input_message(out, naming, text),
         Ending::Run(Err(RunError::TooLong)) => put_input_message(out, naming, text),
+        Ending::Unsaved(error) => put_unsaved(out, naming, *error),
         _ => out.put(text.as_bytes()),
     }
 }
@@ -158,12 +201,13 @@ fn put_ending_message<W: Write>(out: &mut Outbox<'_, W>, naming: &Naming<'_>, en
 }
 
 /// Puts what an ending says on standard error, if anything.
-fn put_said<E: Write>(out: &mut Outbox<'_, E>, naming: &Naming<'_>, ending: &Ending)
+pub(crate) fn put_said<E: Write>(out: &mut Outbox<'_, E>, naming: &Naming<'_>, ending: &Ending)
     ensures { Puts E.contents out.old out.new (unwrap_or (said_text naming.now ending.now) []) }
 {
     match ending {
         Ending::Table(counts) => put_counts(out, counts),
         Ending::Explained(counts) => put_unread_counts(out, counts),
+        Ending::Filed(counts) => put_counts_of_files(out, counts),
         Ending::Mended(mended) => put_mended(out, mended),
         Ending::NotMended(asked, unhelped) => {
             put_unmended(out, asked, &unhelped.without_help, &unhelped.reason)
@@ -191,7 +235,7 @@ pub(crate) fn say<E: Write>(errors: &mut Tried<E>, naming: &Naming<'_>, ending: 
 
 /// The input that the words name: standard input if they name none, or `-`. `Err` says why the file cannot be
 /// opened.
-fn input_named<I: Inputs>(inputs: I, name: Option<&str>) -> Result<I::Reader, Unopened>
+pub(crate) fn input_named<I: Inputs>(inputs: I, name: Option<&str>) -> Result<I::Reader, Unopened>
     ensures some { IfOk result (IsNamed (I.is_file inputs) (I.is_standard inputs)
         (option_map (λ n. n.now) name.entry)) }
     ensures none { IfErr result (λ reason. IsSomeAnd (option_map (λ n. n.now) name.entry)
@@ -277,12 +321,23 @@ fn names_input(names: &[String]) -> bool
     false
 }
 
-/// How a table ends, whose names were all read.
+/// How a table of named files ends.
 fn end_of_table(counts: Result<Counts, RunError>) -> Ending
-    ensures { result ≡ ending_of_table true counts }
+    ensures { result ≡ ending_of_table counts }
 {
     match counts {
         Ok(counts) => Ending::Table(counts),
+        Err(error) => Ending::Run(Err(error)),
+    }
+}
+
+/// How a table ends of files whose names standard input gives.
+fn end_of_listing(listed: Result<Listed, RunError>) -> Ending
+    ensures { result ≡ ending_of_listing listed }
+{
+    match listed {
+        Ok(listed) if listed.whole => Ending::Table(listed.counts),
+        Ok(_) => Ending::UnreadNames,
         Err(error) => Ending::Run(Err(error)),
     }
 }
@@ -359,7 +414,11 @@ fn serve_why<I: Inputs, W: Write>(
     if names.len() > 1 {
         return serve_whys(alloc, inputs, words, names, output);
     }
-    serve_one(alloc, inputs, &Options::WHY, first_of(names), output)
+    let name = first_of(names);
+    let explaining = Explaining {
+        name: file_called(name),
+    };
+    serve_one(alloc, inputs, &explaining, name, output)
 }
 
 /// Writes the table of the files that the words name.
@@ -367,11 +426,11 @@ fn serve_names<I: Inputs, W: Write>(
     alloc: Global,
     inputs: I,
     names: &[String],
-    form: TableForm,
+    choice: &TableChoice,
     output: &mut Tried<W>,
 ) -> Ending
     requires { has_failed output.old ≡ false }
-    ensures ends { EndsNamed W.contents I.Reader.remaining (I.is_file inputs) (I.fails inputs) form
+    ensures ends { EndsNamed W.contents I.Reader.remaining (I.is_file inputs) (I.fails inputs) choice.now
         (map string_bytes names.now) output.old output.new result }
     ensures write { TellsFailure output.new result }
 {
@@ -379,32 +438,8 @@ fn serve_names<I: Inputs, W: Write>(
         return Ending::NamedInput;
     }
     match byte_views(alloc, names) {
-        Ok(views) => end_of_table(table(alloc, inputs, views.as_slice(), form, output)),
+        Ok(views) => end_of_table(table(alloc, inputs, views.as_slice(), choice, output)),
         Err(AllocError) => Ending::Run(Err(RunError::Memory)),
-    }
-}
-
-/// Writes the table of the files that a listing names.
-fn serve_listing<I: Inputs, W: Write>(
-    alloc: Global,
-    inputs: I,
-    listing: &Listing,
-    form: TableForm,
-    output: &mut Tried<W>,
-) -> Ending
-    requires { has_failed output.old ≡ false }
-    ensures ends { EndsWritten W.contents
-        I.Reader.remaining (I.is_file inputs) (I.fails inputs) form (was_read_whole listing.now)
-        (names_in (was_read_whole listing.now) (listed_bytes listing.now)) output.old output.new result }
-    ensures write { TellsFailure output.new result }
-{
-    let Ok(names) = listing.names(alloc) else {
-        return Ending::Run(Err(RunError::Memory));
-    };
-    let ending = end_of_table(table(alloc, inputs, names.as_slice(), form, output));
-    match ending {
-        Ending::Table(_) if !listing.was_read_whole() => Ending::UnreadNames,
-        _ => ending,
     }
 }
 
@@ -412,20 +447,16 @@ fn serve_listing<I: Inputs, W: Write>(
 fn serve_input<I: Inputs, W: Write>(
     alloc: Global,
     inputs: I,
-    form: TableForm,
+    choice: &TableChoice,
     output: &mut Tried<W>,
 ) -> Ending
     requires { has_failed output.old ≡ false }
-    ensures ends { EndsBy I.Reader.remaining W.contents (I.is_standard inputs)
-        (I.is_file inputs) (I.fails inputs) form []
-        output.old output.new result }
+    ensures ends { EndsListed I.Reader.remaining W.contents (I.is_standard inputs)
+        (I.is_file inputs) (I.fails inputs) choice.now output.old output.new result }
     ensures write { TellsFailure output.new result }
 {
     let mut reader = Tried::new(inputs.standard());
-    match Listing::read(alloc, &mut reader) {
-        Ok(listing) => serve_listing(alloc, inputs, &listing, form, output),
-        Err(AllocError) => Ending::Run(Err(RunError::Memory)),
-    }
+    end_of_listing(table_listed(alloc, inputs, &mut reader, choice, output))
 }
 
 /// Writes the table that the words ask for.
@@ -433,19 +464,19 @@ fn serve_table<I: Inputs, W: Write>(
     alloc: Global,
     inputs: I,
     names: &[String],
-    form: TableForm,
+    choice: &TableChoice,
     output: &mut Tried<W>,
 ) -> Ending
     requires { has_failed output.old ≡ false }
     ensures ends { EndsBy I.Reader.remaining W.contents (I.is_standard inputs)
-        (I.is_file inputs) (I.fails inputs) form
+        (I.is_file inputs) (I.fails inputs) choice.now
         (map string_bytes names.now) output.old output.new result }
     ensures write { TellsFailure output.new result }
 {
     if names.is_empty() {
-        return serve_input(alloc, inputs, form, output);
+        return serve_input(alloc, inputs, choice, output);
     }
-    serve_names(alloc, inputs, names, form, output)
+    serve_names(alloc, inputs, names, choice, output)
 }
 
 /// Does a task on the input that the words name.
@@ -512,7 +543,7 @@ fn meaning_text(topic: Topic) -> &'static str
 }
 
 /// Mends the input that the words name, by flags or by its own findings.
-fn serve_mend<I: Inputs, W: Write>(
+fn serve_choice<I: Inputs, W: Write>(
     alloc: Global,
     inputs: I,
     choice: &MendChoice,
@@ -527,38 +558,88 @@ fn serve_mend<I: Inputs, W: Write>(
     match choice {
         MendChoice::Flags(mends) => serve_one(alloc, inputs, mends, name, output),
         MendChoice::Suggested => serve_one(alloc, inputs, &Suggesting, name, output),
-        MendChoice::Both => Ending::SuggestedAmong,
     }
 }
 
-/// Does what the words ask for.
+/// The same, unless the output is a terminal.
+fn serve_mend<I: Inputs, W: Write>(
+    alloc: Global,
+    inputs: I,
+    is_terminal: bool,
+    choice: &MendChoice,
+    names: &[String],
+    output: &mut Tried<W>,
+) -> Ending
+    requires { has_failed output.old ≡ false }
+    ensures ends { UnlessTerminal is_terminal output.old output.new result
+        (EndsMend I.Reader.remaining W.contents (I.is_file inputs) (I.is_standard inputs)
+        (I.fails inputs) choice.now (first_called (map string_bytes names.now)) output.old output.new result) }
+    ensures write { TellsFailure output.new result }
+{
+    if is_terminal {
+        return Ending::ToTerminal;
+    }
+    serve_choice(alloc, inputs, choice, first_of(names), output)
+}
+
+/// Redraws the input that the words name, unless the output is a terminal.
+fn serve_redraw<I: Inputs, W: Write>(
+    alloc: Global,
+    inputs: I,
+    is_terminal: bool,
+    names: &[String],
+    output: &mut Tried<W>,
+) -> Ending
+    requires { has_failed output.old ≡ false }
+    ensures ends { UnlessTerminal is_terminal output.old output.new result
+        (EndsServed I.Reader.remaining W.contents (I.is_file inputs) (I.is_standard inputs)
+        (I.fails inputs) TellsRedrawn ending_of_redrawing (first_called (map string_bytes names.now))
+        output.old output.new result) }
+    ensures write { TellsFailure output.new result }
+{
+    if is_terminal {
+        return Ending::ToTerminal;
+    }
+    serve_one(alloc, inputs, &Redrawing, first_of(names), output)
+}
+
+/// Does what the words ask for, without writing a file.
 fn serve_asked<I: Inputs, W: Write>(
     alloc: Global,
     inputs: I,
+    is_terminal: bool,
     words: &[&str],
     asked: &Asked,
     output: &mut Tried<W>,
 ) -> Ending
     requires { has_failed output.old ≡ false }
     ensures ends { EndsAsTold I.Reader.remaining W.contents (I.is_file inputs) (I.is_standard inputs)
-        (I.fails inputs) (texts_of words.now) asked.now output.old output.new result }
+        (I.fails inputs) is_terminal (texts_of words.now) asked.now output.old output.new result }
     ensures write { TellsFailure output.new result }
 {
     match asked {
         Asked::One(options, name) => serve_command(alloc, inputs, options, name_of(name), output),
         Asked::Why(names) => serve_why(alloc, inputs, words, names.as_slice(), output),
-        Asked::Mend(choice, name) => serve_mend(alloc, inputs, choice, name_of(name), output),
-        Asked::Redraw(name) => serve_one(alloc, inputs, &Redrawing, name_of(name), output),
-        Asked::Table(form, names) => serve_table(alloc, inputs, names.as_slice(), *form, output),
+        Asked::Mend(choice, _, names) => {
+            serve_mend(alloc, inputs, is_terminal, choice, names.as_slice(), output)
+        }
+        Asked::Redraw(_, names) => {
+            serve_redraw(alloc, inputs, is_terminal, names.as_slice(), output)
+        }
+        Asked::Table(choice, names) => {
+            serve_table(alloc, inputs, names.as_slice(), choice, output)
+        }
+        Asked::Mistaken(_, mistake) => Ending::Mistaken(*mistake),
         Asked::Meaning(topic) => print_help(output, meaning_text(*topic)),
     }
 }
 
-/// Does what the words ask for, and says what its ending says.
-fn answer_asked<I: Inputs, W: Write, E: Write>(
+/// Does what the words ask for, without writing a file, and says what its ending says.
+fn tell_asked<I: Inputs, W: Write, E: Write>(
     alloc: Global,
     words: &[&str],
     inputs: I,
+    is_terminal: bool,
     asked: &Asked,
     output: &mut Tried<W>,
     errors: &mut Tried<E>,
@@ -566,14 +647,106 @@ fn answer_asked<I: Inputs, W: Write, E: Write>(
     requires prints { has_failed output.old ≡ false }
     requires tells { has_failed errors.old ≡ false }
     ensures ends { EndsAsTold I.Reader.remaining W.contents (I.is_file inputs) (I.is_standard inputs)
-        (I.fails inputs) (texts_of words.now) asked.now output.old output.new result }
+        (I.fails inputs) is_terminal (texts_of words.now) asked.now output.old output.new result }
     ensures says { SaysOf E.contents errors.old errors.new (texts_of words.now) asked.now result }
     ensures write { TellsFailure output.new result }
 {
-    let ending = serve_asked(alloc, inputs, words, asked, output);
+    let ending = serve_asked(alloc, inputs, is_terminal, words, asked, output);
     let naming = naming_of(alloc, words, asked, &ending);
     say(errors, &naming, ending);
     ending
+}
+
+/// Where files go that are asked for. None if none is written.
+fn aim_of(asked: &Asked) -> Option<Goal<'_>>
+    ensures { IsAimOf asked.now result }
+{
+    match asked {
+        Asked::Mend(_, writing, _) => goal_of(writing),
+        Asked::Redraw(writing, _) => goal_of(writing),
+        _ => None,
+    }
+}
+
+/// Mends files, by flags or each by its own findings, and writes them by a goal.
+fn file_mended<I: Inputs, D: Disk, E: Write>(
+    alloc: Global,
+    inputs: I,
+    disk: &mut D,
+    choice: &MendChoice,
+    goal: Goal<'_>,
+    names: &[String],
+    errors: &mut Tried<E>,
+) -> Ending
+    ensures filed { AreMendedBy I.Reader.remaining E.contents (I.is_file inputs) (I.is_standard inputs) (I.fails inputs)
+        D.did D.leads D.sees D.fails D.opens D.identifies choice.now goal.entry (map string_bytes names.now)
+        disk.old disk.new errors.old errors.new result }
+    ensures write { result ≢ Run (Err Write) }
+{
+    match choice {
+        MendChoice::Flags(mends) => file_named(alloc, inputs, disk, mends, goal, names, errors),
+        MendChoice::Suggested => {
+            file_named(alloc, inputs, disk, &Suggesting, goal, names, errors)
+        }
+    }
+}
+
+/// Mends or redraws files, and writes them by the goal of what is asked.
+fn file_asked<I: Inputs, D: Disk, E: Write>(
+    alloc: Global,
+    inputs: I,
+    disk: &mut D,
+    asked: &Asked,
+    goal: Goal<'_>,
+    errors: &mut Tried<E>,
+) -> Ending
+    requires { IsAimOf asked.now (Some goal) }
+    ensures filed { EndsFiled I.Reader.remaining E.contents (I.is_file inputs) (I.is_standard inputs) (I.fails inputs)
+        D.did D.leads D.sees D.fails D.opens D.identifies asked.now goal.entry disk.old disk.new errors.old errors.new
+        result }
+    ensures write { result ≢ Run (Err Write) }
+{
+    match asked {
+        Asked::Mend(choice, _, names) => {
+            file_mended(alloc, inputs, disk, choice, goal, names.as_slice(), errors)
+        }
+        Asked::Redraw(_, names) => {
+            file_named(
+                alloc,
+                inputs,
+                disk,
+                &Redrawing,
+                goal,
+                names.as_slice(),
+                errors,
+            )
+        }
+        _ => unreachable!(),
+    }
+}
+
+/// Does what the words ask for, and says what comes of it.
+fn answer_asked<I: Inputs, D: Disk, W: Write, E: Write>(
+    alloc: Global,
+    words: &[&str],
+    inputs: I,
+    disk: &mut D,
+    is_terminal: bool,
+    asked: &Asked,
+    output: &mut Tried<W>,
+    errors: &mut Tried<E>,
+) -> Ending
+    requires prints { has_failed output.old ≡ false }
+    requires tells { has_failed errors.old ≡ false }
+    ensures answers { Answers I.Reader.remaining W.contents E.contents (I.is_file inputs) (I.is_standard inputs)
+        (I.fails inputs) D.did D.leads D.sees D.fails D.opens D.identifies is_terminal (texts_of words.now) asked.now
+        disk.old disk.new output.old output.new errors.old errors.new result }
+    ensures write { TellsFailure output.new result }
+{
+    match aim_of(asked) {
+        Some(goal) => file_asked(alloc, inputs, disk, asked, goal, errors),
+        None => tell_asked(alloc, words, inputs, is_terminal, asked, output, errors),
+    }
 }
 
 /// Says why the words ask for nothing.
@@ -599,10 +772,10 @@ fn answer_refused<W: Write, E: Write>(
 /// Answers the program's words, its own name first: reads the input that they name, which is
 /// standard input if they name none or `-`, and writes what they ask for to `output`. With several files of `why`
 /// each answer comes after a line with the file's name. For a table it reads all files that they name, or those whose
-/// names are on standard input, each ended by 00h. On `errors` it says why there is no answer: `anscheck: ` and the
-/// ending's message, with the file's name and the system's reason except for `check`, `sauce` and `tokens`; or
-/// `clap`'s text if the words are rejected. After a check that refuses the file for a fault of what is unknown of the
-/// start, F22 to F25, it says there that `why` knows more. If help is asked for, its text goes to `output`. Which text
+/// names are on standard input, each ended by 00h, and each before the next name is waited for. On `errors` it says why
+/// there is no answer: `anscheck: ` and the ending's message, with the file's name and the system's reason except for
+/// `check`, `sauce` and `tokens`; or `clap`'s text if the words are rejected. After a check that refuses the file for a
+/// fault of what is unknown of the start, F22 to F25, it says there that `why` knows more. If help is asked for, its text goes to `output`. Which text
 /// `clap` gives is promised nowhere and only tested; so is it that `output` is flushed after its text. If the words ask
 /// what a fault, a note or a word means, as `help F20`, its text goes there by itself: that takes no memory and
 /// reads no input.
@@ -610,31 +783,49 @@ fn answer_refused<W: Write, E: Write>(
 /// If the words ask for a file to be mended, `output` has the mended file, and then `errors` what was
 /// changed of it, a line for each kind of change; or nothing was written, and `errors` has the reason. So it is
 /// if they ask for a file to be redrawn. With `--suggested` a file is mended by the flags of the line `fix:` that `why`
-/// has for it, and by no flags if it has no such line.
+/// has for it, and by no flags if it has no such line. If `output` is a terminal, nothing is read.
+///
+/// If they say where files go, with `-o` or `-i`, each is mended or redrawn in memory, in their order, and then written
+/// to the disk by [`ans_save::save`]; an unchanged one is copied by `-o` and left as it is by `-i`. With `-n` nothing is
+/// asked of the disk. `errors` has what was changed of each, or why it was not mended, read or written, and of several
+/// at last how many became what; with several the name comes before each line. Nothing else is done to the disk.
 ///
 /// The ending is that of the run; `MayPassCleared` if a check refuses the file for such a fault; `Explained` for `why`
-/// of several files; `Mended` or `NotMended` if a file was to be mended, and `SuggestedAmong` if `--suggested` was
-/// given with other flags; `Redrawn` or `NotRedrawn` if one was to be redrawn; `UnopenedFile` if the named file cannot
+/// of several files; `Mended` or `NotMended` if a file was to be mended to `output`, `Redrawn` or `NotRedrawn` if one
+/// was to be redrawn, and `ToTerminal` if that is a terminal; `Filed`, with what became of them, if files were to be
+/// written; `Mistaken` if the words contradict themselves; `UnopenedFile` if the named file cannot
 /// be opened; and if the words give no options, what their error says, or `UnreadableWords` if there is no memory for
 /// its text. Of a table it is `Table`, with how its files came out; `NamedInput` if `-` is among the names, and
 /// `InputAmong` if it is among several files of `why`; `UnreadNames` if standard input fails before the names end; and
-/// `Run(Err(Memory))` if there is no memory for the names or a row.
+/// `Run(Err(Memory))` if there is no memory for the names or for the text of a JSON row.
 /// `Run(Err(Write))` comes exactly if `output` fails. What fails on `errors` changes no ending.
-pub fn answer<I: Inputs, W: Write, E: Write>(
+pub fn answer<I: Inputs, D: Disk, W: Write, E: Write>(
     alloc: Global,
     words: &[&str],
     inputs: I,
+    disk: &mut D,
+    is_terminal: bool,
     output: &mut Tried<W>,
     errors: &mut Tried<E>,
 ) -> Ending
     requires prints { has_failed output.old ≡ false }
     requires tells { has_failed errors.old ≡ false }
     ensures ends { EndsSo I.Reader.remaining W.contents E.contents (I.is_file inputs) (I.is_standard inputs)
-        (I.fails inputs) (texts_of words.now) output.old output.new errors.old errors.new result }
+        (I.fails inputs) D.did D.leads D.sees D.fails D.opens D.identifies is_terminal (texts_of words.now)
+        disk.old disk.new output.old output.new errors.old errors.new result }
     ensures write { TellsFailure output.new result }
 {
     match asked(alloc, words) {
-        Ok(asked) => answer_asked(alloc, words, inputs, &asked, output, errors),
+        Ok(asked) => answer_asked(
+            alloc,
+            words,
+            inputs,
+            disk,
+            is_terminal,
+            &asked,
+            output,
+            errors,
+        ),
         Err(refusal) => answer_refused(alloc, &refusal, output, errors),
     }
 }

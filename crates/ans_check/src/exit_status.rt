@@ -9,9 +9,11 @@ use crate::check_file::Checked;
 use crate::errors::RunError;
 use ans_fix::Unhelped;
 use ans_mend::Mended;
-use ans_options::{Mends, WordsError};
+use ans_options::{Mends, Mistake, WordsError};
 use ans_redraw::{Redrawn, Unredrawn};
+use ans_save::SaveError;
 use ans_table::{Counts, Unopened};
+use ans_written::FileCounts;
 use clap::error::ErrorKind;
 
 /// The exit status of what a run returned: 0 where the file passes, 1 where it is refused, and 2
@@ -58,8 +60,14 @@ pub enum Ending {
     /// The file is not mended by what was asked for, for this reason, and nothing was written. These flags would not
     /// help it.
     NotMended(Mends, Unhelped),
-    /// The words ask for what the findings call for, and for more.
-    SuggestedAmong,
+    /// The words contradict themselves.
+    Mistaken(Mistake),
+    /// A mended or redrawn file would go to a terminal.
+    ToTerminal,
+    /// Files were mended or redrawn to be written: how many became what.
+    Filed(FileCounts),
+    /// A file was mended or redrawn, and could not be written, for this reason.
+    Unsaved(SaveError),
     /// A file was redrawn and written, and this was changed of it.
     Redrawn(Redrawn),
     /// The file is not redrawn, for this reason, and nothing was written.
@@ -117,9 +125,9 @@ impl Ending {
         }
     }
 
-    /// The exit status: that of the run or of the table's counts, 0 for help and for a mended or redrawn file, 1
-    /// for one that is neither and for one that may pass from the cleared start, and 2 where no run began and where the
-    /// names for a table were not all read.
+    /// The exit status: that of the run or of the counts of a table or of files that are written, 0 for help and for a
+    /// mended or redrawn file, 1 for one that is neither and for one that may pass from the cleared start, and 2 where
+    /// no run began, where the names for a table were not all read, and for a file that could not be written.
     pub fn status(&self) -> u8
         ensures { result ≡ ending_status self.now }
     {
@@ -131,14 +139,15 @@ impl Ending {
             Ending::Table(counts) | Ending::Explained(counts) => counts.status(),
             Ending::Usage | Ending::UnreadableWords | Ending::UnopenedFile(_) => 2,
             Ending::NamedInput | Ending::InputAmong | Ending::UnreadNames => 2,
-            Ending::SuggestedAmong => 2,
+            Ending::Mistaken(_) | Ending::ToTerminal | Ending::Unsaved(_) => 2,
+            Ending::Filed(counts) => counts.status(),
         }
     }
 
     /// Why there is no answer, for standard error after `anscheck: `, without the name and the system's reason; or that
     /// `why` says more of a file that a check refuses for a fault of the start. There is none if the file has another
     /// answer, none if `clap`'s text says it, none for a table and for several files, whose counts are reported, and
-    /// none for mending and redrawing, which report more.
+    /// none for mending and redrawing, which report more. Of a file that could not be written it is the cause.
     pub fn message(&self) -> Option<&'static str>
         ensures { option_map (λ text. text.now) result ≡ ending_message self.now }
     {
@@ -155,7 +164,12 @@ impl Ending {
             }
             Ending::InputAmong => Some("'-' is standard input, and cannot be one of several files"),
             Ending::UnreadNames => Some("cannot read the names"),
-            Ending::SuggestedAmong => Some("mend --suggested takes no flag that asks for a change"),
+            Ending::Mistaken(mistake) => Some(mistake.text()),
+            Ending::ToTerminal => {
+                Some("standard output is a terminal: give -o FILE, or pipe it")
+            }
+            Ending::Filed(_) => None,
+            Ending::Unsaved(error) => Some(error.text()),
         }
     }
 }

@@ -67,7 +67,7 @@ fn tell_given<T: FileRows, W: Write>(
 }
 
 /// Opens and reads the file of this name, and writes its text.
-fn tell_named<T: FileRows, I: Inputs, W: Write>(
+pub(crate) fn tell_named<T: FileRows, I: Inputs, W: Write>(
     alloc: Global,
     rows: &T,
     screens: &mut KeptScreens,

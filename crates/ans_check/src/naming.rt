@@ -1,6 +1,6 @@
 //! What standard error calls the input.
 
-ghost use Rattle.std.specs.Prelude.{◌≡◌, IfOk, map, option_map, string_bytes};
+ghost use Rattle.std.specs.Prelude.{◌≡◌, false, IfOk, Some, map, option_map, string_bytes};
 ghost use Rattle.std.specs.List.{list_any};
 ghost use Rattle.ans_model.specs.Text.Words.{texts_of};
 ghost use Rattle.ans_check.specs.Naming.{IsNaming, file_called, first_called, is_dot_or_slash, is_left_out};
@@ -44,6 +44,18 @@ pub(crate) fn unnamed() -> Naming<'static>
     }
 }
 
+/// This name is given, unless it is that of standard input.
+pub(crate) fn called(name: &str) -> Naming<'_>
+    ensures name { option_map (λ n. n.now) result.name ≡ file_called (Some name.now) }
+    ensures unguessed { result.is_word ≡ false }
+{
+    Naming {
+        name: file_called(Some(name)),
+        is_word: false,
+        meant: Ok(Meant::Nothing),
+    }
+}
+
 /// Whether a command's messages give the name and the reason: those of `check`, `sauce` and `tokens` do not.
 pub(crate) fn tells_reason(command: Command) -> bool
     ensures { result ≡ tells_reason command }
@@ -52,7 +64,7 @@ pub(crate) fn tells_reason(command: Command) -> bool
 }
 
 /// The name of an input, unless it is standard input.
-fn file_called(name: Option<&str>) -> Option<&str>
+pub(crate) fn file_called(name: Option<&str>) -> Option<&str>
     ensures { option_map (λ n. n.now) result ≡ file_called (option_map (λ n. n.now) name.entry) }
 {
     match name {
@@ -69,6 +81,17 @@ pub(crate) fn name_of(name: &Option<String>) -> Option<&str>
         Some(name) => Some(name.as_str()),
         None => None,
     }
+}
+
+/// A view of each text.
+pub(crate) fn views<'a>(alloc: Global, texts: &'a [String]) -> Result<Vec<&'a str>, AllocError>
+    ensures { IfOk result (λ words. texts_of words.items ≡ map string_bytes texts.now) }
+{
+    let mut words = Vec::new(alloc);
+    for text in texts {
+        words.push(text.as_str())?;
+    }
+    Ok(words)
 }
 
 /// A view of the first name.
@@ -93,9 +116,10 @@ fn name_called(asked: &Asked) -> Option<&str>
                 None
             }
         }
-        Asked::Why(names) => file_called(first_of(names.as_slice())),
-        Asked::Mend(_, name) | Asked::Redraw(name) => file_called(name_of(name)),
-        Asked::Table(..) | Asked::Meaning(_) => None,
+        Asked::Why(names) | Asked::Mend(_, _, names) | Asked::Redraw(_, names) => {
+            file_called(first_of(names.as_slice()))
+        }
+        Asked::Table(..) | Asked::Mistaken(..) | Asked::Meaning(_) => None,
     }
 }
 

@@ -1,5 +1,5 @@
 //! Bytes to bytes.
-ghost use Rattle.std.specs.Prelude.{◌≡◌, ◌≤◌, false, length, is_some, not};
+ghost use Rattle.std.specs.Prelude.{◌≡◌, ◌≤◌, false, length, is_some, not, option_map};
 ghost use Rattle.ans_model.specs.Bytes.{longest_file};
 ghost use Rattle.ans_sauce.specs.Parts.{record_of};
 ghost use Rattle.ans_write.specs.Tried.{has_failed};
@@ -17,6 +17,7 @@ ghost use Rattle.ans_check.specs.declared.exit_status.Ending.TheVariants.{Run};
 use crate::check_file::Checked;
 use crate::errors::RunError;
 use crate::exit_status::Ending;
+use crate::last_words::LastWords;
 use crate::task::{Task, run_task};
 use crate::why_told::put_told;
 use ans_fix::fix_for;
@@ -172,19 +173,21 @@ fn tell_needs<W: Write>(
     Ok(found.is_pass())
 }
 
-/// Puts why a file is refused and the command that mends it, or what it relies on. Returns whether it passes from
-/// the cleared start.
-fn tell_why<W: Write>(
+/// Puts why a file is refused, or what it relies on, and the commands that write it fixed, for the file of this name.
+/// Returns whether it passes from the cleared start.
+pub(crate) fn tell_why<W: Write>(
     alloc: Global,
     out: &mut Outbox<'_, W>,
     file: &[u8],
+    name: Option<&str>,
 ) -> Result<bool, AllocError>
     requires { length file.now ≤ longest_file }
-    ensures { PutsTold W.contents (ReportsTold file.now) out.old out.new result }
+    ensures { PutsTold W.contents (ReportsTold (option_map (λ n. n.now) name.entry) file.now) out.old out.new result }
 {
     let why = why_on(&mut FileScreens::<PlaneGrid>::new(alloc), file)?;
     let fix = fix_for(alloc, file, &why)?;
-    put_told(out, &why, &fix);
+    let words = LastWords::of(alloc, name)?;
+    put_told(out, &words, &why, &fix);
     Ok(why.is_pass())
 }
 
@@ -199,7 +202,7 @@ fn run_command<W: Write>(
     ensures { PutsTold W.contents (Reports options.now file.now) out.old out.new result }
 {
     match options.command {
-        Command::Why => tell_why(alloc, out, file),
+        Command::Why => tell_why(alloc, out, file, None),
         Command::Check => tell_verdict(alloc, out, file, options.start, options.cells),
         Command::Show(form) => tell_picture(alloc, out, file, options.start, form),
         Command::Sauce => Ok(tell_record(out, file)),

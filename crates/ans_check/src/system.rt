@@ -1,7 +1,6 @@
 //! The program on the system that runs it.
 
-ghost use Rattle.std.specs.Prelude.{◌≡◌, true, false, ⊤, map, string_bytes, IfOk, vec_items};
-ghost use Rattle.ans_model.specs.Text.Words.{texts_of};
+ghost use Rattle.std.specs.Prelude.{◌≡◌, true, false, ⊤, map, string_bytes};
 ghost use Rattle.ans_write.specs.Tried.{has_failed};
 ghost use Rattle.ans_check.specs.Ending.{ending_status};
 ghost use Rattle.ans_check.specs.SystemInput.{AnswersOnSystem};
@@ -10,10 +9,9 @@ ghost use Rattle.ans_check.specs.declared.exit_status.Ending.{Ending};
 use crate::answering::{answer, say};
 use crate::exit_status::Ending;
 use crate::inputs::Inputs;
-use crate::naming::{tells_reason, unnamed};
+use crate::naming::{tells_reason, unnamed, views};
 use ans_options::command_named;
 use ans_report::Tried;
-use std::alloc::{AllocError, Global};
 use std::cell::Cell;
 use std::env;
 use std::fs::File;
@@ -149,39 +147,39 @@ fn words_of(rt: &HostRuntime) -> Option<Vec<String>> {
     Some(words)
 }
 
-/// A view of each text.
-fn views<'a>(alloc: Global, texts: &'a [String]) -> Result<Vec<&'a str>, AllocError>
-    ensures { IfOk result (λ words. texts_of (vec_items words) ≡ map string_bytes texts.now) }
-{
-    let mut words = Vec::new(alloc);
-    for text in texts {
-        words.push(text.as_str())?;
-    }
-    Ok(words)
-}
-
-/// Answers the program's words on the system's inputs, and returns the exit status. Without memory to
+/// Answers the program's words on the system's inputs and its disk, and returns the exit status. Without memory to
 /// list the words, they cannot be read.
 fn answer_texts<W: Write, E: Write>(
     rt: &HostRuntime,
     texts: &[String],
+    is_terminal: bool,
     output: &mut Tried<W>,
     errors: &mut Tried<E>,
 ) -> u8
     requires prints { has_failed output.old ≡ false }
     requires tells { has_failed errors.old ≡ false }
-    ensures { AnswersOnSystem W.contents E.contents (map string_bytes texts.now) output.old output.new
-        errors.old errors.new result }
+    ensures { AnswersOnSystem W.contents E.contents is_terminal (map string_bytes texts.now) output.old
+        output.new errors.old errors.new result }
 {
     let Ok(words) = views(rt.alloc(), texts) else {
         say(errors, &unnamed(), Ending::UnreadableWords);
         return Ending::UnreadableWords.status();
     };
     let inputs = System { rt };
-    answer(rt.alloc(), words.as_slice(), inputs, output, errors).status()
+    let mut disk = ans_save::System::new(rt);
+    answer(
+        rt.alloc(),
+        words.as_slice(),
+        inputs,
+        &mut disk,
+        is_terminal,
+        output,
+        errors,
+    )
+    .status()
 }
 
-/// The program: answers its words, as [`answer`] does, on the system's files and standard streams.
+/// The program: answers its words, as [`answer`] does, on the system's files, its disk and standard streams.
 /// It returns the exit status: 0 for a pass and for help, 1 for a refusal, and 2 if there is no
 /// answer; standard error then says why. If the reader of the output has gone, it says nothing, except for `check`,
 /// `sauce` and `tokens`. Before a terminal is read as standard input, a line says so.
@@ -194,8 +192,10 @@ pub fn program(rt: &HostRuntime) -> u8
         None => &[],
     };
     let closed = Cell::new(false);
+    let stdout = rt.stdout();
+    let is_terminal = stdout.is_terminal();
     let mut output = Tried::new(Output {
-        to: rt.stdout(),
+        to: stdout,
         closed: &closed,
     });
     let mut errors = Tried::new(Errors {
@@ -207,5 +207,5 @@ pub fn program(rt: &HostRuntime) -> u8
         say(&mut errors, &unnamed(), Ending::UnreadableWords);
         return Ending::UnreadableWords.status();
     }
-    answer_texts(rt, texts, &mut output, &mut errors)
+    answer_texts(rt, texts, is_terminal, &mut output, &mut errors)
 }

@@ -13,6 +13,7 @@ ghost use Rattle.ans_check.specs.WhyRows.{unread_counts_said};
 use crate::errors::RunError;
 use crate::file_rows::{FileRows, tell_rows};
 use crate::inputs::Inputs;
+use crate::last_words::LastWords;
 use crate::why_told::put_told;
 use ans_fix::fix_for;
 use ans_report::{Tried, put_named_line};
@@ -57,10 +58,11 @@ fn put_why_of<W: Write>(
     alloc: Global,
     screens: &mut KeptScreens,
     out: &mut Outbox<'_, W>,
+    name: &[u8],
     given: Result<&[u8], Unread>,
 ) -> Outcome
     requires { IfOk (bytes_given given) (λ file. length file ≤ longest_file) }
-    ensures { PutsRow W.contents ⊥ (TellsWhyOf (bytes_given given.entry)) out.old out.new (Ok result) }
+    ensures { PutsRow W.contents ⊥ (TellsWhyOf name.now (bytes_given given.entry)) out.old out.new (Ok result) }
 {
     let file = match given {
         Ok(file) => file,
@@ -72,7 +74,10 @@ fn put_why_of<W: Write>(
     let Ok(fix) = fix_for(alloc, file, &why) else {
         return put_error_line(out, Unread::Memory);
     };
-    put_told(out, &why, &fix);
+    let Ok(words) = LastWords::of_bytes(alloc, name) else {
+        return put_error_line(out, Unread::Memory);
+    };
+    put_told(out, &words, &why, &fix);
     outcome_of_why(&why)
 }
 
@@ -93,7 +98,7 @@ impl FileRows for WhyRows {
         given: Result<&[u8], Unread>,
     ) -> Result<Outcome, AllocError> {
         put_file_line(out, name);
-        Ok(put_why_of(alloc, screens, out, given))
+        Ok(put_why_of(alloc, screens, out, name, given))
     }
 }
 

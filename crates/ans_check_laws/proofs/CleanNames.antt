@@ -18,18 +18,22 @@ use Rattle.ans_options.specs.declared.command.Command.{Command}
 use Rattle.ans_options.specs.declared.command.Command.TheVariants.{Why, Check, Show, Sauce, Tokens, Needs, Table, Mend}
 use Rattle.ans_options.specs.declared.command.Command.TheVariants.{Redraw}
 use Rattle.ans_report.specs.Message.{message_line}
+use Rattle.ans_save.specs.Reasons as save
+use Rattle.ans_save.specs.declared.save_error.Reason.{Reason}
+use Rattle.ans_save.specs.declared.save_error.Reason.TheVariants as cause
+use Rattle.ans_save.specs.declared.save_error.SaveError.{SaveError}
 use Rattle.ans_table.specs.NameText.{ascii_shown, byte_escape, is_shown, name_text}
 use Rattle.ans_table.specs.Unopened.{is_missing, plain_text, reason_text}
 use Rattle.ans_table.specs.declared.unopened.Unopened.{Unopened}
 use Rattle.ans_table.specs.declared.unopened.Unopened.TheVariants.{Missing, Denied, Folder, Other}
 use Rattle.ans_check_laws.proofs.ShownNames.{shown_of}
-use Rattle.ans_check.specs.Answer.{message_of, named_message}
+use Rattle.ans_check.specs.Said.{message_of, named_message, reason_said, unsaved_text}
 use Rattle.ans_check.specs.Ending.{ending_message}
 use Rattle.ans_check.specs.Naming.{front_text, meant_text, meant_told, missing_text, reason_told}
 use Rattle.ans_check.specs.Naming.{unopened_text}
 use Rattle.ans_check.specs.declared.errors.RunError.TheVariants as error
 use Rattle.ans_check.specs.declared.exit_status.Ending.{Ending}
-use Rattle.ans_check.specs.declared.exit_status.Ending.TheVariants.{Run, UnopenedFile}
+use Rattle.ans_check.specs.declared.exit_status.Ending.TheVariants.{Run, UnopenedFile, Unsaved}
 use Rattle.ans_check.specs.declared.naming.Meant.{Meant}
 use Rattle.ans_check.specs.declared.naming.Meant.TheVariants as meant
 use Rattle.ans_check.specs.declared.naming.Naming.{Naming}
@@ -37,7 +41,7 @@ use Rattle.ans_check_laws.specs.CleanTexts.{HasNoControls, IsCleanText, IsContro
 use Rattle.ans_check_laws.proofs.CleanPieces as pieces
 use Rattle.ans_check_laws.proofs.CleanPieces.{all_below, below_at, both_true, clean_append, clean_if, clean_nil}
 use Rattle.ans_check_laws.proofs.CleanPieces.{clean_pieces, scalars_append, without_controls_clean}
-use Rattle.ans_check_laws.proofs.CleanReports.{message_clean}
+use Rattle.ans_check_laws.proofs.CleanReports.{message_clean, save_error_clean}
 
 -- ---- a name
 
@@ -175,6 +179,31 @@ unopened_clean n h reason =
     (reason_clean reason)))
     (plain_clean reason)
 
+save_reason_clean : (reason : Reason) → IsCleanText (save.reason_text reason)
+save_reason_clean cause.Missing = pieces.plain_text (save.reason_text cause.Missing) refl
+save_reason_clean cause.Denied = pieces.plain_text (save.reason_text cause.Denied) refl
+save_reason_clean cause.Folder = pieces.plain_text (save.reason_text cause.Folder) refl
+save_reason_clean cause.NoFolder = pieces.plain_text (save.reason_text cause.NoFolder) refl
+save_reason_clean cause.Special = pieces.plain_text (save.reason_text cause.Special) refl
+save_reason_clean cause.Full = pieces.plain_text (save.reason_text cause.Full) refl
+save_reason_clean cause.ReadOnly = pieces.plain_text (save.reason_text cause.ReadOnly) refl
+save_reason_clean cause.Taken = pieces.plain_text (save.reason_text cause.Taken) refl
+save_reason_clean cause.Other = pieces.plain_text (save.reason_text cause.Other) refl
+
+reason_said_clean : (reason : Option Reason) → IsCleanText (reason_said reason)
+reason_said_clean None = clean_nil
+reason_said_clean (Some reason) =
+    clean_append (codes ": ") (save.reason_text reason) (pieces.plain_text (codes ": ") refl) (save_reason_clean reason)
+
+unsaved_clean : (n : Naming) → IsNameOfBytes n → (e : SaveError) → IsCleanText (unsaved_text n e)
+unsaved_clean n h e =
+    clean_append (front_text n) (codes "not written: " ++ (save.error_text e ++ reason_said (save.reason_in e)))
+    (front_clean n.name h)
+    (clean_append (codes "not written: ") (save.error_text e ++ reason_said (save.reason_in e))
+    (pieces.plain_text (codes "not written: ") refl)
+    (clean_append (save.error_text e) (reason_said (save.reason_in e)) (save_error_clean e)
+    (reason_said_clean (save.reason_in e))))
+
 named_message_clean : (n : Naming) → IsNameOfBytes n → (ending : Ending) (text : List ℕ) → IsCleanText text
     → IsCleanText (named_message n ending text)
 named_message_clean n h (UnopenedFile reason) text clean = unopened_clean n h reason
@@ -182,6 +211,7 @@ named_message_clean n h (Run (Err error.Read)) text clean =
     clean_append (front_text n) text (front_clean n.name h) clean
 named_message_clean n h (Run (Err error.TooLong)) text clean =
     clean_append (front_text n) text (front_clean n.name h) clean
+named_message_clean n h (Unsaved e) text clean = unsaved_clean n h e
 named_message_clean n h ending text clean = clean
 
 pub named_messages_clean : (n : Naming) → IsNameOfBytes n → (ending : Ending) (text : List ℕ)

@@ -31,6 +31,12 @@ use Rattle.ans_report.specs.RecordReports.{ReportsSauce}
 use Rattle.ans_check.specs.Ending.{ending_message}
 use Rattle.ans_check.specs.declared.errors.RunError.{RunError}
 use Rattle.ans_check.specs.declared.errors.RunError.TheVariants as error
+use Rattle.ans_options.specs.Mistakes.{mistake_text}
+use Rattle.ans_options.specs.declared.mistakes.Mistake.{Mistake}
+use Rattle.ans_options.specs.declared.mistakes.Mistake.TheVariants as mistake
+use Rattle.ans_save.specs.Reasons as save
+use Rattle.ans_save.specs.declared.save_error.SaveError.{SaveError}
+use Rattle.ans_save.specs.declared.save_error.SaveError.TheVariants as saving
 use Rattle.ans_check.specs.declared.exit_status.Ending.{Ending}
 use Rattle.ans_check.specs.declared.exit_status.Ending.TheVariants as ended
 use Rattle.ans_check.specs.declared.exit_status.Ending.TheVariants.{Run, UnreadableWords, UnopenedFile}
@@ -174,7 +180,7 @@ show_coloured file start form passed text bytes h =
 clean_by : (command : Command) (start : Start) (cells : Bool) (file text : List ℕ) (passed : Bool) → AreBytes file
     → ReportsBy command start cells file passed text → (is_for_terminal command && passed) ≡ false → IsCleanText text
 clean_by Why start cells file text passed bytes h other =
-    rw h.told.text_is (told_clean file h.said h.told.fix bytes h.told.is_true)
+    rw h.told.text_is (told_clean [] clean_nil file h.said h.told.fix bytes h.told.is_true)
 clean_by Check start cells file text passed bytes h other = check_clean file start cells passed text h
 clean_by (Show form) start cells file text passed bytes h other = show_clean file start form passed text bytes h other
 clean_by Sauce start cells file text passed bytes h other = sauce_clean file passed text bytes h
@@ -203,6 +209,25 @@ error_text_clean : (e : RunError) → IsCleanText (run_error_text e)
 error_text_clean error.Read = plain_text (run_error_text error.Read) refl
 error_text_clean e = plain_text (run_error_text e) refl
 
+mistake_clean : (m : Mistake) → IsCleanText (mistake_text m)
+mistake_clean mistake.SuggestedWithChanges = plain_text (mistake_text mistake.SuggestedWithChanges) refl
+mistake_clean mistake.OutputWithInPlace = plain_text (mistake_text mistake.OutputWithInPlace) refl
+mistake_clean mistake.EmptyOutput = plain_text (mistake_text mistake.EmptyOutput) refl
+mistake_clean mistake.InPlaceOfInput = plain_text (mistake_text mistake.InPlaceOfInput) refl
+mistake_clean mistake.InputAmong = plain_text (mistake_text mistake.InputAmong) refl
+mistake_clean mistake.FolderOfInput = plain_text (mistake_text mistake.FolderOfInput) refl
+mistake_clean mistake.SeveralToOne = plain_text (mistake_text mistake.SeveralToOne) refl
+mistake_clean mistake.SeveralToOutput = plain_text (mistake_text mistake.SeveralToOutput) refl
+
+pub save_error_clean : (e : SaveError) → IsCleanText (save.error_text e)
+save_error_clean saving.NoName = plain_text (save.error_text saving.NoName) refl
+save_error_clean (saving.Unopened why) = plain_text (codes "cannot open the file") refl
+save_error_clean saving.IsInput = plain_text (save.error_text saving.IsInput) refl
+save_error_clean saving.WrittenBefore = plain_text (save.error_text saving.WrittenBefore) refl
+save_error_clean saving.NotWritable = plain_text (save.error_text saving.NotWritable) refl
+save_error_clean (saving.Unwritten why) = plain_text (codes "cannot write the file") refl
+save_error_clean saving.Memory = plain_text (save.error_text saving.Memory) refl
+
 pub message_clean : (ending : Ending) → IfSome (ending_message ending) IsCleanText
 message_clean (Run (Ok passed)) = tt
 message_clean (Run (Err error)) = error_text_clean error
@@ -217,8 +242,10 @@ message_clean ended.InputAmong =
 message_clean ended.MayPassCleared =
     plain_text (codes "it may pass on a cleared screen: see anscheck why") refl
 message_clean ended.UnreadNames = plain_text (codes "cannot read the names") refl
-message_clean ended.SuggestedAmong =
-    plain_text (codes "mend --suggested takes no flag that asks for a change") refl
+message_clean (ended.Mistaken m) = mistake_clean m
+message_clean ended.ToTerminal =
+    plain_text (codes "standard output is a terminal: give -o FILE, or pipe it") refl
+message_clean (ended.Unsaved e) = save_error_clean e
 message_clean ending = tt
 
 pub messages_clean : (ending : Ending) (text : List ℕ) → ending_message ending ≡ Some text

@@ -1,8 +1,10 @@
--- What `why` says of a file is clean, with the command that mends it.
+-- What `why` says of a file is clean, with the commands that write it fixed.
 use Rattle.std.proofs.Common.{◌≡◌, ◌++◌, ℕ, List, [], ◌∷◌, Option, Some, None, true, codes, decimal, refl}
 use Rattle.std.specs.Prelude.{flat_map}
 use Rattle.std.specs.List.{list_all}
 use Rattle.std.proofs.lemmas.Bool.{and_parts}
+use Rattle.ans_kinds.specs.declared.players.Players.{Players}
+use Rattle.ans_kinds.specs.declared.players.Players.TheVariants.{Any, InNamedColours, Agreeing}
 use Rattle.ans_model.specs.MendFlags.{FlagRow, mend_flags}
 use Rattle.ans_model.specs.Text.FaultText.{cause_number}
 use Rattle.ans_model.specs.declared.fault.Cause.{Cause}
@@ -11,7 +13,8 @@ use Rattle.ans_sauce.specs.declared.judged.Judged.TheVariants.{NoContent, Refuse
 use Rattle.ans_why.specs.Explained.{IsTrueOf, Why}
 use Rattle.ans_why.specs.WhyText.{why_text}
 use Rattle.ans_fix.specs.FlagsText.{asks_for, flag_text, flags_text, number_text}
-use Rattle.ans_check.specs.WhyTold.{command_line, last_lines, more_line, refused_lines, told_text}
+use Rattle.ans_check.specs.WhyTold.{command_line, everywhere_line, last_lines, mends_of_pass, more_line}
+use Rattle.ans_check.specs.WhyTold.{refused_lines, told_text}
 use Rattle.ans_check_laws.specs.CleanTexts.{IsCleanText}
 use Rattle.ans_check_laws.proofs.CleanLines.{clean_lines}
 use Rattle.ans_check_laws.proofs.CleanPieces.{AreBytes, clean_append, clean_decimal, clean_if, clean_nil, clean_option}
@@ -48,22 +51,35 @@ flags_clean mends =
     (clean_append columns record_added (number_clean (codes " --columns ") mends.columns refl)
     (number_clean (codes " --add-record ") mends.add_record refl)))
 
-command_clean : (fix : Option Mends) → IsCleanText (command_line fix)
-command_clean None = clean_nil
-command_clean (Some mends) =
-    let flags = flags_clean mends in
-    search clean_lines depth 20
+module _ (last : List ℕ) (words : IsCleanText last) where
+  command_clean : (fix : Option Mends) → IsCleanText (command_line last fix)
+  command_clean None = clean_nil
+  command_clean (Some mends) =
+      let flags = clean_append (flags_text mends) last (flags_clean mends) words in
+      search clean_lines depth 20
 
-refused_clean : (cause : Cause) (fix : Option Mends) → IsCleanText (refused_lines cause fix)
-refused_clean cause fix =
-    clean_append (command_line fix) (more_line cause) (command_clean fix) (search clean_lines depth 20)
+  refused_clean : (cause : Cause) (fix : Option Mends) → IsCleanText (refused_lines last cause fix)
+  refused_clean cause fix =
+      clean_append (command_line last fix) (more_line cause) (command_clean fix) (search clean_lines depth 20)
 
-last_clean : (said : Why) (fix : Option Mends) → IsCleanText (last_lines said fix)
-last_clean (NoContent said) fix = refused_clean said.fault.cause fix
-last_clean (Refused parts refusal) fix = refused_clean refusal.fault.cause fix
-last_clean (Passes parts pass) fix = clean_nil
+  everywhere_clean : (players : Players) → IsCleanText (everywhere_line last players)
+  everywhere_clean (Any class) = clean_nil
+  everywhere_clean (InNamedColours class times) =
+      let command = clean_append (codes "anscheck mend --name-colours") last
+      (plain_text (codes "anscheck mend --name-colours") refl) words in
+      search clean_lines depth 20
+  everywhere_clean (Agreeing used) =
+      let command = clean_append (codes "anscheck redraw") last (plain_text (codes "anscheck redraw") refl) words in
+      search clean_lines depth 20
 
-pub told_clean : (file : List ℕ) (said : Why) (fix : Option Mends) → AreBytes file → IsTrueOf file said
-    → IsCleanText (told_text said fix)
-told_clean file said fix bytes h =
-    clean_append (why_text said) (last_lines said fix) (why_clean file said bytes h) (last_clean said fix)
+  last_clean : (said : Why) (fix : Option Mends) → IsCleanText (last_lines last said fix)
+  last_clean (NoContent said) fix = refused_clean said.fault.cause fix
+  last_clean (Refused parts refusal) fix = refused_clean refusal.fault.cause fix
+  last_clean (Passes parts pass) fix =
+      clean_append (command_line last (mends_of_pass pass.reliance)) (everywhere_line last pass.players)
+      (command_clean (mends_of_pass pass.reliance)) (everywhere_clean pass.players)
+
+  pub told_clean : (file : List ℕ) (said : Why) (fix : Option Mends) → AreBytes file → IsTrueOf file said
+      → IsCleanText (told_text last said fix)
+  told_clean file said fix bytes h =
+      clean_append (why_text said) (last_lines last said fix) (why_clean file said bytes h) (last_clean said fix)

@@ -34,7 +34,6 @@ use Rattle.ans_why.specs.HintsText.{latin_told, mark_line, pass_hints_text, text
 use Rattle.ans_why.specs.HintsText.{wider_told}
 use Rattle.ans_why.specs.TextDamage.{lost_told}
 use Rattle.ans_why.specs.WidthsText.{exchanged_line, fitting_line, fitting_lines, lines_words, widths_lines}
-use Rattle.ans_why.specs.PlayersText.{remedy_line}
 use Rattle.ans_why.specs.declared.text_damage.TextDamage.{TextDamage}
 use Rattle.ans_why.specs.declared.why.RecordRefusal.{RecordRefusal}
 use Rattle.ans_hints.specs.RowEnds.{are_all_ended, wider_rows}
@@ -47,7 +46,7 @@ use Rattle.ans_hints.specs.declared.hints.Hints.{Hints}
 use Rattle.ans_pens.specs.declared.times.Times.{Times}
 use Rattle.ans_why.specs.Blamed.{AreToBlame}
 use Rattle.ans_why.specs.Explained.{IsShown, IsReliance, IsSaidOfLines, IsTrueOf, Why}
-use Rattle.ans_why.specs.WhyText.{after_end_mark_text, blamed_line, blamed_text, fix_line, shown_lines, reliance_lines}
+use Rattle.ans_why.specs.WhyText.{after_end_mark_text, blamed_line, blamed_text, shown_lines, reliance_lines}
 use Rattle.ans_why.specs.WhyText.{enough_lines, known_line, found_line, lines_line, taller_line, torn_text, why_text}
 use Rattle.ans_why.specs.WhyText.{file_lines, returns_text, wide_told}
 use Rattle.ans_why.specs.declared.known_bytes.Known.{Known}
@@ -275,11 +274,6 @@ widths_clean z widths =
     clean_append (fitting_lines z.lines widths.fitting) (exchanged_line z widths.exchanged)
     (clean_flat_map (fitting_line z.lines) widths.fitting (fitting_clean z.lines)) (exchanged_clean z widths.exchanged)
 
-remedy_clean : (players : Players) → IsCleanText (remedy_line players)
-remedy_clean (Any class) = clean_nil
-remedy_clean (InNamedColours class times) = plain_text (remedy_line (InNamedColours class times)) refl
-remedy_clean (Agreeing used) = plain_text (remedy_line (Agreeing used)) refl
-
 -- ---- what is found
 
 found_clean : (file : List ℕ) (found : Found) (cause : Cause) → AreBytes file → IsFound file found cause
@@ -316,7 +310,6 @@ ruleset clean_answers = (
   text_clean,
   file_damage_clean,
   widths_clean,
-  remedy_clean,
   known_clean,
   lines_clean,
   players_clean,
@@ -347,4 +340,4 @@ why_clean file (Passes parts pass) bytes (split, h) =
     let sauce = sauce_is_bytes file parts split bytes in
     let relied = relied_clean _ (size_of parts) (length file) (content_of parts) pass.reliance
     (content_is_bytes file parts split bytes) h.relies in
-    search (clean_bool fix_line, clean_bool taller_line, clean_answers) depth 20
+    search (clean_bool taller_line, clean_answers) depth 20

@@ -2,7 +2,7 @@
 
 ghost use Rattle.std.specs.Prelude.{◌≡◌, ◌&&◌, ℕ, Bool, false, List, All, IfSome, Some, option_map};
 ghost use Rattle.ans_table.specs.NameText.{name_text};
-ghost use Rattle.ans_check.specs.Answer.{message_of};
+ghost use Rattle.ans_check.specs.Said.{message_of};
 ghost use Rattle.ans_check.specs.declared.naming.Naming.{Naming};
 ghost use Rattle.ans_model.specs.Bytes.{IsByte};
 ghost use Rattle.ans_model.specs.Text.Characters.{glyph_text, shown_bytes};

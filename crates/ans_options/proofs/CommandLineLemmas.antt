@@ -22,11 +22,10 @@ use Rattle.ans_options.specs.declared.command.Command.TheVariants.{Redraw}
 use Rattle.ans_options.specs.declared.command.Form.TheVariants.{Terminal}
 use Rattle.ans_model.specs.declared.mends.TheConstants.Mends as no_mends
 use Rattle.ans_options.specs.declared.command.MendChoice.TheVariants.{Flags}
-use Rattle.ans_options.specs.declared.command.TableForm.TheVariants.{Headed}
 use Rattle.clap.specs.declared.builder.command.Command.{Command}
 use Rattle.clap.proofs.CallerLemmas.{subcommand_required}
 use Rattle.clap.proofs.TakesLemmas.{some_rows}
-use Rattle.ans_options.specs.CommandLine.{IsCommand, anscheck, holds_flag}
+use Rattle.ans_options.specs.CommandLine.{IsCommand, anscheck, headed_table, holds_flag}
 
 pub not_true : (b : Bool) → (b ≡ true → ⊥) → b ≡ false
 not_true true h = absurd (h refl)
@@ -125,7 +124,7 @@ command_found words (Some p) e some = let (w, met) = program_met words p e in co
     command_of w (inr (inr (inr (inr (inr (inl show)))))) = (Show Terminal, name_met show)
     command_of w (inr (inr (inr (inr (inr (inr (inl sauce))))))) = (Sauce, name_met sauce)
     command_of w (inr (inr (inr (inr (inr (inr (inr (inl tokens)))))))) = (Tokens, name_met tokens)
-    command_of w (inr (inr (inr (inr (inr (inr (inr (inr (inl table))))))))) = (Table Headed, name_met table)
+    command_of w (inr (inr (inr (inr (inr (inr (inr (inr (inl table))))))))) = (Table headed_table, name_met table)
     command_of w (inr (inr (inr (inr (inr (inr (inr (inr (inr never))))))))) = absurd never
 
 -- the third of the facts that make a command plain

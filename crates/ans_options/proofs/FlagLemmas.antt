@@ -19,11 +19,13 @@ use Rattle.ans_options.specs.declared.command.Command.TheVariants.{Why, Check, S
 use Rattle.ans_options.specs.declared.command.Command.TheVariants.{Redraw}
 use Rattle.ans_options.specs.declared.command.MendChoice.{MendChoice}
 use Rattle.ans_options.specs.declared.command.Options.{Options}
-use Rattle.ans_options.specs.declared.command.TableForm.{TableForm}
+use Rattle.ans_options.specs.declared.command.TableChoice.{TableChoice}
+use Rattle.ans_options.specs.declared.command.Writing.{Writing}
+use Rattle.ans_options.specs.declared.mistakes.Mistake.{Mistake}
 use Rattle.ans_options.specs.declared.topic.Topic.{Topic}
-use Rattle.ans_options.specs.CommandLine.{AreOptionsOf, AsksAs, AsksFor, IsReadAs, anscheck}
-use Rattle.ans_options.specs.CommandLine.{command_name, mend_options, redraw_options, table_options}
-use Rattle.ans_options.specs.CommandLine.{why_options, words_meant}
+use Rattle.ans_options.specs.CommandLine.{AreOptionsOf, AsksAs, AsksFor, IsInFormAsked, IsReadAs, anscheck}
+use Rattle.ans_options.specs.CommandLine.{command_name, plain_options, takes_files, why_options, words_meant}
+use Rattle.ans_options.specs.CommandLine.{writes_files}
 use Rattle.ans_options.specs.CommandLine.{holds_flag, named_start, part_flags, start_asked, takes_flags}
 use Rattle.ans_options.proofs.CommandLineLemmas.{MetIn, not_true, program_met}
 use Rattle.ans_options.proofs.RowLemmas.{Lacks, never_has, unfound, unheld}
@@ -122,7 +124,7 @@ none_asked Sauce rows e lacks = none_named rows (none_held Sauce rows start_flag
 none_asked Tokens rows e lacks = none_named rows (none_held Tokens rows start_flags lacks refl)
 none_asked Needs rows e lacks = none_named rows (none_held Needs rows start_flags lacks refl)
 none_asked Why rows e lacks = none_named rows (none_held Why rows start_flags lacks refl)
-none_asked (Table form) rows e lacks = none_named rows (none_held (Table form) rows start_flags lacks refl)
+none_asked (Table choice) rows e lacks = none_named rows (none_held (Table choice) rows start_flags lacks refl)
 none_asked (Mend choice) rows e lacks = none_named rows (none_held (Mend choice) rows start_flags lacks refl)
 none_asked Redraw rows e lacks = none_named rows (none_held Redraw rows start_flags lacks refl)
 
@@ -141,7 +143,7 @@ takes_no_cells Sauce other = refl
 takes_no_cells Tokens other = refl
 takes_no_cells Needs other = refl
 takes_no_cells Why other = refl
-takes_no_cells (Table form) other = refl
+takes_no_cells (Table choice) other = refl
 takes_no_cells (Mend choice) other = refl
 takes_no_cells Redraw other = refl
 
@@ -153,6 +155,19 @@ no_cells words o file asked other =
     let none = unheld (codes "cells") m.met.1 (m.lacks (codes "cells") (takes_no_cells o.command other)) in
     not_true o.cells (λ on. true≢false (sym (m.asks.3.0 on) ∙ none))
 
+-- a command that takes any number of files takes no flag that says what is known of the start, no `--cells` and no FILE
+takes_no_start : (c : Command) → takes_files c ≡ true
+    → (takes_flags c ≡ false) × (takes (codes "cells") c ≡ false) × (takes (codes "file") c ≡ false)
+takes_no_start Why many = (refl, refl, refl)
+takes_no_start (Table choice) many = (refl, refl, refl)
+takes_no_start (Mend choice) many = (refl, refl, refl)
+takes_no_start Redraw many = (refl, refl, refl)
+takes_no_start Check many = absurd (true≢false (sym many))
+takes_no_start (Show form) many = absurd (true≢false (sym many))
+takes_no_start Sauce many = absurd (true≢false (sym many))
+takes_no_start Tokens many = absurd (true≢false (sym many))
+takes_no_start Needs many = absurd (true≢false (sym many))
+
 -- where the words ask for a command on one input, these are its options
 pub one_asked : (words : List Text) (a : Asked) (o : Options) (file : Option (String Global)) → IsReadAs words a
     → a ≡ asked.One o file → AreOptionsOf words o (option_map string_bytes file)
@@ -163,50 +178,69 @@ one_asked words a o file asks is = go (subcommand_of anscheck (words_meant words
     go None asks = absurd asks
     go (Some met) asks = asks.0
 
+-- The options of a command that takes any number of files. It takes no flag of the start, no cells, and no FILE of one.
+plain_asked : (words : List Text) (c : Command) (Asks : Text × List Row → Type 0)
+    → ((sub : Text × List Row) → Asks sub → sub.0 ≡ command_name c)
+    → ((sub : Text × List Row) → Asks sub → IsInFormAsked c sub.1) → takes_files c ≡ true
+    → IsSomeAnd (subcommand_of anscheck (words_meant words)) Asks → AreOptionsOf words (plain_options c) None
+plain_asked words c Asks named formed many asks =
+    let m = met_by words c Asks named asks in
+    let lacks = takes_no_start c many in
+    let start = none_asked c m.met.1 lacks.0 m.lacks in
+    let cells = unheld (codes "cells") m.met.1 (m.lacks (codes "cells") lacks.1) in
+    let file = unfound (codes "file") m.met.1 (m.lacks (codes "file") lacks.2) in
+    subst (λ (s : Option (Text × List Row)). IsSomeAnd s (λ sub. AsksFor sub (plain_options c) None)) (sym m.found)
+    (named m.met m.asks, formed m.met m.asks, sym start, rw cells ((λ on. on), (λ on. on)), sym file)
+
 -- where the words ask what is wrong with files, the options of that are theirs
 pub why_asked : (words : List Text) (a : Asked) (names : Vec (String Global) Global) → IsReadAs words a
     → a ≡ asked.Why names → AreOptionsOf words why_options None
 why_asked words a names asks is =
-    let m = met_by words Why (AsksAs (asked.Why names)) (λ sub asks. asks.0) (rw (sym is) asks) in
-    let start = none_asked Why m.met.1 refl m.lacks in
-    let cells = unheld (codes "cells") m.met.1 (m.lacks (codes "cells") refl) in
-    let file = unfound (codes "file") m.met.1 (m.lacks (codes "file") refl) in
-    subst (λ (s : Option (Text × List Row)). IsSomeAnd s (λ sub. AsksFor sub why_options None)) (sym m.found)
-    (m.asks.0, tt, sym start, rw cells ((λ on. on), (λ on. on)), sym file)
+    plain_asked words Why (AsksAs (asked.Why names)) (λ sub asks. asks.0) (λ sub asks. tt) refl (rw (sym is) asks)
 
 -- where the words ask for a table, its options are theirs
-pub table_asked : (words : List Text) (a : Asked) (form : TableForm) (names : Vec (String Global) Global)
-    → IsReadAs words a → a ≡ asked.Table form names → AreOptionsOf words (table_options form) None
-table_asked words a form names asks is =
-    let m = met_by words (Table form) (AsksAs (asked.Table form names)) (λ sub asks. asks.0) (rw (sym is) asks) in
-    let start = none_asked (Table form) m.met.1 refl m.lacks in
-    let cells = unheld (codes "cells") m.met.1 (m.lacks (codes "cells") refl) in
-    let file = unfound (codes "file") m.met.1 (m.lacks (codes "file") refl) in
-    subst (λ (s : Option (Text × List Row)). IsSomeAnd s (λ sub. AsksFor sub (table_options form) None)) (sym m.found)
-    (m.asks.0, m.asks.1, sym start, rw cells ((λ on. on), (λ on. on)), sym file)
+pub table_asked : (words : List Text) (a : Asked) (choice : TableChoice) (names : Vec (String Global) Global)
+    → IsReadAs words a → a ≡ asked.Table choice names → AreOptionsOf words (plain_options (Table choice)) None
+table_asked words a choice names asks is =
+    plain_asked words (Table choice) (AsksAs (asked.Table choice names)) (λ sub asks. asks.0) (λ sub asks. asks.1) refl
+    (rw (sym is) asks)
 
--- where the words ask for a file mended, the options of that are theirs
-pub mend_asked : (words : List Text) (a : Asked) (choice : MendChoice) (file : Option (String Global))
-    → IsReadAs words a
-    → a ≡ asked.Mend choice file → AreOptionsOf words (mend_options choice) (option_map string_bytes file)
-mend_asked words a choice file asks is =
-    let m = met_by words (Mend choice) (AsksAs (asked.Mend choice file)) (λ sub asks. asks.0) (rw (sym is) asks) in
-    let start = none_asked (Mend choice) m.met.1 refl m.lacks in
-    let cells = unheld (codes "cells") m.met.1 (m.lacks (codes "cells") refl) in
-    let name : Option Text = option_map string_bytes file in
-    subst (λ (s : Option (Text × List Row)). IsSomeAnd s (λ sub. AsksFor sub (mend_options choice) name)) (sym m.found)
-    (m.asks.0, (m.asks.1, m.asks.3), sym start, rw cells ((λ on. on), (λ on. on)), m.asks.2)
+-- where the words ask for files mended, the options of that are theirs
+pub mend_asked : (words : List Text) (a : Asked) (choice : MendChoice) (writing : Writing)
+    (names : Vec (String Global) Global) → IsReadAs words a → a ≡ asked.Mend choice writing names
+    → AreOptionsOf words (plain_options (Mend choice)) None
+mend_asked words a choice writing names asks is =
+    plain_asked words (Mend choice) (AsksAs (asked.Mend choice writing names)) (λ sub asks. asks.named)
+    (λ sub asks. asks.form) refl (rw (sym is) asks)
 
--- where the words ask for a file redrawn, the options of that are theirs
-pub redraw_asked : (words : List Text) (a : Asked) (file : Option (String Global)) → IsReadAs words a
-    → a ≡ asked.Redraw file → AreOptionsOf words redraw_options (option_map string_bytes file)
-redraw_asked words a file asks is =
-    let m = met_by words Redraw (AsksAs (asked.Redraw file)) (λ sub asks. asks.0) (rw (sym is) asks) in
-    let start = none_asked Redraw m.met.1 refl m.lacks in
-    let cells = unheld (codes "cells") m.met.1 (m.lacks (codes "cells") refl) in
-    let name : Option Text = option_map string_bytes file in
-    subst (λ (s : Option (Text × List Row)). IsSomeAnd s (λ sub. AsksFor sub redraw_options name)) (sym m.found)
-    (m.asks.0, tt, sym start, rw cells ((λ on. on), (λ on. on)), m.asks.1)
+-- where the words ask for files redrawn, the options of that are theirs
+pub redraw_asked : (words : List Text) (a : Asked) (writing : Writing) (names : Vec (String Global) Global)
+    → IsReadAs words a → a ≡ asked.Redraw writing names → AreOptionsOf words (plain_options Redraw) None
+redraw_asked words a writing names asks is =
+    plain_asked words Redraw (AsksAs (asked.Redraw writing names)) (λ sub asks. asks.named) (λ sub asks. tt) refl
+    (rw (sym is) asks)
+
+-- a command that writes files takes any number of them
+writes_many : (c : Command) → writes_files c ≡ true → takes_files c ≡ true
+writes_many (Mend choice) writes = refl
+writes_many Redraw writes = refl
+writes_many Why writes = refl
+writes_many (Table choice) writes = refl
+writes_many Check writes = absurd (true≢false (sym writes))
+writes_many (Show form) writes = absurd (true≢false (sym writes))
+writes_many Sauce writes = absurd (true≢false (sym writes))
+writes_many Tokens writes = absurd (true≢false (sym writes))
+writes_many Needs writes = absurd (true≢false (sym writes))
+
+-- where the words make a mistake, the options of their command are theirs
+pub mistaken_asked : (words : List Text) (a : Asked) (c : Command) (m : Mistake) → IsReadAs words a
+    → a ≡ asked.Mistaken c m → AreOptionsOf words (plain_options c) None
+mistaken_asked words a c m asks is =
+    let mistaken : IsSomeAnd (subcommand_of anscheck (words_meant words)) (AsksAs (asked.Mistaken c m)) =
+    rw (sym is) asks in
+    let writes = (met_by words c (AsksAs (asked.Mistaken c m)) (λ sub asks. asks.named) mistaken).asks.writes in
+    plain_asked words c (AsksAs (asked.Mistaken c m)) (λ sub asks. asks.named) (λ sub asks. asks.form)
+    (writes_many c writes) mistaken
 
 -- clap reads no topic
 pub no_topic : (words : List Text) (a : Asked) (topic : Topic) → IsReadAs words a → a ≡ asked.Meaning topic → ⊥

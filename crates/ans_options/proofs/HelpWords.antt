@@ -36,7 +36,7 @@ help_of_command program Check = refl
 help_of_command program (Show form) = refl
 help_of_command program Sauce = refl
 help_of_command program Tokens = refl
-help_of_command program (Table form) = refl
+help_of_command program (Table choice) = refl
 help_of_command program (Mend choice) = refl
 help_of_command program Redraw = refl
 
@@ -54,19 +54,19 @@ help_of_more program word more Check one = refl
 help_of_more program word more (Show form) one = refl
 help_of_more program word more Sauce one = refl
 help_of_more program word more Tokens one = refl
-help_of_more program word more (Table form) one = absurd (true≢false one)
-help_of_more program word more (Mend choice) one = refl
-help_of_more program word more Redraw one = refl
+help_of_more program word more (Table choice) one = absurd (true≢false one)
+help_of_more program word more (Mend choice) one = absurd (true≢false one)
+help_of_more program word more Redraw one = absurd (true≢false one)
 
 pub help_of_files_and_more : (program word : Text) (more : List Text) (c : Command) → takes_files c ≡ true
     → faults_of (program ∷ codes "help" ∷ command_name c ∷ word ∷ more) ≡ UnknownArgument ∷ InvalidSubcommand ∷ []
 unfolding walked walk_fault
 help_of_files_and_more program word more Why many = refl
-help_of_files_and_more program word more (Table form) many = refl
+help_of_files_and_more program word more (Table choice) many = refl
+help_of_files_and_more program word more (Mend choice) many = refl
+help_of_files_and_more program word more Redraw many = refl
 help_of_files_and_more program word more Needs many = absurd (true≢false (sym many))
 help_of_files_and_more program word more Check many = absurd (true≢false (sym many))
 help_of_files_and_more program word more (Show form) many = absurd (true≢false (sym many))
 help_of_files_and_more program word more Sauce many = absurd (true≢false (sym many))
 help_of_files_and_more program word more Tokens many = absurd (true≢false (sym many))
-help_of_files_and_more program word more (Mend choice) many = absurd (true≢false (sym many))
-help_of_files_and_more program word more Redraw many = absurd (true≢false (sym many))

@@ -12,12 +12,11 @@ use Rattle.ans_options.specs.declared.command.Command.TheVariants.{Why, Check, S
 use Rattle.ans_options.specs.declared.command.Command.TheVariants.{Redraw}
 use Rattle.ans_options.specs.declared.command.Form.TheVariants.{Terminal}
 use Rattle.ans_model.specs.declared.mends.TheConstants.Mends as no_mends
-use Rattle.ans_options.specs.declared.command.TableForm.TheVariants.{Headed}
-use Rattle.ans_options.specs.CommandLine.{IsNoCommand, command_names, help_on, is_mend, is_redraw, takes_files}
+use Rattle.ans_options.specs.CommandLine.{IsNoCommand, command_names, headed_table, help_on, takes_files}
 use Rattle.ans_options.specs.CommandLine.{command_name, command_named, words_meant}
 use Rattle.ans_options.specs.declared.command.MendChoice.{MendChoice}
 use Rattle.ans_options.specs.declared.command.MendChoice.TheVariants.{Flags}
-use Rattle.ans_options.specs.declared.command.TableForm.{TableForm}
+use Rattle.ans_options.specs.declared.command.TableChoice.{TableChoice}
 use Rattle.ans_model.specs.Text.Words.{texts_of}
 use Rattle.ans_options.proofs.CommandLineLemmas.{not_true}
 
@@ -36,7 +35,7 @@ no_command_name name h =
       unequal name (codes "show") (h (Show Terminal)),
       unequal name (codes "sauce") (h Sauce),
       unequal name (codes "tokens") (h Tokens),
-      unequal name (codes "table") (h (Table Headed)),
+      unequal name (codes "table") (h (Table headed_table)),
     ) refl
 
 -- the command of a name has that name
@@ -59,7 +58,7 @@ names_command Check = refl
 names_command (Show form) = refl
 names_command Sauce = refl
 names_command Tokens = refl
-names_command (Table form) = refl
+names_command (Table choice) = refl
 names_command (Mend choice) = refl
 names_command Redraw = refl
 
@@ -94,38 +93,15 @@ others_meant [] none many other = absurd (omega arith)
 others_meant (program ∷ []) none many other = absurd (omega arith)
 others_meant (program ∷ word ∷ more) none many other = rw other refl
 
--- what is neither `why` nor a table in any form takes one file
-pub takes_one : (c : Command) → ((form : TableForm) → c ≡ Table form → ⊥) → c ≢ Why → takes_files c ≡ false
-takes_one (Table form) no_table no_why = absurd (no_table form refl)
-takes_one Why no_table no_why = absurd (no_why refl)
-takes_one Check no_table no_why = refl
-takes_one (Show form) no_table no_why = refl
-takes_one Sauce no_table no_why = refl
-takes_one Tokens no_table no_why = refl
-takes_one Needs no_table no_why = refl
-takes_one (Mend choice) no_table no_why = refl
-takes_one Redraw no_table no_why = refl
-
--- and what does not mend in any way does not mend
-pub no_mend : (c : Command) → ((choice : MendChoice) → c ≡ Mend choice → ⊥) → is_mend c ≡ false
-no_mend (Mend choice) other = absurd (other choice refl)
-no_mend Why other = refl
-no_mend Check other = refl
-no_mend (Show form) other = refl
-no_mend Sauce other = refl
-no_mend Tokens other = refl
-no_mend Needs other = refl
-no_mend (Table form) other = refl
-no_mend Redraw other = refl
-
--- and a command other than `redraw` does not redraw
-pub no_redraw : (c : Command) → c ≢ Redraw → is_redraw c ≡ false
-no_redraw Redraw other = absurd (other refl)
-no_redraw Why other = refl
-no_redraw Check other = refl
-no_redraw (Show form) other = refl
-no_redraw Sauce other = refl
-no_redraw Tokens other = refl
-no_redraw Needs other = refl
-no_redraw (Table form) other = refl
-no_redraw (Mend choice) other = refl
+-- what is neither `why` nor a table, and neither mends nor redraws, takes one file
+pub takes_one : (c : Command) → c ≢ Why → ((choice : TableChoice) → c ≡ Table choice → ⊥)
+    → ((choice : MendChoice) → c ≡ Mend choice → ⊥) → c ≢ Redraw → takes_files c ≡ false
+takes_one Why no_why no_table no_mend no_redraw = absurd (no_why refl)
+takes_one (Table choice) no_why no_table no_mend no_redraw = absurd (no_table choice refl)
+takes_one (Mend choice) no_why no_table no_mend no_redraw = absurd (no_mend choice refl)
+takes_one Redraw no_why no_table no_mend no_redraw = absurd (no_redraw refl)
+takes_one Check no_why no_table no_mend no_redraw = refl
+takes_one (Show form) no_why no_table no_mend no_redraw = refl
+takes_one Sauce no_why no_table no_mend no_redraw = refl
+takes_one Tokens no_why no_table no_mend no_redraw = refl
+takes_one Needs no_why no_table no_mend no_redraw = refl

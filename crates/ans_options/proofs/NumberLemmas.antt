@@ -538,22 +538,22 @@ mend_rules n = drop n (built_command 1).rules
 widths_parsed : AllParsedBy (codes "add-record") (numbers_up_to 1024) (built anscheck).subs
 widths_parsed =
     mend_parsed (codes "add-record") (numbers_up_to 1024) refl
-    (after_others (codes "add-record") (numbers_up_to 1024) 12 (mend_rules 0) refl
-    ((λ e. (refl, refl, refl, refl)), others (codes "add-record") (numbers_up_to 1024) (mend_rules 13) refl))
+    (after_others (codes "add-record") (numbers_up_to 1024) 15 (mend_rules 0) refl
+    ((λ e. (refl, refl, refl, refl)), others (codes "add-record") (numbers_up_to 1024) (mend_rules 16) refl))
     refl
 
 columns_parsed : AllParsedBy (codes "columns") (numbers_up_to 1024) (built anscheck).subs
 columns_parsed =
     mend_parsed (codes "columns") (numbers_up_to 1024) refl
-    (after_others (codes "columns") (numbers_up_to 1024) 11 (mend_rules 0) refl
-    ((λ e. (refl, refl, refl, refl)), others (codes "columns") (numbers_up_to 1024) (mend_rules 12) refl))
+    (after_others (codes "columns") (numbers_up_to 1024) 14 (mend_rules 0) refl
+    ((λ e. (refl, refl, refl, refl)), others (codes "columns") (numbers_up_to 1024) (mend_rules 15) refl))
     refl
 
 lines_parsed : AllParsedBy (codes "lines") (numbers_up_to 8192) (built anscheck).subs
 lines_parsed =
     mend_parsed (codes "lines") (numbers_up_to 8192) refl
-    (after_others (codes "lines") (numbers_up_to 8192) 10 (mend_rules 0) refl
-    ((λ e. (refl, refl, refl, refl)), others (codes "lines") (numbers_up_to 8192) (mend_rules 11) refl))
+    (after_others (codes "lines") (numbers_up_to 8192) 13 (mend_rules 0) refl
+    ((λ e. (refl, refl, refl, refl)), others (codes "lines") (numbers_up_to 8192) (mend_rules 14) refl))
     refl
 
 -- ---- numbers

@@ -1,9 +1,9 @@
 -- The command line, and the options that its words give.
 use Rattle.std.specs.Prelude.{map, fold, ◌≡◌, ◌≢◌, ◌↔◌, not, Bool, true, false, List, [], ◌∷◌, Option, Some, codes}
 use Rattle.std.specs.Prelude.{length, option_map, string_bytes, IsSomeAnd, IsTrue, MatchOption, if◌then◌else◌}
-use Rattle.std.specs.Prelude.{unwrap_or, ⊤}
+use Rattle.std.specs.Prelude.{unwrap_or, None, ⊤}
 use Rattle.std.specs.Prelude.{◌||◌, ◌&&◌, ◌≤◌, ℕ, IfSome, find, is_some, nat_eq, nat_le, pos}
-use Rattle.std.specs.List.{list_any, starts_with}
+use Rattle.std.specs.List.{ends_with, list_any, starts_with}
 use Rattle.std.specs.Option.{option_map_or, option_or}
 use Rattle.std.specs.Str.{bytes_eq, chars}
 use Rattle.std.specs.Str.Parse.{IsNumeral, digits_value, without_leading_plus}
@@ -27,12 +27,18 @@ use Rattle.ans_model.specs.declared.mends.TheConstants.Mends as no_mends
 use Rattle.ans_model.specs.declared.mends.Mends.{Mends}
 use Rattle.ans_model.specs.MendFlags.{mend_flags, with_given}
 use Rattle.ans_options.specs.declared.command.MendChoice.{MendChoice}
-use Rattle.ans_options.specs.declared.command.MendChoice.TheVariants.{Flags, Suggested, Both}
+use Rattle.ans_options.specs.declared.command.MendChoice.TheVariants.{Flags, Suggested}
 use Rattle.ans_options.specs.declared.command.Form.{Form}
 use Rattle.ans_options.specs.declared.command.Form.TheVariants.{Terminal, Vga, Page}
+use Rattle.ans_options.specs.declared.command.TableChoice.{TableChoice}
 use Rattle.ans_options.specs.declared.command.TableForm.{TableForm}
 use Rattle.ans_options.specs.declared.command.TableForm.TheVariants.{Headed, Bare, Json}
 use Rattle.ans_options.specs.declared.command.Options.{Options}
+use Rattle.ans_options.specs.declared.command.Target.{Target}
+use Rattle.ans_options.specs.declared.command.Target.TheVariants as target
+use Rattle.ans_options.specs.declared.command.Writing.{Writing}
+use Rattle.ans_options.specs.declared.mistakes.Mistake.{Mistake}
+use Rattle.ans_options.specs.declared.mistakes.Mistake.TheVariants as mistake
 use Rattle.ans_options.specs.Topics.{topic_of}
 
 -- `--NAME`
@@ -72,6 +78,21 @@ files_rule = record (new_rule (codes "files")) { value_names = 1; action = Some 
 abbrev pub files_app : Text → App
 files_app name = with_rule (new_app name) files_rule
 
+-- `--NAME`, or `-LETTER`
+abbrev pub short_flag_rule : ℕ → Text → Rule
+short_flag_rule letter name = record (flag_rule name) { short = Some letter }
+
+-- `--output PATH`, or `-o PATH`
+abbrev pub output_rule : Rule
+output_rule = record (new_rule (codes "output")) { short = Some 0x6F; long = Some (codes "output"); value_names = 1 }
+
+-- a command with the options that say how its files are written: `--output`, `--in-place` or `-i`, `--dry-run` or `-n`
+abbrev pub with_writing : App → App
+with_writing app =
+    with_rule
+    (with_rule (with_rule app output_rule) (short_flag_rule 0x69 (codes "in-place")))
+    (short_flag_rule 0x6E (codes "dry-run"))
+
 -- the name of each command
 abbrev pub command_name : Command → Text
 command_name Why = codes "why"
@@ -80,11 +101,11 @@ command_name Check = codes "check"
 command_name (Show form) = codes "show"
 command_name Sauce = codes "sauce"
 command_name Tokens = codes "tokens"
-command_name (Table form) = codes "table"
+command_name (Table choice) = codes "table"
 command_name (Mend choice) = codes "mend"
 command_name Redraw = codes "redraw"
 
--- a command's subcommand: its name, its flags in the order of its help, `[FILE]` or `[FILE]..`, and of `mend` the
+-- a command's subcommand: its name, `[FILE]` or `[FILE]..`, its flags in the order of its help, and of `mend` the
 -- options with a number
 abbrev pub command_app : Command → App
 command_app Check =
@@ -95,23 +116,29 @@ command_app (Show form) =
     (codes "html" ∷ codes "vga" ∷ codes "cleared" ∷ codes "any" ∷ []))
     part_flags
 command_app Why = files_app (command_name Why)
-command_app (Table form) =
-    with_flags (files_app (command_name (Table form))) (codes "json" ∷ codes "no-header" ∷ [])
+command_app (Table choice) =
+    with_flags (files_app (command_name (Table choice)))
+    (codes "json" ∷ codes "no-header" ∷ codes "pictures" ∷ [])
 command_app (Mend choice) =
     with_rule
     (with_rule
     (with_rule
-    (with_flags (with_rule (file_app (command_name (Mend choice))) (flag_rule (codes "suggested")))
+    (with_flags (with_rule (with_writing (files_app (command_name (Mend choice)))) (flag_rule (codes "suggested")))
     (map (λ f. f.name) mend_flags))
     (number_rule (codes "lines") (numbers_up_to 8192)))
     (number_rule (codes "columns") (numbers_up_to 1024)))
     (number_rule (codes "add-record") (numbers_up_to 1024))
+command_app Redraw = with_writing (files_app (command_name Redraw))
 command_app command = file_app (command_name command)
+
+-- the table that is written without flags
+abbrev pub headed_table : TableChoice
+headed_table = record { form = Headed; pictures = false }
 
 -- the commands, in the order of the help
 abbrev pub commands : List Command
 commands =
-    Why ∷ Mend (Flags no_mends.NONE) ∷ Redraw ∷ Needs ∷ Check ∷ Show Terminal ∷ Sauce ∷ Tokens ∷ Table Headed ∷ []
+    Why ∷ Mend (Flags no_mends.NONE) ∷ Redraw ∷ Needs ∷ Check ∷ Show Terminal ∷ Sauce ∷ Tokens ∷ Table headed_table ∷ []
 
 -- their names
 abbrev pub command_names : List Text
@@ -130,21 +157,19 @@ with_subcommands app more = fold (λ a command. with_subcommand a (command_app c
 abbrev pub anscheck : App
 anscheck = with_subcommands anscheck_top commands
 
+-- whether a command writes files, mended or redrawn
+abbrev pub writes_files : Command → Bool
+writes_files (Mend choice) = true
+writes_files Redraw = true
+writes_files _ = false
+
 -- whether a command takes any number of files
 abbrev pub takes_files : Command → Bool
 takes_files Why = true
-takes_files (Table form) = true
+takes_files (Table choice) = true
+takes_files (Mend choice) = true
+takes_files Redraw = true
 takes_files _ = false
-
--- whether a command writes a file mended
-abbrev pub is_mend : Command → Bool
-is_mend (Mend choice) = true
-is_mend _ = false
-
--- whether a command writes a file redrawn
-abbrev pub is_redraw : Command → Bool
-is_redraw Redraw = true
-is_redraw _ = false
 
 -- whether a command takes flags that say what is known of the start
 abbrev pub takes_flags : Command → Bool
@@ -160,13 +185,17 @@ command_named name = find (λ c. bytes_eq (command_name c) name) commands
 abbrev pub IsNoCommand : Text → Type 0
 IsNoCommand name = (c : Command) → name ≢ command_name c
 
+-- the names of the commands that take any number of files
+abbrev pub files_names : List Text
+files_names = codes "why" ∷ codes "mend" ∷ codes "redraw" ∷ codes "table" ∷ []
+
 -- What `help COMMAND` means: `COMMAND --help`. A word after it is a mistake. To have clap name it, the command gets its
--- own name as the FILE, after `--`, and then the word, which is one too many. For `why` and `table` no word is one too
--- many, so there only `--` comes before the word, where the program takes none.
+-- own name as the FILE, after `--`, and then the word, which is one too many. For a command that takes any number of
+-- files no word is one too many, so there only `--` comes before the word, where the program takes none.
 abbrev pub help_on_command : Text → List Text → List Text
 help_on_command name [] = name ∷ codes "--help" ∷ []
 help_on_command name (word ∷ more) =
-    if bytes_eq name (codes "why") || bytes_eq name (codes "table") then codes "--" ∷ word ∷ []
+    if list_any (bytes_eq name) files_names then codes "--" ∷ word ∷ []
     else name ∷ codes "--" ∷ name ∷ word ∷ []
 
 -- What `help` with these words after it means: `--help` if there are none. A first word that is no command is a
@@ -227,6 +256,13 @@ table_form_asked rows =
     else if holds_flag (codes "no-header") rows then Bare
     else Headed
 
+-- what a table is asked to be: its form, and whether it has the checksums of pictures
+abbrev pub table_choice_asked : List Row → TableChoice
+table_choice_asked rows = record {
+  form = table_form_asked rows;
+  pictures = holds_flag (codes "pictures") rows;
+}
+
 -- the number that a text writes in decimal digits, with a `+` before them or none
 abbrev pub number_written : Text → ℕ
 number_written text = digits_value 10 (without_leading_plus text)
@@ -272,7 +308,7 @@ AreInRange mends =
 -- each number that the flags have is in its range
 abbrev pub IsInRange : MendChoice → Type 0
 IsInRange (Flags mends) = AreInRange mends
-IsInRange _ = ⊤
+IsInRange Suggested = ⊤
 
 -- whether a flag or a number names a change
 abbrev pub names_changes : List Row → Bool
@@ -281,20 +317,91 @@ names_changes rows =
     || (is_some (first_of (codes "lines") rows)
     || (is_some (first_of (codes "columns") rows) || is_some (first_of (codes "add-record") rows)))
 
--- What is to be changed: with `--suggested` what the drawing's findings call for, and else what the flags name. Both
--- are not asked for together.
+-- what is to be changed: with `--suggested` what the drawing's findings call for, and else what the flags name
 abbrev pub choice_asked : List Row → MendChoice
-choice_asked rows =
-    if not (holds_flag (codes "suggested") rows) then Flags (mends_asked rows)
-    else if names_changes rows then Both
-    else Suggested
+choice_asked rows = if holds_flag (codes "suggested") rows then Suggested else Flags (mends_asked rows)
 
 -- where the command shows a picture, writes a table or mends, it does so as the flags and the numbers ask
 abbrev pub IsInFormAsked : Command → List Row → Type 0
 IsInFormAsked (Show form) rows = form ≡ form_asked rows
-IsInFormAsked (Table form) rows = form ≡ table_form_asked rows
+IsInFormAsked (Table choice) rows = choice ≡ table_choice_asked rows
 IsInFormAsked (Mend choice) rows = (choice ≡ choice_asked rows) × IsInRange choice
 IsInFormAsked _ rows = ⊤
+
+-- the names of `[FILE]..` in the matches: none where no file is given
+abbrev pub files_of : List Row → List Text
+files_of rows = unwrap_or (all_of (codes "files") rows) []
+
+-- standard input is among the files: `-` is one of them
+abbrev pub names_input : List Text → Bool
+names_input names = list_any (bytes_eq (codes "-")) names
+
+-- standard input is read: it is among the files, or there are none
+abbrev pub reads_input : List Text → Bool
+reads_input names = nat_eq (length names) 0 || names_input names
+
+-- there is more than one file
+abbrev pub are_several : List Text → Bool
+are_several names = nat_le 2 (length names)
+
+-- the PATH of `--output`
+abbrev pub output_given : List Row → Option Text
+output_given rows = first_of (codes "output") rows
+
+-- the same, or nothing if it is not given
+abbrev pub path_given : List Row → Text
+path_given rows = unwrap_or (output_given rows) []
+
+-- whether a PATH is that of a folder
+abbrev pub is_folder : Text → Bool
+is_folder path = ends_with nat_eq path (codes "/")
+
+-- whether the matches make a mistake, whatever others they make
+abbrev pub makes : Mistake → List Row → Bool
+makes mistake.SuggestedWithChanges rows = holds_flag (codes "suggested") rows && names_changes rows
+makes mistake.OutputWithInPlace rows = is_some (output_given rows) && holds_flag (codes "in-place") rows
+makes mistake.EmptyOutput rows = is_some (output_given rows) && nat_eq (length (path_given rows)) 0
+makes mistake.InPlaceOfInput rows = holds_flag (codes "in-place") rows && reads_input (files_of rows)
+makes mistake.InputAmong rows = are_several (files_of rows) && names_input (files_of rows)
+makes mistake.FolderOfInput rows = is_folder (path_given rows) && reads_input (files_of rows)
+makes mistake.SeveralToOne rows =
+    is_some (output_given rows) && (not (is_folder (path_given rows)) && are_several (files_of rows))
+makes mistake.SeveralToOutput rows =
+    not (is_some (output_given rows) || holds_flag (codes "in-place") rows)
+    && (not (holds_flag (codes "dry-run") rows) && are_several (files_of rows))
+
+-- the mistakes, in the order in which one is reported before another
+abbrev pub mistakes : List Mistake
+mistakes =
+    mistake.SuggestedWithChanges
+    ∷ mistake.OutputWithInPlace
+    ∷ mistake.EmptyOutput
+    ∷ mistake.InPlaceOfInput
+    ∷ mistake.InputAmong
+    ∷ mistake.FolderOfInput
+    ∷ mistake.SeveralToOne
+    ∷ mistake.SeveralToOutput
+    ∷ []
+
+-- the mistake that the matches are reported to make, if any: the first
+abbrev pub first_mistake : List Row → Option Mistake
+first_mistake rows = find (λ m. makes m rows) mistakes
+
+-- The files go over their inputs with `--in-place`, and else to the PATH of `--output`. Without a PATH, or with `-`,
+-- they go to standard output.
+abbrev pub IsTargetAsked : List Row → Target → Type 0
+IsTargetAsked rows target.InPlace = holds_flag (codes "in-place") rows ≡ true
+IsTargetAsked rows target.Output =
+    (holds_flag (codes "in-place") rows ≡ false) × (unwrap_or (output_given rows) (codes "-") ≡ codes "-")
+IsTargetAsked rows (target.Path path) =
+    (holds_flag (codes "in-place") rows ≡ false)
+    × (output_given rows ≡ Some (string_bytes path))
+    × (string_bytes path ≢ codes "-")
+
+-- the files go where the matches say, and with `--dry-run` are not written
+abbrev pub IsWritingAsked : List Row → Writing → Type 0
+IsWritingAsked rows writing =
+    IsTargetAsked rows writing.target × (writing.is_dry ≡ holds_flag (codes "dry-run") rows)
 
 -- The subcommand is named as the command, and its matches say in which form a picture is shown or a table is written,
 -- what may be changed to mend, and which parts of the start are known. They hold `--cells` exactly where the cells are
@@ -310,60 +417,50 @@ AsksFor sub o file = (sub.0 ≡ command_name o.command)
 abbrev pub AreOptionsOf : List Text → Options → Option Text → Type 0
 AreOptionsOf words o file = IsSomeAnd (subcommand_of anscheck (words_meant words)) (λ sub. AsksFor sub o file)
 
--- the names of `[FILE]..` in the matches: none where no file is given
-abbrev pub files_of : List Row → List Text
-files_of rows = unwrap_or (all_of (codes "files") rows) []
+-- the options of a command to which nothing is known, and which is asked for no cells
+abbrev pub plain_options : Command → Options
+plain_options command = record { command = command; start = none_known; cells = false }
 
--- the options of `why`: nothing is known, and no cells are asked for
+-- the options of `why`
 abbrev pub why_options : Options
-why_options = record { command = Why; start = none_known; cells = false }
+why_options = plain_options Why
 
 -- the subcommand is `why`, and these are its `[FILE]..`
 abbrev pub AsksForWhy : (Text × List Row) → List Text → Type 0
 AsksForWhy sub names = (sub.0 ≡ command_name Why) × (names ≡ files_of sub.1)
 
--- the options of a table: nothing is known, and no cells are asked for
-abbrev pub table_options : TableForm → Options
-table_options form = record { command = Table form; start = none_known; cells = false }
+-- the subcommand is `table`, its matches say what it is to be, and these are its `[FILE]..`
+abbrev pub AsksForTable : (Text × List Row) → TableChoice → List Text → Type 0
+AsksForTable sub choice names =
+    (sub.0 ≡ command_name (Table choice)) × (choice ≡ table_choice_asked sub.1) × (names ≡ files_of sub.1)
 
--- the subcommand is `table`, its matches say in which form, and these are its `[FILE]..`
-abbrev pub AsksForTable : (Text × List Row) → TableForm → List Text → Type 0
-AsksForTable sub form names =
-    (sub.0 ≡ command_name (Table form)) × (form ≡ table_form_asked sub.1) × (names ≡ files_of sub.1)
+-- The subcommand is this one, and its matches say what is to be changed to mend, with each number in its range, and how
+-- its files are written. These are its `[FILE]..`, and its matches make no mistake.
+pub record AsksToWrite (command : Command) (writing : Writing) (names : List Text) (sub : Text × List Row) : Type 0
+  where
+    pub named : sub.0 ≡ command_name command
+    pub form : IsInFormAsked command sub.1
+    pub written : IsWritingAsked sub.1 writing
+    pub files : names ≡ files_of sub.1
+    pub flawless : first_mistake sub.1 ≡ None
 
--- the options of mending: nothing is known, and no cells are asked for
-abbrev pub mend_options : MendChoice → Options
-mend_options choice = record { command = Mend choice; start = none_known; cells = false }
+-- the subcommand is this one, which writes files, and its matches make this mistake first
+pub record IsMistaken (command : Command) (m : Mistake) (sub : Text × List Row) : Type 0 where
+  pub named : sub.0 ≡ command_name command
+  pub writes : writes_files command ≡ true
+  pub form : IsInFormAsked command sub.1
+  pub first : first_mistake sub.1 ≡ Some m
 
--- The subcommand is `mend`, and its matches say what is to be changed, with each number in its range. They hold the
--- file exactly where one is given, with that text.
-abbrev pub AsksForMend : (Text × List Row) → MendChoice → Option Text → Type 0
-AsksForMend sub choice file =
-    (sub.0 ≡ command_name (Mend choice))
-    × (choice ≡ choice_asked sub.1)
-    × (file ≡ first_of (codes "file") sub.1)
-    × IsInRange choice
-
--- the options of redrawing: nothing is known, and no cells are asked for
-abbrev pub redraw_options : Options
-redraw_options = record { command = Redraw; start = none_known; cells = false }
-
--- the subcommand is `redraw`, and its matches hold the file exactly where one is given, with that text
-abbrev pub AsksForRedraw : (Text × List Row) → Option Text → Type 0
-AsksForRedraw sub file = (sub.0 ≡ command_name Redraw) × (file ≡ first_of (codes "file") sub.1)
-
--- The subcommand asks what is wrong with files, for a table of them, for one file mended or redrawn, or for another
+-- The subcommand asks what is wrong with files, for a table of them, for files mended or redrawn, or for another
 -- command on one file. No subcommand asks for a meaning.
 abbrev pub AsksAs : Asked → (Text × List Row) → Type 0
 AsksAs (asked.One options file) sub =
-    AsksFor sub options (option_map string_bytes file)
-    × (takes_files options.command ≡ false)
-    × (is_mend options.command ≡ false)
-    × (is_redraw options.command ≡ false)
+    AsksFor sub options (option_map string_bytes file) × (takes_files options.command ≡ false)
 AsksAs (asked.Why names) sub = AsksForWhy sub (map string_bytes names.items)
-AsksAs (asked.Table form names) sub = AsksForTable sub form (map string_bytes names.items)
-AsksAs (asked.Mend choice file) sub = AsksForMend sub choice (option_map string_bytes file)
-AsksAs (asked.Redraw file) sub = AsksForRedraw sub (option_map string_bytes file)
+AsksAs (asked.Table choice names) sub = AsksForTable sub choice (map string_bytes names.items)
+AsksAs (asked.Mend choice writing names) sub = AsksToWrite (Mend choice) writing (map string_bytes names.items) sub
+AsksAs (asked.Redraw writing names) sub = AsksToWrite Redraw writing (map string_bytes names.items) sub
+AsksAs (asked.Mistaken command m) sub = IsMistaken command m sub
 AsksAs (asked.Meaning topic) sub = ⊥
 
 -- clap finds a subcommand in what the words mean, which asks for this

@@ -1,2 +1,3 @@
 pub mod Topics
 pub mod CommandLine
+pub mod Mistakes

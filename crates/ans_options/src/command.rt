@@ -1,8 +1,9 @@
 //! What the program is asked to do.
 
 ghost use Rattle.std.specs.Prelude.{◌≡◌};
-ghost use Rattle.ans_options.specs.CommandLine.{command_name, mend_options, redraw_options, table_options};
+ghost use Rattle.ans_options.specs.CommandLine.{command_name, plain_options};
 
+use crate::mistakes::Mistake;
 use crate::topic::Topic;
 use ans_model::mends::Mends;
 use ans_model::start::Start;
@@ -29,6 +30,22 @@ pub enum TableForm {
     Json,
 }
 
+/// What a table is asked to be.
+#[derive(Debug, Clone, Copy, PartialEq, Eq)]
+pub struct TableChoice {
+    pub form: TableForm,
+    /// Whether its last column has a checksum of each file's picture.
+    pub pictures: bool,
+}
+
+impl TableChoice {
+    /// The table that is written without flags.
+    pub const HEADED: TableChoice = TableChoice {
+        form: TableForm::Headed,
+        pictures: false,
+    };
+}
+
 /// What is to be changed of a file that is mended.
 #[derive(Debug, Clone, Copy, PartialEq, Eq)]
 pub enum MendChoice {
@@ -36,8 +53,25 @@ pub enum MendChoice {
     Flags(Mends),
     /// What the findings of the drawing call for.
     Suggested,
-    /// Both are asked for, which is a mistake.
-    Both,
+}
+
+/// Where files go that are mended or redrawn.
+#[derive(Debug, Drop)]
+pub enum Target {
+    /// To standard output.
+    Output,
+    /// Each over its input.
+    InPlace,
+    /// To the file of this name; or, if it ends in a slash, into the folder of this name, each under its own.
+    Path(String),
+}
+
+/// How files are written that are mended or redrawn.
+#[derive(Debug, Drop)]
+pub struct Writing {
+    pub target: Target,
+    /// Whether nothing is written, and it is only said what would be.
+    pub is_dry: bool,
 }
 
 /// What the program does with a file, or with many.
@@ -56,7 +90,7 @@ pub enum Command {
     /// Writes which parts of the start its content needs to be known, or why the file is refused.
     Needs,
     /// Writes a row for each of many files: the verdict, what it needs, its fault, and its record.
-    Table(TableForm),
+    Table(TableChoice),
     /// Writes the file mended, so that it passes from every start.
     Mend(MendChoice),
     /// Writes the file redrawn: its picture written again in the plainest form, which shows it from every start.
@@ -100,34 +134,12 @@ impl Options {
         cells: false,
     };
 
-    /// The options of a table. It reads neither what is known of the start nor whether cells are reported.
-    pub(crate) fn of_table(form: TableForm) -> Options
-        ensures { result ≡ table_options form }
+    /// Those of a command that reads neither what is known of the start nor whether cells are reported.
+    pub(crate) fn plain(command: Command) -> Options
+        ensures { result ≡ plain_options command }
     {
         Options {
-            command: Command::Table(form),
-            start: Start::ANY,
-            cells: false,
-        }
-    }
-
-    /// The options of mending. It reads neither what is known of the start nor whether cells are reported.
-    pub(crate) fn of_mend(choice: MendChoice) -> Options
-        ensures { result ≡ mend_options choice }
-    {
-        Options {
-            command: Command::Mend(choice),
-            start: Start::ANY,
-            cells: false,
-        }
-    }
-
-    /// The options of redrawing. It reads neither what is known of the start nor whether cells are reported.
-    pub(crate) fn of_redraw() -> Options
-        ensures { result ≡ redraw_options }
-    {
-        Options {
-            command: Command::Redraw,
+            command,
             start: Start::ANY,
             cells: false,
         }
@@ -143,11 +155,14 @@ pub enum Asked {
     /// standard input.
     Why(Vec<String>),
     /// A table, and the names of its files as they are given, in their order.
-    Table(TableForm, Vec<String>),
-    /// A file mended, and the name of its input as it is given, `-` too.
-    Mend(MendChoice, Option<String>),
-    /// A file redrawn, and the name of its input as it is given, `-` too.
-    Redraw(Option<String>),
+    Table(TableChoice, Vec<String>),
+    /// Files mended, how they are written, and their names as they are given, `-` too, in their order. Without a name
+    /// it is standard input.
+    Mend(MendChoice, Writing, Vec<String>),
+    /// Files redrawn, how they are written, and their names, as those of files that are mended.
+    Redraw(Writing, Vec<String>),
+    /// A command, `mend` or `redraw`, by words that contradict themselves.
+    Mistaken(Command, Mistake),
     /// What a fault, a note or a word means.
     Meaning(Topic),
 }

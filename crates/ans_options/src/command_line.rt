@@ -13,22 +13,27 @@ ghost use Rattle.ans_options.specs.CommandLine.{faults_of, form_asked, help_on, 
 ghost use Rattle.ans_options.specs.CommandLine.{with_flags, with_subcommands};
 ghost use Rattle.ans_options.specs.CommandLine.{words_meant, anscheck, command_app, command_name, file_app};
 ghost use Rattle.ans_options.specs.CommandLine.{asks_for_cleared, files_app, holds_flag};
-ghost use Rattle.ans_options.specs.CommandLine.{AreInRange, HasNumberUpTo, HasNumbersOfMend, is_mend, mends_asked};
-ghost use Rattle.ans_options.specs.CommandLine.{IsInRange, choice_asked, is_redraw, names_changes};
+ghost use Rattle.ans_options.specs.CommandLine.{AreInRange, HasNumberUpTo, HasNumbersOfMend, mends_asked};
+ghost use Rattle.ans_options.specs.CommandLine.{IsInRange, choice_asked, names_changes};
+ghost use Rattle.ans_options.specs.CommandLine.{IsTargetAsked, IsWritingAsked, first_mistake, is_folder, makes};
+ghost use Rattle.ans_options.specs.CommandLine.{headed_table, names_input, output_rule, path_given, reads_input};
+ghost use Rattle.ans_options.specs.CommandLine.{table_choice_asked, with_writing};
 ghost use Rattle.ans_options.specs.CommandLine.{number_asked, number_rule};
 ghost use Rattle.ans_model.specs.MendFlags.{row_of_flag, with_given};
 ghost use Rattle.ans_model.specs.Text.Words.{texts_of};
 ghost use Rattle.ans_options.specs.CommandLine.{AsksAs, IsAskedBy, IsReadAs, files_of, table_form_asked, takes_files};
 ghost use Rattle.ans_options.specs.CommandLine.{command_named, edits, names_file, near_command, words_asked};
 ghost use Rattle.ans_options.specs.Topics.{topic_of};
-ghost use Rattle.ans_options.specs.declared.command.Command.TheVariants.{Check, Show, Table, Mend};
+ghost use Rattle.ans_options.specs.declared.command.Command.TheVariants.{Check, Show, Table, Mend, Redraw};
 ghost use Rattle.ans_model.specs.declared.mends.TheConstants.Mends as no_mends;
 ghost use Rattle.ans_options.specs.declared.command.Form.TheVariants.{Terminal};
 ghost use Rattle.ans_options.specs.declared.command.MendChoice.TheVariants.{Flags};
-ghost use Rattle.ans_options.specs.declared.command.TableForm.TheVariants.{Headed};
 ghost use Rattle.ans_options.specs.declared.command_line.WordsError.TheVariants.{Clap};
 
-use crate::command::{Asked, Command, Form, MendChoice, Options, TableForm};
+use crate::command::{
+    Asked, Command, Form, MendChoice, Options, TableChoice, TableForm, Target, Writing,
+};
+use crate::mistakes::Mistake;
 use crate::topic::topic_of;
 use ans_model::mends::{MendFlag, Mends, mend_flags};
 use ans_model::start::Start;
@@ -121,41 +126,76 @@ The verdict is pass, cleared (it passes on a cleared screen), refused or error
 (it cannot be read; the reason is its fault). In a name \\t, \\n and \\xHH stand
 for a tab, a line end and a byte that is not shown.
 
+--pictures adds the column picture: drawings with the same text there show the
+same picture.
+
 Exit status:
   0  Each file passes, on a cleared screen at least, or help was asked for
   1  A file is refused, and every file was read
   2  A file could not be read, or the table could not be written";
 
+/// The last lines of the help of a command that writes files: examples, where the files go, what else is to be known,
+/// and the exit statuses, of which the second comes if this is so.
+macro_rules! with_writing_told {
+    ($examples:literal, $more:literal, $failure:literal) => {
+        concat!(
+            $examples,
+            "
+Without -o and -i one FILE goes to standard output, for a pipe; to a terminal
+it is not written. -o replaces a file that is there, but never a FILE; a name
+that ends in / is a folder's, which is made, and takes several files, as -i and
+-n do. What needs no change is copied by -o and left alone by -i. With several
+files the name comes before what is said of each, what cannot be written stops
+no other, and the greatest exit status counts.
+
+",
+            $more,
+            "
+Exit status:
+  0  Each file is written or needs no change, or help was asked for
+  1  ",
+            $failure,
+            "; with -n also if one would be written
+  2  There is no answer for a file; standard error says why"
+        )
+    };
+}
+
 /// The last lines of the help of `mend`.
-const MEND_END: &str = "\
-The fixed drawing goes to standard output: give it another name, as in
-  anscheck mend drawing.ans > fixed.ans
-since the shell empties a file before it is read. Each change is reported on
-standard error; without options only what is safe is changed.
+const MEND_END: &str = with_writing_told!(
+    "\
+Examples:
+  anscheck mend drawing.ans -o fixed.ans
+  anscheck mend -o fixed/ *.ans
+  anscheck mend -i *.ans
+",
+    "\
+Each change is reported on standard error; without --suggested and flags that
+ask for a change only what is safe is changed.
 
 --name-colours is for terminals whose own white and black, those of a 0, are
 not those of 37 and 40: the drawing then shows in the latter everywhere.
-
-Exit status:
-  0  A file was written, or help was asked for
-  1  Nothing was written; standard error says why
-  2  There is no answer; standard error says why";
+",
+    "A file cannot be fixed"
+);
 
 /// The last lines of the help of `redraw`.
-const REDRAW_END: &str = "\
-The redrawn file goes to standard output: give it another name, as in
-  anscheck redraw drawing.ans > redrawn.ans
-since the shell empties a file before it is read. The picture is the one that
-the drawing shows in the end on a cleared screen, so an animation becomes
-still; it then shows from every start. Record and comments stay, except the
-file size; an end mark is added after the drawing if there is none. Both
-colours are named after each 0, and ESC[0m ends it. It shows on screens of two
-rows and more, of the stated columns or more; that is tried, not proved.
-
-Exit status:
-  0  A file was written, or help was asked for
-  1  Nothing was written; standard error says why
-  2  There is no answer; standard error says why";
+const REDRAW_END: &str = with_writing_told!(
+    "\
+Examples:
+  anscheck redraw drawing.ans -o redrawn.ans
+  anscheck redraw -o redrawn/ *.ans
+",
+    "\
+The picture is the one that the drawing shows in the end on a cleared screen,
+so an animation becomes still; it then shows from every start. Record and
+comments stay, except the file size; an end mark is added after the drawing if
+there is none. Both colours are named after each 0, and ESC[0m ends it. It
+shows on screens of two rows and more, of the stated columns or more; that is
+tried, not proved.
+",
+    "A file cannot be redrawn"
+);
 
 /// How the program is used, if there are no words.
 const PROGRAM_USAGE: &str = "\
@@ -173,8 +213,8 @@ an answer.
 
 Examples:
   anscheck drawing.ans
-  anscheck mend drawing.ans > fixed.ans
-  anscheck redraw drawing.ans > redrawn.ans
+  anscheck mend drawing.ans -o fixed.ans
+  anscheck redraw drawing.ans -o redrawn.ans
   anscheck check --cleared drawing.ans
   anscheck show drawing.ans
   anscheck help check
@@ -213,8 +253,17 @@ const COMMANDS: [Command; 9] = [
     Command::Show(Form::Terminal),
     Command::Sauce,
     Command::Tokens,
-    Command::Table(TableForm::Headed),
+    Command::Table(TableChoice::HEADED),
 ];
+
+/// What `-o` of `mend` and `redraw` does.
+const OUTPUT: &str = "Write to PATH; into it, as a folder, if it ends in /";
+
+/// What `-i` of `mend` and `redraw` does.
+const IN_PLACE: &str = "Write over each FILE, if anything changes";
+
+/// What `-n` of `mend` and `redraw` does.
+const DRY_RUN: &str = "Write nothing, and say what would be done";
 
 /// What `--suggested` of `mend` does.
 const SUGGESTED: &str = "Make the changes that the fix: line of why names";
@@ -269,9 +318,10 @@ const START_FLAGS: [(&str, &str); 2] = [
 ];
 
 /// The flags of `table`.
-const TABLE_FLAGS: [(&str, &str); 2] = [
+const TABLE_FLAGS: [(&str, &str); 3] = [
     ("json", "Write each row as a JSON object, one a line"),
     ("no-header", "Leave out the line of the columns' names"),
+    ("pictures", "Add a column: a checksum of the picture"),
 ];
 
 fn file_command<'a>(
@@ -334,6 +384,30 @@ fn number<'a>(alloc: Global, name: &'a str, numbers: ValueParser<'a>, help: &'a 
         .help(help)
 }
 
+/// `--output PATH`, or `-o PATH`.
+fn output<'a>(alloc: Global) -> Arg<'a>
+    ensures rule { rule_of result ≡ output_rule }
+    ensures local { result.global ≡ false }
+{
+    Arg::new(alloc, "output")
+        .short('o')
+        .long("output")
+        .value_name("PATH")
+        .help(OUTPUT)
+}
+
+/// With the options that say how files are written.
+fn with_writing<'a>(
+    alloc: Global,
+    command: clap::Command<'a>,
+) -> Result<clap::Command<'a>, AllocError>
+    ensures { IfOk result (λ c. app_of c ≡ with_writing (app_of command.entry)) }
+{
+    let in_place = flag(alloc, "in-place", IN_PLACE, false).short('i');
+    let dry_run = flag(alloc, "dry-run", DRY_RUN, false).short('n');
+    command.arg(output(alloc))?.arg(in_place)?.arg(dry_run)
+}
+
 fn with_flags<'a>(
     alloc: Global,
     mut command: clap::Command<'a>,
@@ -380,11 +454,13 @@ fn show_command<'a>(alloc: Global) -> Result<clap::Command<'a>, AllocError>
     with_flags(alloc, command, &PART_FLAGS, true)
 }
 
-/// `mend [FILE]` with the flag that names no change.
+/// `mend [FILE]..` with the options that name no change.
 fn suggested_command<'a>(alloc: Global) -> Result<clap::Command<'a>, AllocError>
-    ensures { IfOk result (λ c. app_of c ≡ with_rule (file_app (codes "mend")) (flag_rule (codes "suggested"))) }
+    ensures { IfOk result (λ c. app_of c
+        ≡ with_rule (with_writing (files_app (codes "mend"))) (flag_rule (codes "suggested"))) }
 {
-    let command = file_command(alloc, "mend", MEND, MEND_END)?;
+    let command = files_command(alloc, "mend", MEND, MEND_END, FILES)?;
+    let command = with_writing(alloc, command)?;
     command.arg(flag(alloc, "suggested", SUGGESTED, false))
 }
 
@@ -409,14 +485,21 @@ fn mend_command<'a>(alloc: Global) -> Result<clap::Command<'a>, AllocError>
     command.arg(lines)?.arg(columns)?.arg(add_record)
 }
 
-/// The help of the files of `why`.
-const WHY_FILES: &str = "The files to read; - or none is standard input";
+fn redraw_command<'a>(alloc: Global) -> Result<clap::Command<'a>, AllocError>
+    ensures { IfOk result (λ c. app_of c ≡ command_app Redraw) }
+{
+    let command = files_command(alloc, "redraw", REDRAW, REDRAW_END, FILES)?;
+    with_writing(alloc, command)
+}
+
+/// The help of the files of `why`, of `mend` and of `redraw`.
+const FILES: &str = "The files to read; - or none is standard input";
 
 /// The help of the files of `table`.
 const TABLE_FILES: &str = "The files; without any, names from standard input, ended by 00h";
 
 fn table_command<'a>(alloc: Global) -> Result<clap::Command<'a>, AllocError>
-    ensures { IfOk result (λ c. app_of c ≡ command_app (Table Headed)) }
+    ensures { IfOk result (λ c. app_of c ≡ command_app (Table headed_table)) }
 {
     let command = files_command(alloc, "table", TABLE, TABLE_END, TABLE_FILES)?;
     with_flags(alloc, command, &TABLE_FLAGS, false)
@@ -426,9 +509,9 @@ fn subcommand<'a>(alloc: Global, command: Command) -> Result<clap::Command<'a>, 
     ensures { IfOk result (λ c. app_of c ≡ command_app command) }
 {
     match command {
-        Command::Why => files_command(alloc, "why", WHY, WHY_END, WHY_FILES),
+        Command::Why => files_command(alloc, "why", WHY, WHY_END, FILES),
         Command::Mend(_) => mend_command(alloc),
-        Command::Redraw => file_command(alloc, "redraw", REDRAW, REDRAW_END),
+        Command::Redraw => redraw_command(alloc),
         Command::Needs => file_command(alloc, "needs", NEEDS, NEEDS_END),
         Command::Check => check_command(alloc),
         Command::Show(_) => show_command(alloc),
@@ -516,6 +599,16 @@ fn table_form_asked(matches: &ArgMatches<'_>) -> TableForm
     }
 }
 
+/// What a table is asked to be.
+fn table_choice_asked(matches: &ArgMatches<'_>) -> TableChoice
+    ensures { result ≡ table_choice_asked (rows_of (found_of matches.now)) }
+{
+    TableChoice {
+        form: table_form_asked(matches),
+        pictures: holds(matches, "pictures"),
+    }
+}
+
 /// The number that an option is given.
 fn number_asked(matches: &ArgMatches<'_>, id: &str) -> Option<u16>
     requires { HasNumberUpTo 65535 id.now (rows_of (found_of matches.now)) }
@@ -586,13 +679,10 @@ fn choice_asked(matches: &ArgMatches<'_>) -> MendChoice
     ensures is { result ≡ choice_asked (rows_of (found_of matches.now)) }
     ensures range { IsInRange result }
 {
-    if !holds(matches, "suggested") {
-        return MendChoice::Flags(mends_asked(matches));
-    }
-    if names_changes(matches) {
-        MendChoice::Both
-    } else {
+    if holds(matches, "suggested") {
         MendChoice::Suggested
+    } else {
+        MendChoice::Flags(mends_asked(matches))
     }
 }
 
@@ -600,14 +690,12 @@ fn choice_asked(matches: &ArgMatches<'_>) -> MendChoice
 fn in_form_asked(command: Command, matches: &ArgMatches<'_>) -> Command
     requires { HasNumbersOfMend (rows_of (found_of matches.now)) }
     ensures name { command_name result ≡ command_name command }
-    ensures table { takes_files result ≡ takes_files command }
-    ensures mend { is_mend result ≡ is_mend command }
-    ensures redraw { is_redraw result ≡ is_redraw command }
+    ensures files { takes_files result ≡ takes_files command }
     ensures form { IsInFormAsked result (rows_of (found_of matches.now)) }
 {
     match command {
         Command::Show(_) => Command::Show(form_asked(matches)),
-        Command::Table(_) => Command::Table(table_form_asked(matches)),
+        Command::Table(_) => Command::Table(table_choice_asked(matches)),
         Command::Mend(_) => Command::Mend(choice_asked(matches)),
         _ => command,
     }
@@ -649,32 +737,31 @@ fn start_asked(command: Command, matches: &ArgMatches<'_>) -> Start
     }
 }
 
-fn file_of(alloc: Global, matches: &ArgMatches<'_>) -> Result<Option<String>, WordsError>
+/// The text that an option or `[FILE]` is given.
+fn text_given(
+    alloc: Global,
+    matches: &ArgMatches<'_>,
+    id: &str,
+) -> Result<Option<String>, WordsError>
     ensures memory { IfErr result (λ e. e ≡ WordsError.Memory) }
-    ensures ok { IfOk result (λ f.
-        option_map string_bytes f ≡ first_of (codes "file") (rows_of (found_of matches.now))) }
+    ensures ok { IfOk result (λ t. option_map string_bytes t ≡ first_of id.now (rows_of (found_of matches.now))) }
 {
-    match matches.get_str("file") {
+    match matches.get_str(id) {
         Some(text) => match String::from_str(alloc, text) {
-            Ok(file) => Ok(Some(file)),
+            Ok(text) => Ok(Some(text)),
             Err(_) => Err(WordsError::Memory),
         },
         None => Ok(None),
     }
 }
 
+/// The options of a command that is in the form asked for.
 fn options_of(command: Command, matches: &ArgMatches<'_>) -> Options
-    requires { HasNumbersOfMend (rows_of (found_of matches.now)) }
-    ensures name { command_name result.command ≡ command_name command }
-    ensures files { takes_files result.command ≡ takes_files command }
-    ensures mend { is_mend result.command ≡ is_mend command }
-    ensures redraw { is_redraw result.command ≡ is_redraw command }
-    ensures form { IsInFormAsked result.command (rows_of (found_of matches.now)) }
-    ensures start { result.start ≡ start_asked result.command (rows_of (found_of matches.now)) }
+    ensures command { result.command ≡ command }
+    ensures start { result.start ≡ start_asked command (rows_of (found_of matches.now)) }
     ensures cells { IsTrue result.cells
         ↔ IsTrue (holds_flag (codes "cells") (rows_of (found_of matches.now))) }
 {
-    let command = in_form_asked(command, matches);
     Options {
         command,
         start: start_asked(command, matches),
@@ -705,6 +792,158 @@ fn files_of(alloc: Global, matches: &ArgMatches<'_>) -> Result<Vec<String>, Word
     }
 }
 
+/// Whether standard input is among the files: `-` is one of them.
+fn names_input(names: &[String]) -> bool
+    ensures { result ≡ names_input (map string_bytes names.now) }
+{
+    for name in names {
+        if name.as_str() == "-" {
+            return true;
+        }
+    }
+    false
+}
+
+/// Whether standard input is read: it is among the files, or there are none.
+fn reads_input(names: &[String]) -> bool
+    ensures { result ≡ reads_input (map string_bytes names.now) }
+{
+    names.is_empty() || names_input(names)
+}
+
+/// Whether a PATH is that of a folder.
+fn is_folder(path: &str) -> bool
+    ensures { result ≡ is_folder path.now }
+{
+    path.as_bytes().ends_with(b"/")
+}
+
+/// The PATH of `--output`, or nothing if it is not given.
+fn path_given<'a>(matches: &ArgMatches<'a>) -> &'a str
+    ensures { result.now ≡ path_given (rows_of (found_of matches.now)) }
+{
+    matches.get_str("output").unwrap_or("")
+}
+
+/// Whether the matches make a mistake, whatever others they make.
+fn makes(mistake: Mistake, matches: &ArgMatches<'_>, names: &[String]) -> bool
+    requires { map string_bytes names.now ≡ files_of (rows_of (found_of matches.now)) }
+    ensures { result ≡ makes mistake (rows_of (found_of matches.now)) }
+{
+    let has_output = is_given(matches, "output");
+    let path = path_given(matches);
+    let are_several = names.len() >= 2;
+    match mistake {
+        Mistake::SuggestedWithChanges => holds(matches, "suggested") && names_changes(matches),
+        Mistake::OutputWithInPlace => has_output && holds(matches, "in-place"),
+        Mistake::EmptyOutput => has_output && path.is_empty(),
+        Mistake::InPlaceOfInput => holds(matches, "in-place") && reads_input(names),
+        Mistake::InputAmong => are_several && names_input(names),
+        Mistake::FolderOfInput => is_folder(path) && reads_input(names),
+        Mistake::SeveralToOne => has_output && !is_folder(path) && are_several,
+        Mistake::SeveralToOutput => {
+            let has_place = has_output || holds(matches, "in-place");
+            !has_place && !holds(matches, "dry-run") && are_several
+        }
+    }
+}
+
+/// The first of these mistakes that the matches make.
+fn first_made(mistakes: &[Mistake], matches: &ArgMatches<'_>, names: &[String]) -> Option<Mistake>
+    requires { map string_bytes names.now ≡ files_of (rows_of (found_of matches.now)) }
+    ensures { result ≡ find (λ m. makes m (rows_of (found_of matches.now))) mistakes.now }
+{
+    for mistake in mistakes {
+        if makes(*mistake, matches, names) {
+            return Some(*mistake);
+        }
+    }
+    None
+}
+
+/// The first mistake that the matches make, in the order of `Mistake::EACH`.
+fn first_mistake(matches: &ArgMatches<'_>, names: &[String]) -> Option<Mistake>
+    requires { map string_bytes names.now ≡ files_of (rows_of (found_of matches.now)) }
+    ensures { result ≡ first_mistake (rows_of (found_of matches.now)) }
+{
+    first_made(&Mistake::EACH, matches, names)
+}
+
+/// Where files go that are mended or redrawn.
+fn target_asked(alloc: Global, matches: &ArgMatches<'_>) -> Result<Target, WordsError>
+    ensures memory { IfErr result (λ e. e ≡ WordsError.Memory) }
+    ensures ok { IfOk result (IsTargetAsked (rows_of (found_of matches.now))) }
+{
+    if holds(matches, "in-place") {
+        return Ok(Target::InPlace);
+    }
+    match text_given(alloc, matches, "output")? {
+        Some(path) if path.as_str() != "-" => Ok(Target::Path(path)),
+        _ => Ok(Target::Output),
+    }
+}
+
+/// How files are written that are mended or redrawn.
+fn writing_asked(alloc: Global, matches: &ArgMatches<'_>) -> Result<Writing, WordsError>
+    ensures memory { IfErr result (λ e. e ≡ WordsError.Memory) }
+    ensures ok { IfOk result (IsWritingAsked (rows_of (found_of matches.now))) }
+{
+    let target = target_asked(alloc, matches)?;
+    Ok(Writing {
+        target,
+        is_dry: holds(matches, "dry-run"),
+    })
+}
+
+/// What is asked of `mend`.
+fn mending(alloc: Global, choice: MendChoice, matches: &ArgMatches<'_>) -> Result<Asked, WordsError>
+    requires { IsInFormAsked (Mend choice) (rows_of (found_of matches.now)) }
+    ensures memory { IfErr result (λ e. e ≡ WordsError.Memory) }
+    ensures ok { IfOk result (λ a. AsksAs a (command_name (Mend choice), rows_of (found_of matches.now))) }
+{
+    let names = files_of(alloc, matches)?;
+    if let Some(mistake) = first_mistake(matches, names.as_slice()) {
+        return Ok(Asked::Mistaken(Command::Mend(choice), mistake));
+    }
+    let writing = writing_asked(alloc, matches)?;
+    Ok(Asked::Mend(choice, writing, names))
+}
+
+/// What is asked of `redraw`.
+fn redrawing(alloc: Global, matches: &ArgMatches<'_>) -> Result<Asked, WordsError>
+    ensures memory { IfErr result (λ e. e ≡ WordsError.Memory) }
+    ensures ok { IfOk result (λ a. AsksAs a (command_name Redraw, rows_of (found_of matches.now))) }
+{
+    let names = files_of(alloc, matches)?;
+    if let Some(mistake) = first_mistake(matches, names.as_slice()) {
+        return Ok(Asked::Mistaken(Command::Redraw, mistake));
+    }
+    let writing = writing_asked(alloc, matches)?;
+    Ok(Asked::Redraw(writing, names))
+}
+
+/// What is asked of a command by its matches.
+fn read_command(
+    alloc: Global,
+    command: Command,
+    matches: &ArgMatches<'_>,
+) -> Result<Asked, WordsError>
+    requires { IsInFormAsked command (rows_of (found_of matches.now)) }
+    ensures memory { IfErr result (λ e. e ≡ WordsError.Memory) }
+    ensures ok { IfOk result (λ a. AsksAs a (command_name command, rows_of (found_of matches.now))) }
+{
+    match command {
+        Command::Why => Ok(Asked::Why(files_of(alloc, matches)?)),
+        Command::Table(choice) => Ok(Asked::Table(choice, files_of(alloc, matches)?)),
+        Command::Mend(choice) => mending(alloc, choice, matches),
+        Command::Redraw => redrawing(alloc, matches),
+        _ => {
+            let file = text_given(alloc, matches, "file")?;
+            Ok(Asked::One(options_of(command, matches), file))
+        }
+    }
+}
+
 fn read_matches(alloc: Global, matches: &ArgMatches<'_>) -> Result<Asked, WordsError>
     requires command { IsSomeAnd (subcommand_rows_of matches.now) IsCommand }
     requires numbers { IsSomeAnd (subcommand_rows_of matches.now) (λ sub. HasNumbersOfMend sub.1) }
@@ -717,20 +956,7 @@ fn read_matches(alloc: Global, matches: &ArgMatches<'_>) -> Result<Asked, WordsE
     let Some(command) = command_named(name) else {
         unreachable!()
     };
-    if let Command::Table(_) = command {
-        let names = files_of(alloc, found)?;
-        return Ok(Asked::Table(table_form_asked(found), names));
-    }
-    if let Command::Why = command {
-        let names = files_of(alloc, found)?;
-        return Ok(Asked::Why(names));
-    }
-    let file = file_of(alloc, found)?;
-    match command {
-        Command::Mend(_) => Ok(Asked::Mend(choice_asked(found), file)),
-        Command::Redraw => Ok(Asked::Redraw(file)),
-        _ => Ok(Asked::One(options_of(command, found), file)),
-    }
+    read_command(alloc, in_form_asked(command, found), found)
 }
 
 fn words_for_help<'a>(
@@ -746,8 +972,9 @@ fn words_for_help<'a>(
             Vec::from_slice(alloc, &[program, "--", name])
         }
         [command] => Vec::from_slice(alloc, &[program, command, "--help"]),
-        ["why", word, ..] => Vec::from_slice(alloc, &[program, "--", word]),
-        ["table", word, ..] => Vec::from_slice(alloc, &[program, "--", word]),
+        ["why" | "mend" | "redraw" | "table", word, ..] => {
+            Vec::from_slice(alloc, &[program, "--", word])
+        }
         [command, word, ..] => Vec::from_slice(alloc, &[program, command, "--", command, word]),
     }
 }
@@ -839,8 +1066,8 @@ pub fn near_command(alloc: Global, word: &str) -> Result<Option<Command>, AllocE
     }
 }
 
-/// Reads the program's words, its own name first: `anscheck why [FILE]..`, `anscheck mend` with its flags and
-/// `[FILE]`, `anscheck redraw [FILE]`, `anscheck needs [FILE]`, `anscheck check` or `anscheck show` with its
+/// Reads the program's words, its own name first: `anscheck why [FILE]..`, `anscheck mend` or `anscheck redraw` with
+/// its flags and `[FILE]..`, `anscheck needs [FILE]`, `anscheck check` or `anscheck show` with its
 /// flags and `[FILE]`, `anscheck sauce [FILE]`, `anscheck tokens [FILE]`, or `anscheck table` with its flags
 /// and `[FILE]..`. `anscheck FILE..` is `anscheck why FILE..`: a first word that is no command, is not `help` and
 /// does not begin with `-` names a file, and `why` is put before it. A file with the name of a command is given
@@ -849,10 +1076,15 @@ pub fn near_command(alloc: Global, word: &str) -> Result<Option<Command>, AllocE
 /// is. With `show` all are known, too, if neither such a flag nor `--any` is given; with `check` `--any`
 /// changes nothing. Cells are asked for if `--cells` is given. A picture comes as a page if `--html`
 /// is, else in a VGA's colours if `--vga` is. A table's rows are JSON if `--json` is given, and else
-/// have a line of names above them unless `--no-header` is. With the other commands nothing is known. What
-/// may be changed to mend is what the flags of `mend` name, or what the drawing's findings call for if `--suggested` is
-/// given; if both are given, the choice is `Both`. `--add-record` and `--columns` have a number from 1 to
-/// 1024, and `--lines` one from 1 to 8192, if they are given.
+/// have a line of names above them unless `--no-header` is; `--pictures` asks for checksums of the pictures. With
+/// the other commands nothing is known. What may be changed to mend is what the
+/// flags of `mend` name, or what the drawing's findings call for if `--suggested` is given. `--add-record` and
+/// `--columns` have a number from 1 to 1024, and `--lines` one from 1 to 8192, if they are given.
+///
+/// What `mend` and `redraw` write goes over its input with `-i` (`--in-place`), to PATH with `-o PATH` (`--output`),
+/// and else, or if PATH is `-`, to standard output; with `-n` (`--dry-run`) nothing is written. Words that contradict
+/// themselves there, or do not say where files go, are `Mistaken`, with the first [`Mistake`] in the order of its
+/// variants.
 ///
 /// `help` with the name of a fault, a note or a word only, as `anscheck help F20`, asks for its meaning. These
 /// words are found before `clap` reads any, need no memory, and never fail. Other words `clap` reads.
@@ -880,8 +1112,9 @@ pub fn asked(alloc: Global, words: &[&str]) -> Result<Asked, WordsError>
 
 /// Reads the options and the file from the program's words, as [`asked`] does, and fails as it does. It reads the
 /// words as they are, and puts no `why` before a file's name.
-/// The file's name comes as it is given, `-` too. Of `why` and of a table only the options come, and no name. Words
-/// that ask what a fault, a note or a word means have no options: of them comes what `clap` says, which knows no such
+/// The file's name comes as it is given, `-` too. Of a command that takes any number of files only the options come,
+/// and no name; also by words that make a [`Mistake`], and then the choice of `mend` is `Suggested` if `--suggested` is
+/// given. Words that ask what a fault, a note or a word means have no options: of them comes what `clap` says, which knows no such
 /// help.
 pub fn options(alloc: Global, words: &[&str]) -> Result<(Options, Option<String>), WordsError>
     ensures ok { IfOk result (λ r.
@@ -895,9 +1128,10 @@ pub fn options(alloc: Global, words: &[&str]) -> Result<(Options, Option<String>
     match read_words(alloc, words)? {
         Asked::One(options, file) => Ok((options, file)),
         Asked::Why(_) => Ok((Options::WHY, None)),
-        Asked::Table(form, _) => Ok((Options::of_table(form), None)),
-        Asked::Mend(choice, file) => Ok((Options::of_mend(choice), file)),
-        Asked::Redraw(file) => Ok((Options::of_redraw(), file)),
+        Asked::Table(choice, _) => Ok((Options::plain(Command::Table(choice)), None)),
+        Asked::Mend(choice, _, _) => Ok((Options::plain(Command::Mend(choice)), None)),
+        Asked::Redraw(_, _) => Ok((Options::plain(Command::Redraw), None)),
+        Asked::Mistaken(command, _) => Ok((Options::plain(command), None)),
         Asked::Meaning(_) => unreachable!(),
     }
 }

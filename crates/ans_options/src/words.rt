@@ -45,7 +45,7 @@ cleared, and may show something else otherwise. A viewer of files begins with
 such a screen; a terminal mostly does not.
 
 This makes it pass whatever was on the screen before:
-  anscheck mend FILE > FIXED
+  anscheck mend FILE -o FIXED
 ",
     ),
     (
@@ -96,7 +96,7 @@ cleared screen they are blank and black; on another one the old text shows.
 
 To clear the screen first, write ESC[2J at the beginning, after the colours.
 This does it:
-  anscheck mend FILE > FIXED
+  anscheck mend FILE -o FIXED
 ",
     ),
     (
@@ -107,7 +107,7 @@ cursor: where the cursor is
 As a part of the start: a drawing that needs it prints before it has placed the
 cursor. If the cursor is not at the top left, the picture moves. ESC[H at the
 beginning, after ESC[2J, places it. This does it:
-  anscheck mend FILE > FIXED
+  anscheck mend FILE -o FIXED
 
 As a line of 'why', for a drawing that is refused: the row and the column of
 the cursor just before the fault, from a cleared screen. Both count from 1.
@@ -122,7 +122,7 @@ A drawing that needs this part uses ESC[u, which goes back to the saved cursor,
 before it has used ESC[s, which saves it.
 
 ESC[s at the beginning, after ESC[H, saves the top left. This does it:
-  anscheck mend FILE > FIXED
+  anscheck mend FILE -o FIXED
 ",
     ),
     (
@@ -134,7 +134,7 @@ A drawing that needs this part prints or clears before it has set its colours,
 and takes on those that were set before it.
 
 ESC[0;37;40m at the beginning sets white on black. This does it:
-  anscheck mend FILE > FIXED
+  anscheck mend FILE -o FIXED
 ",
     ),
     (
@@ -147,7 +147,7 @@ switched wrap on. With wrap off the cursor stays there, and what is printed
 overprints the last column.
 
 ESC[?7h at the beginning switches it on. This does it:
-  anscheck mend FILE > FIXED
+  anscheck mend FILE -o FIXED
 ",
     ),
     (
@@ -203,7 +203,7 @@ players: whether the drawing looks the same in other programs than ANSI.SYS
 
 A line 'players differ:' has the first place of each, and how often it comes.
 'anscheck help differences' lists the words. This avoids all but the last two:
-  anscheck redraw FILE > REDRAWN
+  anscheck redraw FILE -o REDRAWN
 ",
     ),
     (
@@ -260,13 +260,12 @@ See 'anscheck help taller'.
         "\
 fix: the command that makes the drawing pass whatever was on the screen before
 
-It writes a copy; give it another name, since the shell empties a file before
-it is read:
-  anscheck mend FILE > FIXED
+It writes a copy beside the file, with -fixed in its name:
+  anscheck mend FILE -o FIXED
 The copy begins with ESC[?7h ESC[0;37;40m ESC[2J ESC[H ESC[s, and its picture
-is the one on a cleared screen. Of a refused drawing the line has the flags that
-its findings call for. It is there only if a copy is written with them; else see
-the hints of 'why' (anscheck help hints).
+is the one on a cleared screen. Of a refused drawing the line has the flags
+that its findings call for. It is there only if a copy is written with them;
+else see the hints of 'why' (anscheck help hints).
 ",
     ),
     (
@@ -284,9 +283,9 @@ It says what the fault means, its usual causes, and what to do by hand.
 everywhere: the command after which all players show the picture
 
 A line of 'why', if players differ and the drawing passes on a cleared screen:
-  anscheck mend --name-colours FILE > FIXED
+  anscheck mend --name-colours FILE -o FIXED
 if they differ only in own-colours, and else
-  anscheck redraw FILE > REDRAWN
+  anscheck redraw FILE -o REDRAWN
 which writes the picture again from scratch; an animation becomes still.
 ",
     ),
@@ -362,9 +361,11 @@ is: what the bytes are known as at which the drawing is refused
   ANSI music, a font selection, a reassigned key, a 24-bit colour, a screen
   mode of DOS, the switch for bright backgrounds,
   the switch that hides or shows the cursor:
-    anscheck mend --take-out FILE > FIXED
-  comments that the record does not count, or an older record:
-    anscheck mend --record FILE > FIXED
+    anscheck mend --take-out FILE -o FIXED
+  comments that the record does not count, or an older record directly after
+  the first end mark, with nothing but its own rest after it:
+    anscheck mend --record FILE -o FIXED
+  an older record that this leaves     delete it
   another drawing                      split it after the first record
   an arrow in the drawing              use another character, such as '>'
   a sequence of modern terminals       write what the line says
@@ -381,20 +382,20 @@ belongs in the record, and bright backgrounds in its non-blink flag.
         "\
 hints: what is worth a look; no hint changes the verdict
 
-  bare line feeds            anscheck mend --crlf FILE > FIXED
-  a line end after full rows anscheck mend --join-rows FILE > FIXED
+  bare line feeds            anscheck mend --crlf FILE -o FIXED
+  a line end after full rows anscheck mend --join-rows FILE -o FIXED
                              (each with --mixed if only some need it)
   rows wider than the screen,
-  another width              anscheck mend --columns N FILE > FIXED; with no
-                             record, --add-record N
-  columns and lines          anscheck mend --columns N --lines N FILE > FIXED
+  another width              anscheck mend --columns N FILE -o FIXED; without
+                             a record, --add-record N
+  columns and lines          anscheck mend --columns N --lines N FILE -o FIXED
   exchanged
   wrap is off                write ESC[?7h, or shorten the row
   UTF-8, Latin-1             convert the text to code page 437
   bulletin-board codes       save it with colour sequences, such as ESC[0;36m
   modern colours             use the 16 of DOS: 30 to 37, 40 to 47, 1 and 5
   modern off switches        write ESC[0m and the colours that stay
-  characters blink           leave it, or anscheck mend --ice FILE > FIXED
+  characters blink           leave it, or anscheck mend --ice FILE -o FIXED
   dark grey on black         leave it, or use a lighter colour
   the font                   leave it, or use characters that all fonts share
   the last lines are empty   leave it, or state fewer lines
@@ -420,8 +421,8 @@ lines: how many lines the drawing has
 As a line of 'why': the smallest number with which a refused drawing passes on
 a cleared screen. 'but the rows look broken' means that more lines would keep a
 picture that nobody meant: see to the hints first. If the picture is right:
-  anscheck mend --least-lines FILE > FIXED
-  anscheck mend --lines 25 FILE > FIXED
+  anscheck mend --least-lines FILE -o FIXED
+  anscheck mend --lines 25 FILE -o FIXED
 The first sets the smallest number, the second 25, each only if the record has
 too few or none. In 'table': the number that the record states, 0 for none.
 ",
@@ -435,7 +436,7 @@ pub(crate) static FIXES: [WordRow; 13] = [
         "\
 least-lines: set the smallest number of lines that works
 
-  anscheck mend --least-lines FILE > FIXED
+  anscheck mend --least-lines FILE -o FIXED
 Only if the record has too few lines or none, and not if the rows look broken.
 See 'anscheck help lines'.
 ",
@@ -473,8 +474,10 @@ title, author, group and date. Offsets in it count from 0: byte 96 is the first
 of the width. 'anscheck sauce FILE' prints it.
 
 This sets the number of comments to those that there are, if only one number is
-possible, and removes an older record before it:
-  anscheck mend --record FILE > FIXED
+possible, and removes an older record directly after the first end mark, if
+nothing but its own rest follows it:
+  anscheck mend --record FILE -o FIXED
+An older record that this leaves is to be deleted by hand.
 ",
     ),
     (
@@ -506,7 +509,7 @@ once. 'anscheck help crlf' and so on explain each of them.
         "\
 suggested: make the changes that the line fix: of 'why' names
 
-  anscheck mend --suggested FILE > FIXED
+  anscheck mend --suggested FILE -o FIXED
 is 'anscheck mend' with the flags of that line. If 'why' has no such line, or
 one without flags, it is 'anscheck mend' without flags. A flag that asks for a
 change cannot be given with it.
@@ -526,11 +529,12 @@ take-out: remove sequences for which the drawing is refused
   ESC[5n ESC[6n ESC[c   questions to the terminal
   a reassigned key      with all between its quotes
   the last sequence     if it is unfinished and there is no quote in it
-  at the very end       line ends, bytes 00h, places, colours and modes, as few
-                        as must go
+  at the very end       line ends, bytes 00h, and at most 8 sequences: places
+                        (H, f), modes (h, l), colours (m), the cursor saved
+                        or restored (ESC[s, ESC[u); as few as must go
 
 All other sequences stay, and the drawing stays refused for them:
-  anscheck mend --take-out FILE > FIXED
+  anscheck mend --take-out FILE -o FIXED
 ",
     ),
     (
@@ -539,7 +543,7 @@ All other sequences stay, and the drawing stays refused for them:
 crlf: add a carriage return before each line feed, if the drawing has none
 
 For a drawing with Unix line ends, whose rows make a staircase:
-  anscheck mend --crlf FILE > FIXED
+  anscheck mend --crlf FILE -o FIXED
 If it has a carriage return anywhere, nothing is added, unless --mixed is given
 too. Together with --take-out use it only once: it may add more if the last
 return was removed.
@@ -552,7 +556,7 @@ join-rows: remove the line end after each full row
 
 For a drawing whose full rows leave a blank row each, since they wrap and then
 have a line end:
-  anscheck mend --join-rows FILE > FIXED
+  anscheck mend --join-rows FILE -o FIXED
 It works if every full row that something is printed after has a line end, and
 there are two such rows; with --mixed one such row is enough. Use it only once:
 a second time it may remove a blank row that was meant.
@@ -563,8 +567,8 @@ a second time it may remove a blank row that was meant.
         "\
 mixed: let --crlf and --join-rows change a drawing in which only some need it
 
-  anscheck mend --crlf --mixed FILE > FIXED
-  anscheck mend --join-rows --mixed FILE > FIXED
+  anscheck mend --crlf --mixed FILE -o FIXED
+  anscheck mend --join-rows --mixed FILE -o FIXED
 The first adds a return before each line feed that has none, even if others
 have one. The second removes the line ends after full rows, even if other full
 rows have none. Look at the picture: what some rows lack may be meant.
@@ -578,7 +582,7 @@ name-colours: name white and black after each 0 that is printed in
 In a terminal ESC[0m sets the terminal's own colours, which a theme changes;
 37 and 40 are the white and the black of ANSI.SYS. This adds them where it
 matters:
-  anscheck mend --name-colours FILE > FIXED
+  anscheck mend --name-colours FILE -o FIXED
 'why' does not name own-colours of it any more.
 ",
     ),
@@ -587,7 +591,7 @@ matters:
         "\
 add-record: add a SAUCE record for N columns to a drawing that has none
 
-  anscheck mend --add-record 80 FILE > FIXED
+  anscheck mend --add-record 80 FILE -o FIXED
 Its texts are empty. Its lines are those of --lines N, or else the smallest
 number that works. A record that is there stays as it is; --columns N sets its
 width. None is added if SAUCE00 appears in the file, which is usually a record
@@ -747,7 +751,7 @@ own: xterm shows black on white. If this is the only word, the drawing looks
 the same in every player of the family in named colours.
 
 Write ESC[0;37;40m for ESC[0m. This does it:
-  anscheck mend --name-colours FILE > FIXED
+  anscheck mend --name-colours FILE -o FIXED
 ",
     ),
 ];
@@ -778,7 +782,7 @@ columns: what 'table' writes of each file
 
 'mend --columns N' sets the width of the record to N, 1 to 1024: for a drawing
 that was made for another width. The lines are then those for that width:
-  anscheck mend --columns 132 --least-lines FILE > FIXED
+  anscheck mend --columns 132 --least-lines FILE -o FIXED
 ",
     ),
     (

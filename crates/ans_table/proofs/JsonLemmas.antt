@@ -27,8 +27,9 @@ use Rattle.ans_table.specs.Findings.{Finding, RowFinding, parts_of, sauce_of}
 use Rattle.ans_table.specs.NameText.{name_text}
 use Rattle.ans_table.specs.Columns.{by_pair}
 use Rattle.ans_table.specs.JsonRow.{Adds, Entries, Named, aspect_values, comments_from, content_values, count}
-use Rattle.ans_table.specs.JsonRow.{fault_values, field_values, flag_values, found_values, parts_values}
-use Rattle.ans_table.specs.JsonRow.{players_values, record_values, row_data, row_values, spacing_values, taller_values}
+use Rattle.ans_table.specs.JsonRow.{fault_values, field_values, flag_values, found_values, further_values, parts_values}
+use Rattle.ans_table.specs.JsonRow.{players_values, record_values, row_data, row_values, shown_values, spacing_values}
+use Rattle.ans_table.specs.JsonRow.{taller_values}
 use Rattle.ans_table.specs.JsonRow.{text_list, verdict_values, with_values}
 
 -- no float, and at most lists
@@ -199,27 +200,41 @@ flat_record (Some sauce) = (
 )
 flat_record None = tt
 
-flat_row : (name : List ℕ) (finding : RowFinding) → AllFlat (row_values name finding)
-flat_row name finding =
-    let file : List Named = (codes "file", string (name_text name)) ∷ [] in
-    flat_append (verdict_values finding)
-    (content_values (parts_of finding) ++ (record_values (sauce_of finding) ++ file))
-    (flat_verdict finding)
-    (flat_append (content_values (parts_of finding)) (record_values (sauce_of finding) ++ file)
-    (flat_content (parts_of finding))
-    (flat_append (record_values (sauce_of finding)) file (flat_record (sauce_of finding))
-    (simple (string (name_text name)) refl (omega arith), tt)))
+flat_shown : (name : List ℕ) (text : Option (List ℕ)) → AllFlat (shown_values name text)
+flat_shown name (Some text) = (simple _ refl (omega arith), tt)
+flat_shown name None = tt
 
-flat_members : (name : List ℕ) (finding : RowFinding) → AreFlat (with_values (row_values name finding) no_members)
-flat_members name finding =
-    flat_with (row_values name finding) no_members (flat_row name finding)
+flat_further : (fix picture : Option (List ℕ)) → AllFlat (further_values fix picture)
+flat_further fix picture =
+    flat_append (shown_values (codes "fix") fix) (shown_values (codes "picture") picture)
+    (flat_shown (codes "fix") fix) (flat_shown (codes "picture") picture)
+
+flat_row : (name : List ℕ) (finding : RowFinding) (fix picture : Option (List ℕ))
+    → AllFlat (row_values name finding fix picture)
+flat_row name finding fix picture =
+    let file : List Named = (codes "file", string (name_text name)) ∷ [] in
+    let further = further_values fix picture in
+    flat_append (verdict_values finding)
+    (content_values (parts_of finding) ++ (record_values (sauce_of finding) ++ (further ++ file)))
+    (flat_verdict finding)
+    (flat_append (content_values (parts_of finding)) (record_values (sauce_of finding) ++ (further ++ file))
+    (flat_content (parts_of finding))
+    (flat_append (record_values (sauce_of finding)) (further ++ file) (flat_record (sauce_of finding))
+    (flat_append further file (flat_further fix picture) (simple (string (name_text name)) refl (omega arith), tt))))
+
+flat_members : (name : List ℕ) (finding : RowFinding) (fix picture : Option (List ℕ))
+    → AreFlat (with_values (row_values name finding fix picture) no_members)
+flat_members name finding fix picture =
+    flat_with (row_values name finding fix picture) no_members (flat_row name finding fix picture)
     (record { float = refl; nests = omega arith })
 
-pub row_float : (name : List ℕ) (finding : RowFinding) → has_float (row_data name finding) ≡ false
-row_float name finding = (flat_members name finding).float
+pub row_float : (name : List ℕ) (finding : RowFinding) (fix picture : Option (List ℕ))
+    → has_float (row_data name finding fix picture) ≡ false
+row_float name finding fix picture = (flat_members name finding fix picture).float
 
-pub row_nests : (name : List ℕ) (finding : RowFinding) → depth (row_data name finding) ≤ max_depth
-row_nests name finding = omega (arith, (flat_members name finding).nests)
+pub row_nests : (name : List ℕ) (finding : RowFinding) (fix picture : Option (List ℕ))
+    → depth (row_data name finding fix picture) ≤ max_depth
+row_nests name finding fix picture = omega (arith, (flat_members name finding fix picture).nests)
 
 -- values after values
 pub with_append : (vs ws : List Named) (ms : Members) → with_values (vs ++ ws) ms ≡ with_values ws (with_values vs ms)
@@ -236,16 +251,19 @@ pub Adds-same : {T E : Type 0} (a b : Entries) (r : Result T E) {vs ws : List Na
 Adds-same a b r e h = rw e at h
 
 -- the members of a row, group after group
-pub row_made : (vs ks rs : List Named) (n : Named) (a b c d e : Members) → a ≡ no_members → b ≡ with_values vs a
-    → c ≡ with_values ks b → d ≡ with_values rs c → e ≡ put n.0 n.1 d
-    → e ≡ with_values (vs ++ (ks ++ (rs ++ n ∷ []))) no_members
-row_made vs ks rs n a b c d e none first second third fourth =
-    fourth
-    ∙ ap (put n.0 n.1) (third ∙ ap (with_values rs) (second ∙ ap (with_values ks) (first ∙ ap (with_values vs) none)))
+pub row_made : (vs ks rs xs : List Named) (n : Named) (a b c d e f : Members) → a ≡ no_members → b ≡ with_values vs a
+    → c ≡ with_values ks b → d ≡ with_values rs c → e ≡ with_values xs d → f ≡ put n.0 n.1 e
+    → f ≡ with_values (vs ++ (ks ++ (rs ++ (xs ++ n ∷ [])))) no_members
+row_made vs ks rs xs n a b c d e f none first second third fourth fifth =
+    fifth
+    ∙ ap (put n.0 n.1)
+    (fourth ∙ ap (with_values xs)
+    (third ∙ ap (with_values rs) (second ∙ ap (with_values ks) (first ∙ ap (with_values vs) none))))
     ∙ sym
-    (with_append vs (ks ++ (rs ++ n ∷ [])) no_members
-    ∙ with_append ks (rs ++ n ∷ []) (with_values vs no_members)
-    ∙ with_append rs (n ∷ []) (with_values ks (with_values vs no_members)))
+    (with_append vs (ks ++ (rs ++ (xs ++ n ∷ []))) no_members
+    ∙ with_append ks (rs ++ (xs ++ n ∷ [])) (with_values vs no_members)
+    ∙ with_append rs (xs ++ n ∷ []) (with_values ks (with_values vs no_members))
+    ∙ with_append xs (n ∷ []) (with_values rs (with_values ks (with_values vs no_members))))
 
 -- one comment more
 pub comment_next : (done : List Data) (i n : ℕ) (bytes : List ℕ) (d : Data) (all : List Data) → i < n

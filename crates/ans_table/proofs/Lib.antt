@@ -1,4 +1,5 @@
 mod LabelLemmas
 mod CountLemmas
 mod NameLemmas
+mod ShellLemmas
 mod JsonLemmas

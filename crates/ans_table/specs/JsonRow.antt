@@ -139,20 +139,30 @@ abbrev pub record_values : Option (List ℕ) → List Named
 record_values (Some sauce) = size_values sauce ++ (flag_values sauce ++ field_values sauce)
 record_values None = []
 
+-- a text under a name, if there is one
+abbrev pub shown_values : List ℕ → Option (List ℕ) → List Named
+shown_values name (Some text) = (name, string (shown_bytes text)) ∷ []
+shown_values name None = []
+
+-- the flags that mend the file, and the checksum of its picture, both of ASCII
+abbrev pub further_values : Option (List ℕ) → Option (List ℕ) → List Named
+further_values fix picture = shown_values (codes "fix") fix ++ shown_values (codes "picture") picture
+
 -- all that is known of a file of this name
-abbrev pub row_values : List ℕ → RowFinding → List Named
-row_values name finding =
+abbrev pub row_values : List ℕ → RowFinding → Option (List ℕ) → Option (List ℕ) → List Named
+row_values name finding fix picture =
     verdict_values finding
     ++ (content_values (parts_of finding)
-    ++ (record_values (sauce_of finding) ++ (codes "file", string (name_text name)) ∷ []))
+    ++ (record_values (sauce_of finding)
+    ++ (further_values fix picture ++ (codes "file", string (name_text name)) ∷ [])))
 
 -- the object of it
-abbrev pub row_data : List ℕ → RowFinding → Data
-row_data name finding = object (with_values (row_values name finding) no_members)
+abbrev pub row_data : List ℕ → RowFinding → Option (List ℕ) → Option (List ℕ) → Data
+row_data name finding fix picture = object (with_values (row_values name finding fix picture) no_members)
 
 -- the text of the object
-abbrev pub json_text : List ℕ → RowFinding → List ℕ
-json_text name finding = compact_text (row_data name finding)
+abbrev pub json_text : List ℕ → RowFinding → Option (List ℕ) → Option (List ℕ) → List ℕ
+json_text name finding fix picture = compact_text (row_data name finding fix picture)
 
 -- the members of an object, as its map holds them
 abbrev pub Entries : Type 0

@@ -3,6 +3,7 @@ pub mod Unopened
 pub mod Findings
 pub mod Columns
 pub mod NameText
+pub mod ShellWord
 pub mod RowText
 pub mod Counting
 pub mod JsonRow

@@ -1,5 +1,5 @@
 -- The lines of a table.
-use Rattle.std.specs.Prelude.{ℕ, List, [], ◌∷◌, ◌++◌, codes}
+use Rattle.std.specs.Prelude.{ℕ, List, [], ◌∷◌, ◌++◌, Option, codes, unwrap_or}
 use Rattle.std.specs.List.{flat_map}
 use Rattle.ans_model.specs.Text.FaultText.{line_of}
 use Rattle.ans_table.specs.Columns.{column, content_columns, record_columns, stated_columns, verdict_columns}
@@ -18,12 +18,24 @@ column_names =
 abbrev pub header_line : List ℕ
 header_line = flat_map column column_names ++ line_of (codes "file")
 
--- the row of a file of this name
-abbrev pub row_line : List ℕ → RowFinding → List ℕ
-row_line name finding =
+-- the same with a column for checksums of pictures
+abbrev pub pictured_header_line : List ℕ
+pictured_header_line = flat_map column column_names ++ (column (codes "file") ++ line_of (codes "picture"))
+
+-- the row of a file of this name, without its end
+abbrev pub row_text : List ℕ → RowFinding → List ℕ
+row_text name finding =
     verdict_columns finding
     ++ (stated_columns (sauce_of finding)
-    ++ (content_columns (parts_of finding) ++ (record_columns (sauce_of finding) ++ line_of (name_text name))))
+    ++ (content_columns (parts_of finding) ++ (record_columns (sauce_of finding) ++ name_text name)))
+
+-- the row of a file of this name
+abbrev pub row_line : List ℕ → RowFinding → List ℕ
+row_line name finding = line_of (row_text name finding)
+
+-- the same with the checksum of its picture, of which there may be none
+abbrev pub pictured_row_line : List ℕ → RowFinding → Option (List ℕ) → List ℕ
+pictured_row_line name finding picture = column (row_text name finding) ++ line_of (unwrap_or picture [])
 
 -- a file's name, and what is found of it or why it was not read
 pub record Row : Type 0 where

@@ -8,7 +8,8 @@ ghost use Rattle.serde_json.specs.View.{view};
 ghost use Rattle.ans_model.specs.Text.Characters.{shown_bytes};
 ghost use Rattle.ans_sauce.specs.RecordBytes.{sauce_bytes};
 ghost use Rattle.ans_table.specs.JsonRow.{Adds, aspect_values, comment_texts, content_values, count};
-ghost use Rattle.ans_table.specs.JsonRow.{fault_values, field_values, flag_values, found_values, json_text};
+ghost use Rattle.ans_table.specs.JsonRow.{fault_values, field_values, flag_values, found_values, further_values};
+ghost use Rattle.ans_table.specs.JsonRow.{json_text, shown_values};
 ghost use Rattle.ans_table.specs.JsonRow.{parts_values, pass_values, players_values};
 ghost use Rattle.ans_table.specs.JsonRow.{record_values, row_data, size_values, spacing_values, taller_values};
 ghost use Rattle.ans_table.specs.JsonRow.{text_list, verdict_values};
@@ -294,24 +295,66 @@ fn put_record(members: &mut Members, alloc: Global, sauce: Option<Record<'_>>) -
     }
 }
 
-fn row_value(alloc: Global, name: &[u8], finding: &RowFinding<'_>) -> Result<Value, AllocError>
-    ensures { IfOk result (λ v. view v ≡ row_data name.now finding.now) }
+/// A member of this name, if there is a text for it.
+fn put_shown(members: &mut Members, alloc: Global, name: &str, text: Option<&[u8]>) -> Added
+    ensures { Adds members.old.entries members.new.entries result
+        (shown_values name.now (option_map (λ t. t.now) text.entry)) }
+{
+    match text {
+        Some(text) => put(members, alloc, name, shown_value(alloc, text)?),
+        None => Ok(()),
+    }
+}
+
+/// The members of the flags that mend the file, and of the checksum of its picture.
+fn put_further(
+    members: &mut Members,
+    alloc: Global,
+    fix: Option<&[u8]>,
+    picture: Option<&[u8]>,
+) -> Added
+    ensures { Adds members.old.entries members.new.entries result
+        (further_values (option_map (λ t. t.now) fix.entry) (option_map (λ t. t.now) picture.entry)) }
+{
+    put_shown(members, alloc, "fix", fix)?;
+    put_shown(members, alloc, "picture", picture)
+}
+
+fn row_value(
+    alloc: Global,
+    name: &[u8],
+    finding: &RowFinding<'_>,
+    fix: Option<&[u8]>,
+    picture: Option<&[u8]>,
+) -> Result<Value, AllocError>
+    ensures { IfOk result (λ v. view v ≡ row_data name.now finding.now (option_map (λ t. t.now) fix.entry)
+        (option_map (λ t. t.now) picture.entry)) }
 {
     let mut members = Map::new(alloc);
     put_verdict(&mut members, alloc, finding)?;
     put_content(&mut members, alloc, parts_of(finding))?;
     put_record(&mut members, alloc, sauce_of(finding))?;
+    put_further(&mut members, alloc, fix, picture)?;
     put(&mut members, alloc, "file", name_value(alloc, name)?)?;
     Ok(Value::Object(members))
 }
 
 /// The row of a file of this name as a JSON object, in one line without its line feed: what is absent
-/// is left out, and the names are in the order of their bytes.
+/// is left out, and the names are in the order of their bytes. `fix` is the flags that mend the file, and
+/// `picture` the checksum of the picture that it shows; both are ASCII.
 ///
 /// `Err` comes if memory for it is refused.
-pub fn json_row(alloc: Global, name: &[u8], finding: &RowFinding<'_>) -> Result<String, AllocError>
-    ensures text { IfOk result (λ s. string_bytes s ≡ json_text name.now finding.now) }
-    ensures reads_back { IfOk result (λ s. read (string_bytes s) ≡ Some (row_data name.now finding.now)) }
+pub fn json_row(
+    alloc: Global,
+    name: &[u8],
+    finding: &RowFinding<'_>,
+    fix: Option<&[u8]>,
+    picture: Option<&[u8]>,
+) -> Result<String, AllocError>
+    ensures text { IfOk result (λ s. string_bytes s ≡ json_text name.now finding.now
+        (option_map (λ t. t.now) fix.entry) (option_map (λ t. t.now) picture.entry)) }
+    ensures reads_back { IfOk result (λ s. read (string_bytes s) ≡ Some (row_data name.now finding.now
+        (option_map (λ t. t.now) fix.entry) (option_map (λ t. t.now) picture.entry))) }
 {
-    row_value(alloc, name, finding)?.to_string(alloc)
+    row_value(alloc, name, finding, fix, picture)?.to_string(alloc)
 }

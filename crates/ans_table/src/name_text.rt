@@ -52,7 +52,7 @@ fn is_shown(character: char) -> bool
 }
 
 /// The length of the character that the bytes begin with, if it is shown as itself; else 0.
-fn wide_size(bytes: &[u8]) -> usize
+pub(crate) fn wide_size(bytes: &[u8]) -> usize
     ensures { result ≡ wide_size bytes.now }
 {
     match decode_utf8(bytes) {

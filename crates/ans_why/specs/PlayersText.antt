@@ -52,9 +52,3 @@ abbrev pub players_lines : Start → Players → List ℕ
 players_lines needs (Any class) = named_line (codes "players") (codes "all") ++ everywhere_line needs class
 players_lines needs (InNamedColours class times) = named_colours_lines needs class times
 players_lines needs (Agreeing used) = agreeing_lines used
-
--- the command that writes a drawing that looks the same everywhere, if kinds are named
-abbrev pub remedy_line : Players → List ℕ
-remedy_line (Any class) = []
-remedy_line (InNamedColours class times) = named_line (codes "everywhere") (codes "anscheck mend --name-colours")
-remedy_line (Agreeing used) = named_line (codes "everywhere") (codes "anscheck redraw")

@@ -31,7 +31,7 @@ use Rattle.ans_why.specs.HintsText.{counted_line, hints_text, pass_hints_text, t
 use Rattle.ans_why.specs.WidthsText.{widths_lines}
 use Rattle.ans_why.specs.Known.{known_behind_end_mark, known_text}
 use Rattle.ans_why.specs.OtherFiles.{first_known, known_file}
-use Rattle.ans_why.specs.PlayersText.{is_same_class, players_lines, remedy_line}
+use Rattle.ans_why.specs.PlayersText.{is_same_class, players_lines}
 use Rattle.ans_sauce.specs.Judged.{is_pass}
 use Rattle.ans_sauce.specs.declared.judged.Judged.TheVariants.{NoContent, Refused, Passes}
 use Rattle.ans_why.specs.Explained.{IsTrueOf, Why}
@@ -82,16 +82,6 @@ shown_lines (Cells low high) =
 abbrev pub reliance_lines : Option Reliance → List ℕ
 reliance_lines None = []
 reliance_lines (Some r) = blamed_line (codes "because") r.fault r.bytes.now ++ shown_lines r.shown
-
--- the command that makes it rely on nothing
-abbrev pub fix_line : Bool → List ℕ
-fix_line true = named_line (codes "fix") (codes "anscheck mend")
-fix_line false = []
-
--- something is relied on, and the file has room for the bytes that mend it
-abbrev pub is_fixed : Option Reliance → Bool
-is_fixed None = false
-is_fixed (Some r) = r.mends
 
 -- what the bytes are known as
 abbrev pub known_line : Option Known → List ℕ
@@ -215,10 +205,9 @@ pass_lines parts pass =
     ++ (reliance_lines pass.reliance
     ++ (players_lines pass.needs pass.players
     ++ (taller_line pass.taller
-    ++ (fix_line (is_fixed pass.reliance)
     ++ (text_lines pass.damage
     ++ (pass_hints_text (hints_beside pass.damage pass.hints) (font_of parts)
-    ++ (widths_lines (size_of parts) pass.widths ++ remedy_line pass.players)))))))))
+    ++ widths_lines (size_of parts) pass.widths)))))))
 
 abbrev pub refusal_lines : Parts → Refusal → List ℕ
 refusal_lines parts r =

@@ -2,7 +2,7 @@
 
 ghost use Rattle.std.specs.Prelude.{◌≡◌};
 ghost use Rattle.ans_why.specs.PlayersText.{agreeing_lines, everywhere_line, is_same_class, kind_line};
-ghost use Rattle.ans_why.specs.PlayersText.{kind_lines, players_lines, remedy_line};
+ghost use Rattle.ans_why.specs.PlayersText.{kind_lines, players_lines};
 ghost use Rattle.ans_kinds.specs.declared.players.Players.TheVariants.{Any, InNamedColours};
 ghost use Rattle.ans_write.specs.Puts.{Puts};
 
@@ -91,16 +91,5 @@ pub(crate) fn put_players<W: Write>(out: &mut Outbox<'_, W>, needs: Start, playe
         Players::Any(class) => put_any(out, needs, *class),
         Players::InNamedColours(class, times) => put_named_colours(out, needs, *class, *times),
         Players::Agreeing(used) => put_agreeing(out, used),
-    }
-}
-
-/// Puts the command that writes a drawing that looks the same everywhere, if kinds are named.
-pub(crate) fn put_remedy_line<W: Write>(out: &mut Outbox<'_, W>, players: &Players)
-    ensures { Puts W.contents out.old out.new (remedy_line players.now) }
-{
-    match players {
-        Players::Any(_) => {}
-        Players::InNamedColours(_, _) => out.put(b"everywhere: anscheck mend --name-colours\n"),
-        Players::Agreeing(_) => out.put(b"everywhere: anscheck redraw\n"),
     }
 }

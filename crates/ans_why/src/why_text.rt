@@ -7,7 +7,7 @@ ghost use Rattle.ans_sauce.specs.declared.judged.Judged.TheVariants.{NoContent};
 ghost use Rattle.ans_write.specs.Puts.{Puts};
 ghost use Rattle.ans_report.specs.Counted.{counted_text};
 ghost use Rattle.ans_why.specs.WhyText.{blamed_text, blamed_line, fault_lines, place_text, cell_text, shown_lines};
-ghost use Rattle.ans_why.specs.WhyText.{reliance_lines, verdict_words, taller_line, is_fixed, fix_line, lines_line};
+ghost use Rattle.ans_why.specs.WhyText.{reliance_lines, verdict_words, taller_line, lines_line};
 ghost use Rattle.ans_why.specs.WhyText.{after_end_mark_text, enough_lines, heading_lines, known_found, known_line};
 ghost use Rattle.ans_why.specs.OtherFiles.{first_known, known_file};
 ghost use Rattle.ans_why.specs.WhyText.{found_line, pass_lines, refusal_lines, told_hints, torn_text, why_text};
@@ -18,7 +18,7 @@ use crate::hint_rows::WIDE_CHARACTERS;
 use crate::hints_text::{put_counted_line, put_damage, put_hints, put_pass_hints};
 use crate::known_bytes::{Known, known_behind_end_mark};
 use crate::other_files::known_file;
-use crate::players_text::{is_same_class, put_players, put_remedy_line};
+use crate::players_text::{is_same_class, put_players};
 use crate::text_damage::TextDamage;
 use crate::why::{Enough, Pass, Place, RecordRefusal, Refusal, Reliance, Shown, Why};
 use crate::widths_text::put_widths;
@@ -157,24 +157,6 @@ fn put_taller_line<W: Write>(out: &mut Outbox<'_, W>, taller: bool)
     }
 }
 
-/// Whether something is relied on, and the file has room for the bytes that mend it.
-fn is_fixed(reliance: Option<Reliance<'_>>) -> bool
-    ensures { result ≡ is_fixed reliance.entry }
-{
-    match reliance {
-        Some(reliance) => reliance.mends,
-        None => false,
-    }
-}
-
-fn put_fix_line<W: Write>(out: &mut Outbox<'_, W>, fixed: bool)
-    ensures { Puts W.contents out.old out.new (fix_line fixed) }
-{
-    if fixed {
-        out.put(b"fix: anscheck mend\n");
-    }
-}
-
 /// The hints beside what seems to have happened to a text: not on letters of UTF-8, if it is to be converted otherwise.
 fn hints_beside(damage: &TextDamage, hints: Hints) -> Hints
     ensures { result ≡ hints_beside damage.now hints }
@@ -199,7 +181,6 @@ fn put_pass<W: Write>(out: &mut Outbox<'_, W>, parts: &Parts<'_>, pass: &Pass<'_
     put_reliance(out, pass.reliance);
     put_players(out, pass.needs, &pass.players);
     put_taller_line(out, pass.taller);
-    put_fix_line(out, is_fixed(pass.reliance));
     put_damage(out, &pass.damage);
     put_pass_hints(
         out,
@@ -207,7 +188,6 @@ fn put_pass<W: Write>(out: &mut Outbox<'_, W>, parts: &Parts<'_>, pass: &Pass<'_
         parts.sauce().font(),
     );
     put_widths(out, parts.size(), &pass.widths);
-    put_remedy_line(out, &pass.players);
 }
 
 fn put_known_line<W: Write>(out: &mut Outbox<'_, W>, known: Option<Known>)
@@ -487,8 +467,7 @@ fn put_heading<W: Write>(out: &mut Outbox<'_, W>, parts: &Parts<'_>)
 /// first.
 ///
 /// If the file passes: which other kind of file it is known as, what it needs, where and why, on which players it
-/// shows its picture, whether it plays the same on taller screens, the command that fixes it, what happened to it as
-/// a text, the hints, and the command that makes it look the same everywhere.
+/// shows its picture, whether it plays the same on taller screens, what happened to it as a text, and the hints.
 ///
 /// If its content is refused: the fault with the offending bytes, what they or the file are known as, where the
 /// cursor is before them, what happened to it as a text, the hints, and the number of lines that is enough.

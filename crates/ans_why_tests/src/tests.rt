@@ -877,21 +877,19 @@ fn a_grown_record_is_explained(rt: HostRuntime) -> Result<(), Fail> {
     Ok(())
 }
 
-/// On which players a drawing shows its picture, the lines on that, and the last line.
-fn players_rows(times: Times) -> [(Players, &'static str, &'static str); 3] {
+/// On which players a drawing shows its picture, and the lines on that.
+fn players_rows(times: Times) -> [(Players, &'static str); 3] {
     let mut used = KindsUsed::NONE;
     used.times[0] = Some(times);
     [
-        (Players::Any(Start::ANY), "all\n", ""),
+        (Players::Any(Start::ANY), "all\n"),
         (
             Players::InNamedColours(Start::ANY, times),
             "own-colours\nplayers differ: own-colours, once, at 0\n",
-            "everywhere: anscheck mend --name-colours\n",
         ),
         (
             Players::Agreeing(used),
             "wrap-at-once\nplayers differ: wrap-at-once, once, at 0\n",
-            "everywhere: anscheck redraw\n",
         ),
     ]
 }
@@ -910,12 +908,12 @@ fn easy_pass(players: Players, hints: Hints) -> Pass<'static> {
 }
 
 #[test]
-fn what_players_show_everywhere_has_its_command(rt: HostRuntime) -> Result<(), Fail> {
+fn the_players_that_show_the_picture_are_named(rt: HostRuntime) -> Result<(), Fail> {
     let file = sample_file(rt.alloc(), b"Hi\x1a", &[])?;
-    for (players, before, after) in players_rows(Times { count: 1, first: 0 }) {
+    for (players, lines) in players_rows(Times { count: 1, first: 0 }) {
         let pass = easy_pass(players, Hints::of(Size::new(2, 1), false, b"Hi", 2));
         let text = format!(in rt.alloc();
-            "size: 2 x 1\nverdict: pass\nneeds: nothing\nplayers: {before}{after}"
+            "size: 2 x 1\nverdict: pass\nneeds: nothing\nplayers: {lines}"
         )?;
         expect_why(&rt, &Judged::Passes(split(&file)?, pass), &text);
     }

@@ -13,10 +13,11 @@ _anscheck() {
         return
     elif [ "${word#-}" != "$word" ]; then
         case $command in
-            mend) flags="--suggested --take-out --crlf --join-rows --mixed --name-colours --ice --record --least-lines --lines --columns --add-record --help" ;;
+            mend) flags="-o --output -i --in-place -n --dry-run --suggested --take-out --crlf --join-rows --mixed --name-colours --ice --record --least-lines --lines --columns --add-record --help" ;;
+            redraw) flags="-o --output -i --in-place -n --dry-run --help" ;;
             check) flags="--known-screen --known-cursor --known-saved --known-colours --known-wrap --cleared --any --cells --help" ;;
             show) flags="--html --vga --help" ;;
-            table) flags="--json --no-header --help" ;;
+            table) flags="--json --no-header --pictures --help" ;;
         esac
         mapfile -t COMPREPLY < <(compgen -W "$flags" -- "$word")
     else

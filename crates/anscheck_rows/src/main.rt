@@ -6,6 +6,7 @@
 #![tactic(auto)]
 
 mod bytes;
+mod disk;
 mod file;
 mod shelf;
 mod table;

@@ -65,6 +65,12 @@ pub(crate) struct Row {
     /// The text with which what is printed ends.
     #[serde(default)]
     pub prints_last: String,
+    /// The files that are written to the disk, and their names.
+    #[serde(default)]
+    pub leaves: BTreeMap<String, File>,
+    /// Whether standard output is a terminal.
+    #[serde(default)]
+    pub terminal: bool,
     /// The text on standard error.
     #[serde(default)]
     pub says: String,

@@ -1,5 +1,6 @@
 //! A row tried.
 
+use crate::disk::Drive;
 use crate::file::put_drawing;
 use crate::shelf::{Shelf, Stored};
 use crate::table::{File, Row, Table};
@@ -67,6 +68,28 @@ pub(crate) struct Trial {
     says: Extent,
     /// What is printed last.
     last: Vec<u8>,
+    /// Whether the disk has what it is to have.
+    disk_agrees: bool,
+}
+
+/// The disk that the files of a table are on.
+fn drive_of(alloc: Global, files: &[(&str, Stored)]) -> Result<Drive, AllocError> {
+    let mut drive = Drive::new(alloc);
+    for (name, stored) in files {
+        drive.put(name, stored.bytes.as_slice())?;
+    }
+    Ok(drive)
+}
+
+/// Whether these files were written, and no others.
+fn leaves(alloc: Global, drive: &Drive, row: &Row) -> Result<bool, AllocError> {
+    for (name, file) in &row.leaves {
+        let bytes = file.bytes(alloc)?;
+        if drive.bytes_written(name.as_str()) != Some(bytes.as_slice()) {
+            return Ok(false);
+        }
+    }
+    Ok(drive.written() == row.leaves.len())
 }
 
 /// A file of a table in memory.
@@ -136,13 +159,22 @@ impl Trial {
             files: files.as_slice(),
             standard: &standard,
         };
+        let mut drive = drive_of(alloc, files.as_slice())?;
         let mut output = Tried::new(Kept {
             bytes: Vec::new(alloc),
         });
         let mut errors = Tried::new(Kept {
             bytes: Vec::new(alloc),
         });
-        let ending = answer(alloc, words.as_slice(), shelf, &mut output, &mut errors);
+        let ending = answer(
+            alloc,
+            words.as_slice(),
+            shelf,
+            &mut drive,
+            row.terminal,
+            &mut output,
+            &mut errors,
+        );
         Ok(Trial {
             came: Answered {
                 output: output.into_inner().bytes,
@@ -153,6 +185,7 @@ impl Trial {
             prints: Extent::of(row.prints_more),
             says: Extent::of(row.says_more),
             last: row.prints_last.as_bytes().to_vec(alloc)?,
+            disk_agrees: leaves(alloc, &drive, row)?,
         })
     }
 
@@ -166,6 +199,7 @@ impl Trial {
                 .agree(came.errors.as_slice(), expected.errors.as_slice())
             && came.output.as_slice().ends_with(self.last.as_slice())
             && came.status == expected.status
+            && self.disk_agrees
     }
 
     /// Writes which row came out otherwise, and what came.
@@ -175,6 +209,9 @@ impl Trial {
             out,
             "{name}: row {number} from 0 comes out otherwise: status {status}"
         )?;
+        if !self.disk_agrees {
+            writeln!(out, "the disk has other files")?;
+        }
         out.write_all(self.came.output.as_slice())?;
         out.write_all(self.came.errors.as_slice())
     }

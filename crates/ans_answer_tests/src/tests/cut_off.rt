@@ -1,5 +1,6 @@
 //! Devices that take a part of what the program prints and says, or hand nothing on.
 
+use super::no_disk::NoDisk;
 use super::shelf::{Answered, Drawings, Shelf, Stored, answer_in, answer_on};
 use ans_check::{Ending, RunError, Unopened, answer};
 use ans_report::Tried;
@@ -157,7 +158,7 @@ fn errors_that_take_nothing_change_no_ending(rt: HostRuntime) -> Result<(), Allo
     let mut errors = Tried::new(FailingOnce::new(Narrow::new(100), 1, Failure::Nothing));
     let shelf = Shelf::new(&[], Stored::Bytes(b""));
     let words = ["anscheck", "tokens", "ho.ans"];
-    let ending = answer(rt.alloc(), &words, shelf, &mut output, &mut errors);
+    let ending = answer(rt.alloc(), &words, shelf, &mut NoDisk, false, &mut output, &mut errors);
     assert!(rt; errors.failed());
     if ending == Ending::UnreadableWords {
         return Err(AllocError);

@@ -1,8 +1,8 @@
 //! How the program ends.
 use super::{CLEARED, expect_memory, plain_file};
 use ans_check::{
-    Counts, Ending, Mended, RunError, Unhelped, Unmended, Unopened, WordsError, options, serve,
-    status,
+    Counts, Ending, FileCounts, Mended, Mistake, RunError, SaveError, Unhelped, Unmended, Unopened,
+    WordsError, options, serve, status,
 };
 use ans_mend::{Edits, NonBlink, Reset, Told};
 use ans_options::Mends;
@@ -60,6 +60,22 @@ const SOME_UNREAD: Counts = Counts {
     ..Counts::NONE
 };
 
+/// Files that were written, and one that has no new file.
+const SOME_NOT_DONE: FileCounts = FileCounts {
+    files: 3,
+    changed: 1,
+    unchanged: 1,
+    not_done: 1,
+    ..FileCounts::NONE
+};
+
+/// The same, and one that was not read.
+const SOME_NOT_READ: FileCounts = FileCounts {
+    files: 4,
+    not_read: 1,
+    ..SOME_NOT_DONE
+};
+
 /// Not mended for this reason, and each flag may help.
 fn unhelped(reason: Unmended) -> Unhelped {
     Unhelped {
@@ -69,7 +85,7 @@ fn unhelped(reason: Unmended) -> Unhelped {
 }
 
 /// The endings that are looked at.
-fn endings() -> [Ending; 23] {
+fn endings() -> [Ending; 27] {
     [
         Ending::Run(Ok(true)),
         Ending::Run(Ok(false)),
@@ -93,12 +109,16 @@ fn endings() -> [Ending; 23] {
         Ending::UnreadNames,
         Ending::Mended(CUT),
         Ending::NotMended(Mends::NONE, unhelped(Unmended::Torn)),
-        Ending::SuggestedAmong,
+        Ending::Mistaken(Mistake::SuggestedWithChanges),
+        Ending::ToTerminal,
+        Ending::Filed(SOME_NOT_DONE),
+        Ending::Filed(SOME_NOT_READ),
+        Ending::Unsaved(SaveError::NotWritable),
     ]
 }
 
 /// The exit status of each, and what it says.
-static ENDS: [(u8, Option<&str>); 23] = [
+static ENDS: [(u8, Option<&str>); 27] = [
     (0, None),
     (1, None),
     (1, Some("it may pass on a cleared screen: see anscheck why")),
@@ -131,6 +151,13 @@ static ENDS: [(u8, Option<&str>); 23] = [
         2,
         Some("mend --suggested takes no flag that asks for a change"),
     ),
+    (
+        2,
+        Some("standard output is a terminal: give -o FILE, or pipe it"),
+    ),
+    (1, None),
+    (2, None),
+    (2, Some("no write permission")),
 ];
 
 /// What is said of a file that was not opened, after its name.

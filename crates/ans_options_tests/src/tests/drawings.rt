@@ -1,6 +1,7 @@
 //! The names of the files of `why`, with the command and without it.
 use super::faults::Row;
-use ans_options::{Asked, WordsError, asked, near_command};
+use super::{asked_by, expect_names};
+use ans_options::{Asked, near_command};
 use clap::error::ErrorKind::{
     self, DisplayHelp, InvalidSubcommand, MissingSubcommand, UnknownArgument,
 };
@@ -74,41 +75,16 @@ static OTHERS: [Row; 17] = words! {
     "check" "a.ans" "b.ans" => UnknownArgument;
 };
 
-/// The files of which words ask why, or what `clap` says of them. It fails where memory runs out.
-fn files_of(
-    rt: &(impl Abort + AllocGlobal),
-    words: &[&str],
-) -> Result<Result<Vec<String>, ErrorKind>, AllocError> {
-    match asked(rt.alloc(), words) {
-        Ok(Asked::Why(files)) => Ok(Ok(files)),
-        Ok(
-            Asked::One(_, _)
-            | Asked::Table(_, _)
-            | Asked::Mend(_, _)
-            | Asked::Redraw(_)
-            | Asked::Meaning(_),
-        ) => { panic!(rt; "something else is asked for") }
-        Err(WordsError::Memory) => Err(AllocError),
-        Err(WordsError::Clap(error)) => match error.kind() {
-            ErrorKind::OutOfMemory => Err(AllocError),
-            kind => Ok(Err(kind)),
-        },
-    }
-}
-
 /// Asserts of which files words ask why.
 fn expect_files(
     rt: &(impl Abort + AllocGlobal),
     words: &[&str],
     files: &[&str],
 ) -> Result<(), AllocError> {
-    let Ok(names) = files_of(rt, words)? else {
+    let Ok(Asked::Why(names)) = asked_by(rt, words)? else {
         panic!(rt; "no files")
     };
-    assert_eq!(rt; names.len(), files.len());
-    for (name, file) in names.iter().zip(files.iter()) {
-        assert_eq!(rt; name.as_str(), *file);
-    }
+    expect_names(rt, names.as_slice(), files);
     Ok(())
 }
 
@@ -127,8 +103,8 @@ fn expect_nothing(
     words: &[&str],
     kind: ErrorKind,
 ) -> Result<(), AllocError> {
-    match files_of(rt, words)? {
-        Ok(_) => panic!(rt; "files"),
+    match asked_by(rt, words)? {
+        Ok(_) => panic!(rt; "something is asked for"),
         Err(found) => assert_eq!(rt; found, kind),
     }
     Ok(())

@@ -63,7 +63,7 @@ static ALONE: [Row; 3] = rows! {
 };
 
 /// Mistakes, and of which kind they are.
-static MISTAKES: [Row; 35] = words! {
+static MISTAKES: [Row; 34] = words! {
     "other" => InvalidSubcommand;
     "need" => InvalidSubcommand;
     "helps" => InvalidSubcommand;
@@ -94,7 +94,6 @@ static MISTAKES: [Row; 35] = words! {
     "redraw" "--cells" => UnknownArgument;
     "redraw" "--take-out" => UnknownArgument;
     "redraw" "--html" => UnknownArgument;
-    "redraw" "f" "g" => UnknownArgument;
     "needs" "--cells" => UnknownArgument;
     "needs" "--cleared" => UnknownArgument;
     "needs" "--known-wrap" => UnknownArgument;
@@ -109,7 +108,7 @@ macro_rules! after_help {
 
 /// What may not follow `help`, and of which kind that mistake is. To `clap` the name of a fault is one. After a
 /// command that takes files its first word is taken as a command that there is not.
-static HELP_MISTAKES: [Row; 21] = after_help! {
+static HELP_MISTAKES: [Row; 22] = after_help! {
     "nonsense" => InvalidSubcommand;
     "need" => InvalidSubcommand;
     "help" => InvalidSubcommand;
@@ -121,8 +120,9 @@ static HELP_MISTAKES: [Row; 21] = after_help! {
     "nonsense" "check" => InvalidSubcommand;
     "check" "more" => UnknownArgument;
     "check" "sauce" => UnknownArgument;
-    "mend" "--lines" => UnknownArgument;
-    "redraw" "more" => UnknownArgument;
+    "mend" "--lines" => InvalidSubcommand;
+    "redraw" "more" => InvalidSubcommand;
+    "mend" "mend" "more" => UnknownArgument;
     "needs" "--help" => UnknownArgument;
     "F20" => InvalidSubcommand;
     "n3" => InvalidSubcommand;

@@ -1,10 +1,9 @@
 //! What may be changed of a file that is mended.
 use super::faults::{Row, expect_kinds};
-use super::read_words;
-use ans_options::{Asked, Command, MendChoice, Mends, Options, WordsError, asked};
-use ans_samples::start;
+use super::{asked_by, expect_names, expect_plain_options};
+use ans_options::{Asked, Command, MendChoice, Mends};
 use clap::error::ErrorKind::{
-    ArgumentConflict, InvalidValue, OutOfMemory, TooManyValues, UnknownArgument, ValueValidation,
+    ArgumentConflict, InvalidValue, TooManyValues, UnknownArgument, ValueValidation,
 };
 use std::alloc::AllocError;
 use std::process::Abort;
@@ -31,67 +30,63 @@ const EVERYTHING: Mends = Mends {
     lines: Some(25),
 };
 
-/// Words that ask for a file mended, what may be changed, and the file.
-static MENDED: [(&[&str], Mends, Option<&str>); 38] = words! {
-    "mend" => mends!(), None;
-    "mend" "f" => mends!(), Some("f");
-    "mend" "-" => mends!(), Some("-");
-    "mend" "help" => mends!(), Some("help");
-    "mend" "--take-out" => mends!(take_out: true), None;
-    "mend" "--crlf" => mends!(crlf: true), None;
-    "mend" "--join-rows" => mends!(join_rows: true), None;
-    "mend" "--mixed" => mends!(mixed: true), None;
-    "mend" "--name-colours" => mends!(name_colours: true), None;
-    "mend" "--ice" => mends!(ice: true), None;
-    "mend" "--record" => mends!(repair_record: true), None;
-    "mend" "--least-lines" => mends!(least_lines: true), None;
-    "mend" "--lines" "1" => mends!(lines: Some(1)), None;
-    "mend" "--lines" "8192" => mends!(lines: Some(8192)), None;
-    "mend" "--lines=25" "f" => mends!(lines: Some(25)), Some("f");
-    "mend" "--lines" "0025" "f" => mends!(lines: Some(25)), Some("f");
-    "mend" "--lines" "1025" => mends!(lines: Some(1025)), None;
-    "mend" "--columns" "1" => mends!(columns: Some(1)), None;
-    "mend" "--columns" "1024" => mends!(columns: Some(1024)), None;
-    "mend" "f" "--columns=132" => mends!(columns: Some(132)), Some("f");
-    "mend" "--columns" "0132" "f" => mends!(columns: Some(132)), Some("f");
-    "mend" "--columns" "132" "--lines" "50" => mends!(columns: Some(132), lines: Some(50)), None;
-    "mend" "--columns" "132" "--add-record" "80" => mends!(columns: Some(132), add_record: Some(80)), None;
-    "mend" "--add-record" "1" => mends!(add_record: Some(1)), None;
-    "mend" "--add-record" "1024" => mends!(add_record: Some(1024)), None;
-    "mend" "f" "--add-record=80" => mends!(add_record: Some(80)), Some("f");
-    "mend" "--add-record" "+80" "f" => mends!(add_record: Some(80)), Some("f");
-    "mend" "--add-record" "132" "--lines" "50" => mends!(add_record: Some(132), lines: Some(50)), None;
-    "mend" "--lines" "50" "f" "--add-record" "132" => mends!(add_record: Some(132), lines: Some(50)), Some("f");
-    "mend" "--take-out" "f" "--join-rows" => mends!(take_out: true, join_rows: true), Some("f");
-    "mend" "--crlf" "--least-lines" => mends!(crlf: true, least_lines: true), None;
-    "mend" "--crlf" "--mixed" "--ice" => mends!(crlf: true, mixed: true, ice: true), None;
+/// Words that ask for files mended, what may be changed, and the files.
+static MENDED: [(&[&str], Mends, &[&str]); 38] = words! {
+    "mend" => mends!(), &[];
+    "mend" "f" => mends!(), &["f"];
+    "mend" "-" => mends!(), &["-"];
+    "mend" "help" => mends!(), &["help"];
+    "mend" "--take-out" => mends!(take_out: true), &[];
+    "mend" "--crlf" => mends!(crlf: true), &[];
+    "mend" "--join-rows" => mends!(join_rows: true), &[];
+    "mend" "--mixed" => mends!(mixed: true), &[];
+    "mend" "--name-colours" => mends!(name_colours: true), &[];
+    "mend" "--ice" => mends!(ice: true), &[];
+    "mend" "--record" => mends!(repair_record: true), &[];
+    "mend" "--least-lines" => mends!(least_lines: true), &[];
+    "mend" "--lines" "1" => mends!(lines: Some(1)), &[];
+    "mend" "--lines" "8192" => mends!(lines: Some(8192)), &[];
+    "mend" "--lines=25" "f" => mends!(lines: Some(25)), &["f"];
+    "mend" "--lines" "0025" "f" => mends!(lines: Some(25)), &["f"];
+    "mend" "--lines" "1025" => mends!(lines: Some(1025)), &[];
+    "mend" "--columns" "1" => mends!(columns: Some(1)), &[];
+    "mend" "--columns" "1024" => mends!(columns: Some(1024)), &[];
+    "mend" "f" "--columns=132" => mends!(columns: Some(132)), &["f"];
+    "mend" "--columns" "0132" "f" => mends!(columns: Some(132)), &["f"];
+    "mend" "--columns" "132" "--lines" "50" => mends!(columns: Some(132), lines: Some(50)), &[];
+    "mend" "--columns" "132" "--add-record" "80" => mends!(columns: Some(132), add_record: Some(80)), &[];
+    "mend" "--add-record" "1" => mends!(add_record: Some(1)), &[];
+    "mend" "--add-record" "1024" => mends!(add_record: Some(1024)), &[];
+    "mend" "f" "--add-record=80" => mends!(add_record: Some(80)), &["f"];
+    "mend" "--add-record" "+80" "f" => mends!(add_record: Some(80)), &["f"];
+    "mend" "--add-record" "132" "--lines" "50" => mends!(add_record: Some(132), lines: Some(50)), &[];
+    "mend" "--lines" "50" "f" "--add-record" "132" => mends!(add_record: Some(132), lines: Some(50)), &["f"];
+    "mend" "--take-out" "f" "--join-rows" => mends!(take_out: true, join_rows: true), &["f"];
+    "mend" "--crlf" "--least-lines" => mends!(crlf: true, least_lines: true), &[];
+    "mend" "--crlf" "--mixed" "--ice" => mends!(crlf: true, mixed: true, ice: true), &[];
     "mend" "--take-out" "--crlf" "--join-rows" "--mixed" "--name-colours" "--ice" "--record" "--least-lines"
-        "--lines" "25" "--columns" "132" "--add-record" "80" "f" => EVERYTHING, Some("f");
+        "--lines" "25" "--columns" "132" "--add-record" "80" "f" => EVERYTHING, &["f"];
     "mend" "f" "--add-record" "80" "--columns" "132" "--lines" "25" "--least-lines" "--record" "--ice"
-        "--name-colours" "--mixed" "--join-rows" "--crlf" "--take-out" => EVERYTHING, Some("f");
-    "mend" "--" "--take-out" => mends!(), Some("--take-out");
-    "mend" "--" "--lines" => mends!(), Some("--lines");
-    "mend" "--" "--columns" => mends!(), Some("--columns");
-    "mend" "--add-record" "80" "--" "25" => mends!(add_record: Some(80)), Some("25");
+        "--name-colours" "--mixed" "--join-rows" "--crlf" "--take-out" => EVERYTHING, &["f"];
+    "mend" "--" "--take-out" => mends!(), &["--take-out"];
+    "mend" "--" "--lines" => mends!(), &["--lines"];
+    "mend" "--" "--columns" => mends!(), &["--columns"];
+    "mend" "--add-record" "80" "--" "25" => mends!(add_record: Some(80)), &["25"];
 };
 
-/// Words that ask for a file mended, how it is found what is to be changed, and the file.
-static CHOSEN: [(&[&str], MendChoice, Option<&str>); 11] = words! {
-    "mend" "--suggested" => MendChoice::Suggested, None;
-    "mend" "--suggested" "f" => MendChoice::Suggested, Some("f");
-    "mend" "f" "--suggested" => MendChoice::Suggested, Some("f");
-    "mend" "-" "--suggested" => MendChoice::Suggested, Some("-");
-    "mend" "--suggested" "--take-out" => MendChoice::Both, None;
-    "mend" "--least-lines" "f" "--suggested" => MendChoice::Both, Some("f");
-    "mend" "--suggested" "--lines" "25" => MendChoice::Both, None;
-    "mend" "--columns=80" "--suggested" => MendChoice::Both, None;
-    "mend" "--suggested" "--add-record" "80" "f" => MendChoice::Both, Some("f");
-    "mend" "--crlf" "--suggested" "--mixed" => MendChoice::Both, None;
-    "mend" "--" "--suggested" => MendChoice::Flags(Mends::NONE), Some("--suggested");
+/// Words that ask for files mended, how it is found what is to be changed, and the files.
+static CHOSEN: [(&[&str], MendChoice, &[&str]); 7] = words! {
+    "mend" "--suggested" => MendChoice::Suggested, &[];
+    "mend" "--suggested" "f" => MendChoice::Suggested, &["f"];
+    "mend" "f" "--suggested" => MendChoice::Suggested, &["f"];
+    "mend" "-" "--suggested" => MendChoice::Suggested, &["-"];
+    "mend" "--suggested" "-i" "f" "g" => MendChoice::Suggested, &["f", "g"];
+    "mend" "-i" "f" "--ice" "g" => MendChoice::Flags(mends!(ice: true)), &["f", "g"];
+    "mend" "--" "--suggested" => MendChoice::Flags(Mends::NONE), &["--suggested"];
 };
 
 /// Words that are wrong, and the kind of the mistake.
-static FAULTS: [Row; 53] = words! {
+static FAULTS: [Row; 51] = words! {
     "mend" "--suggested" "--suggested" => ArgumentConflict;
     "mend" "--suggested=yes" => TooManyValues;
     "why" "--suggested" => UnknownArgument;
@@ -132,8 +127,6 @@ static FAULTS: [Row; 53] = words! {
     "mend" "--lines" "25" "--lines" "50" => ArgumentConflict;
     "mend" "--take-out" "--take-out" => ArgumentConflict;
     "mend" "--crlf=yes" => TooManyValues;
-    "mend" "--add-record" "80" "f" "g" => UnknownArgument;
-    "mend" "f" "g" => UnknownArgument;
     "mend" "--cleared" => UnknownArgument;
     "mend" "--cells" => UnknownArgument;
     "mend" "--known-wrap" => UnknownArgument;
@@ -147,63 +140,41 @@ static FAULTS: [Row; 53] = words! {
     "table" "--least-lines" => UnknownArgument;
 };
 
-/// What words ask to be changed, and the file's name. It fails where memory runs out.
+/// What words ask to be changed, and the files' names. It fails where memory runs out.
 fn choice_of(
     rt: &(impl Abort + AllocGlobal),
     words: &[&str],
-) -> Result<(MendChoice, Option<String>), AllocError> {
-    match asked(rt.alloc(), words) {
-        Ok(Asked::Mend(choice, file)) => Ok((choice, file)),
-        Ok(
-            Asked::One(_, _)
-            | Asked::Why(_)
-            | Asked::Table(_, _)
-            | Asked::Redraw(_)
-            | Asked::Meaning(_),
-        ) => { panic!(rt; "nothing to mend") }
-        Err(WordsError::Memory) => Err(AllocError),
-        Err(WordsError::Clap(error)) => {
-            assert_eq!(rt; error.kind(), OutOfMemory);
-            Err(AllocError)
-        }
-    }
+) -> Result<(MendChoice, Vec<String>), AllocError> {
+    let Ok(Asked::Mend(choice, _, names)) = asked_by(rt, words)? else {
+        panic!(rt; "nothing to mend")
+    };
+    Ok((choice, names))
 }
 
 #[test]
 fn words_say_what_is_mended(rt: HostRuntime) -> Result<(), AllocError> {
-    for (words, expected, file) in &MENDED {
-        let (choice, name) = choice_of(&rt, words)?;
+    for (words, expected, files) in &MENDED {
+        let (choice, names) = choice_of(&rt, words)?;
         assert!(rt; choice == MendChoice::Flags(*expected));
-        assert!(rt; name.as_ref().map(|f| f.as_str()) == *file);
+        expect_names(&rt, names.as_slice(), files);
     }
     Ok(())
 }
 
 #[test]
 fn words_say_who_finds_what_is_mended(rt: HostRuntime) -> Result<(), AllocError> {
-    for (words, expected, file) in &CHOSEN {
-        let (choice, name) = choice_of(&rt, words)?;
+    for (words, expected, files) in &CHOSEN {
+        let (choice, names) = choice_of(&rt, words)?;
         assert_eq!(rt; choice, *expected);
-        assert!(rt; name.as_ref().map(|f| f.as_str()) == *file);
+        expect_names(&rt, names.as_slice(), files);
     }
     Ok(())
 }
 
 #[test]
 fn words_give_the_options_of_mending(rt: HostRuntime) -> Result<(), AllocError> {
-    for (words, expected, file) in &MENDED {
-        match read_words(&rt, words)? {
-            Ok((found, name)) => {
-                let options = Options {
-                    command: Command::Mend(MendChoice::Flags(*expected)),
-                    start: start!(any),
-                    cells: false,
-                };
-                assert!(rt; found == options);
-                assert!(rt; name.as_ref().map(|f| f.as_str()) == *file);
-            }
-            Err(_) => panic!(rt; "no options"),
-        }
+    for (words, mends, _) in &MENDED {
+        expect_plain_options(&rt, words, Command::Mend(MendChoice::Flags(*mends)))?;
     }
     Ok(())
 }

@@ -1,8 +1,8 @@
 //! The faults, the notes and the words that words ask help for.
+use super::asked_by;
 use ans_model::fault::Cause;
 use ans_model::note::Note;
-use ans_options::{Asked, Topic, WordsError, asked, explains};
-use clap::error::ErrorKind::OutOfMemory;
+use ans_options::{Asked, Topic, explains};
 use std::alloc::AllocError;
 use std::process::Abort;
 
@@ -43,22 +43,9 @@ static OTHERS: [&[&str]; 31] = [
 
 /// The topic that words ask for, if any. It fails where memory runs out.
 fn topic_asked(rt: &impl AllocGlobal, words: &[&str]) -> Result<Option<Topic>, AllocError> {
-    match asked(rt.alloc(), words) {
+    match asked_by(rt, words)? {
         Ok(Asked::Meaning(topic)) => Ok(Some(topic)),
-        Ok(
-            Asked::One(_, _)
-            | Asked::Why(_)
-            | Asked::Table(_, _)
-            | Asked::Mend(_, _)
-            | Asked::Redraw(_),
-        ) => { Ok(None) }
-        Err(WordsError::Memory) => Err(AllocError),
-        Err(WordsError::Clap(error)) => {
-            if error.kind() == OutOfMemory {
-                return Err(AllocError);
-            }
-            Ok(None)
-        }
+        _ => Ok(None),
     }
 }
 

@@ -2,7 +2,7 @@ use Rattle.std.proofs.Common.{◌≡◌, ◌++◌, ℕ, List, append_assoc, sym}
 use Rattle.std.specs.Prelude.{codes}
 use Rattle.ans_report.specs.Message.{message_line}
 use Rattle.ans_write.proofs.PutsLemmas.{Puts-same, Puts-then}
-use Rattle.ans_check.specs.Answer.{named_message}
+use Rattle.ans_check.specs.Said.{named_message}
 use Rattle.ans_check.proofs.answering.put_ending_message.Goals as goal
 
 line_is : (text : List ℕ) → codes "anscheck: " ++ (text ++ codes "\n") ≡ message_line text

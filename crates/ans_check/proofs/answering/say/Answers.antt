@@ -1,7 +1,7 @@
 use Rattle.std.proofs.Common.{rules, sym, ap, ◌∙◌}
 use Rattle.std.specs.Prelude.{not}
 use Rattle.ans_write.specs.Puts.{device_of}
-use Rattle.ans_check.specs.Answer.{said_text}
+use Rattle.ans_check.specs.Said.{said_text}
 use Rattle.ans_check.specs.Naming.{unnamed}
 use Rattle.ans_check.proofs.AnswerLemmas.{put_out, said, said_nothing, said_something, says_as}
 use Rattle.ans_check.proofs.answering.say.Goals as goal

@@ -12,8 +12,8 @@ returns-in-Table-clause-ends g c =
 
 pub returns-in-Mend-clause-ends : goal.returns-in-Mend-clause-ends
 returns-in-Mend-clause-ends g c =
-    rw c.in-Mend.is (rw c.name_of-in-Mend.ensures at c.serve_mend.ensures.ends)
+    rw c.in-Mend.is (rw c.as_slice-in-Mend.ensures.value at c.serve_mend.ensures.ends)
 
 pub returns-in-Redraw-clause-ends : goal.returns-in-Redraw-clause-ends
 returns-in-Redraw-clause-ends g c =
-    rw c.in-Redraw.is (rw c.name_of-in-Redraw.ensures at c.serve_one.ensures.ends)
+    rw c.in-Redraw.is (rw c.as_slice-in-Redraw.ensures.value at c.serve_redraw.ensures.ends)

@@ -1,12 +1,13 @@
-use Rattle.std.proofs.Common.{inl, subst, sym}
+use Rattle.std.proofs.Common.{subst, sym}
 use Rattle.ans_check.proofs.answering.serve_input.Goals as goal
 
-pub returns-in-Ok-clause-ends : goal.returns-in-Ok-clause-ends
-returns-in-Ok-clause-ends g c = inl (record {
+pub returns-clause-ends : goal.returns-clause-ends
+returns-clause-ends g c = record {
   reader = c.new-reader.result;
-  reader_after = c.read.new.r;
+  reader_after = c.table_listed.new.reader;
   input = subst (g.I.Inputs.is_standard c.args.inputs) (sym c.new-reader.ensures.inner) c.standard.ensures;
-  listing = c.in-Ok.listing;
-  listed = c.in-Ok.ensures;
-  ends = c.serve_listing.ensures.ends;
-})
+  unread = c.new-reader.ensures.calls;
+  result = c.table_listed.result;
+  table = c.table_listed.ensures.table;
+  ends = c.end_of_listing.ensures;
+}

@@ -1,7 +1,7 @@
 use Rattle.std.proofs.Common.{subst, sym, inl}
 use Rattle.std.specs.Prelude.{ℕ, List, option_map}
 use Rattle.std.specs.Borrow.{Bor}
-use Rattle.ans_check.specs.Answer.{IsNamed}
+use Rattle.ans_check.specs.Said.{IsNamed}
 use Rattle.ans_check.proofs.answering.serve_one.Goals as goal
 
 pub returns-clause-ends : goal.returns-clause-ends

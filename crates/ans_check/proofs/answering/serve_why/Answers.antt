@@ -16,5 +16,5 @@ returns-clause-ends g c =
     let mapped = length-map c.args.names.now string_bytes in
     why_of_one g.I.Reader.Read.remaining g.W.Write.contents (g.I.Inputs.is_file c.args.inputs)
     (g.I.Inputs.is_standard c.args.inputs) (g.I.Inputs.fails c.args.inputs) (texts_of c.args.words.now)
-    (map string_bytes c.args.names.now) _ _ _ _ (omega (arith, c.if-names-gt1.false, mapped)) c.first_of.ensures
-    c.serve_one.ensures.ends
+    (map string_bytes c.args.names.now) _ _ _ _ (omega (arith, c.if-names-gt1.false, mapped)) c.first_of-name.ensures
+    (rw c.file_called.ensures at c.serve_one.ensures.ends)

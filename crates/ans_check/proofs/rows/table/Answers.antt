@@ -4,7 +4,7 @@ use Rattle.ans_model.specs.Text.Words.{texts_of}
 use Rattle.ans_table.specs.declared.counts.Counts.{Counts}
 use Rattle.ans_write.specs.Puts.{device_of}
 use Rattle.ans_check.specs.FileRows.{TellsNamed}
-use Rattle.ans_check.specs.Table.{TellsFinding, header}
+use Rattle.ans_check.specs.Table.{TellsRow, header}
 use Rattle.ans_check.proofs.RowsLemmas.{ends_err, rows_behind, text_cut_off}
 use Rattle.ans_check.proofs.rows.table.Goals as goal
 
@@ -20,7 +20,7 @@ returns-in_err-tell_header-clause-table g c =
     let table =
     text_cut_off g.W.Write.contents
     (TellsNamed g.I.Reader.Read.remaining (g.I.Inputs.is_file c.args.inputs) (g.I.Inputs.fails c.args.inputs)
-    (TellsFinding c.args.form)) (header c.args.form) (texts_of c.args.names.now) c.args.output.now c.args.output.now
+    (TellsRow c.args.choice.now)) (header c.args.choice.now.form c.args.choice.now.pictures) (texts_of c.args.names.now) c.args.output.now c.args.output.now
     (device_of c.tell_header.new.out) c.in_err-tell_header.field-0.0
     (rw c.new-out.ensures.unchanged at c.in_err-tell_header.ensures.written) in
     rw (at, same) (search (rules, table))
@@ -30,7 +30,7 @@ returns-clause-table g c =
     let table =
     rows_behind g.W.Write.contents
     (TellsNamed g.I.Reader.Read.remaining (g.I.Inputs.is_file c.args.inputs) (g.I.Inputs.fails c.args.inputs)
-    (TellsFinding c.args.form)) (header c.args.form) (texts_of c.args.names.now) c.args.output.now
+    (TellsRow c.args.choice.now)) (header c.args.choice.now.form c.args.choice.now.pictures) (texts_of c.args.names.now) c.args.output.now
     (device_of c.tell_header.new.out) (device_of c.tell_rows.new.out) c.tell_rows.result
     (rw c.new-out.ensures.unchanged at c.in_ok-tell_header.ensures.written) c.tell_rows.ensures.rows in
     search (rules, table)

@@ -12,7 +12,7 @@ returns-in_default g c = (
 )
 
 pub returns : goal.returns
-returns g c = subst (λ words. AnswersOnSystem g.W.Write.contents g.E.Write.contents words c.args.output.now
-    c.answer.new.output c.args.errors.now c.answer.new.errors c.status-2.result)
+returns g c = subst (λ words. AnswersOnSystem g.W.Write.contents g.E.Write.contents c.args.is_terminal words
+    c.args.output.now c.answer.new.output c.args.errors.now c.answer.new.errors c.status-2.result)
     (ap texts_of c.as_slice.ensures.value ∙ c.in-Ok.ensures)
-    (c.answer.result, inl c.answer.ensures.ends, c.status-2.ensures)
+    (c.answer.result, inl (c.new-disk.result, c.answer.new.disk, c.answer.ensures.ends), c.status-2.ensures)

@@ -1,4 +1,4 @@
-use Rattle.std.proofs.Common.{◌∙◌, ◌≡◌, List, Option, Some, None, ap, is_some, option_map, refl, sym}
+use Rattle.std.proofs.Common.{◌∙◌, ◌≡◌, Option, Some, None, ap, is_some, option_map, refl}
 use Rattle.clap.specs.Words.{found_of}
 use Rattle.clap.proofs.WalkLemmas.{first_value-rows}
 use Rattle.ans_options.proofs.command_line.is_given.Goals as goal

@@ -2,8 +2,8 @@ use Rattle.std.proofs.Common.{option_map}
 use Rattle.std.specs.Prelude.{string_bytes}
 use Rattle.ans_model.specs.Text.Words.{texts_of}
 use Rattle.ans_options.specs.CommandLine.{AreOptionsOf}
-use Rattle.ans_options.proofs.FlagLemmas.{flagless, mend_asked, no_cells, no_topic, one_asked, redraw_asked}
-use Rattle.ans_options.proofs.FlagLemmas.{table_asked, why_asked}
+use Rattle.ans_options.proofs.FlagLemmas.{flagless, mend_asked, mistaken_asked, no_cells, no_topic, one_asked}
+use Rattle.ans_options.proofs.FlagLemmas.{redraw_asked, table_asked, why_asked}
 use Rattle.ans_options.proofs.command_line.options.Goals as goal
 
 one : (c : goal.In-One) → AreOptionsOf (texts_of c.args.words.now) c.in-One.options
@@ -25,18 +25,24 @@ returns-in-Why-clause-ok c =
 
 pub returns-in-Table-clause-ok : goal.returns-in-Table-clause-ok
 returns-in-Table-clause-ok c =
-    rw c.of_table.ensures
+    rw c.plain.ensures
     (table_asked (texts_of c.args.words.now) c.in_ok-options.field-0 _ _ c.in_ok-options.ensures.ok c.in-Table.is)
 
 pub returns-in-Mend-clause-ok : goal.returns-in-Mend-clause-ok
 returns-in-Mend-clause-ok c =
-    rw c.of_mend.ensures
-    (mend_asked (texts_of c.args.words.now) c.in_ok-options.field-0 _ _ c.in_ok-options.ensures.ok c.in-Mend.is)
+    rw c.plain-in-Mend.ensures
+    (mend_asked (texts_of c.args.words.now) c.in_ok-options.field-0 _ _ _ c.in_ok-options.ensures.ok c.in-Mend.is)
 
 pub returns-in-Redraw-clause-ok : goal.returns-in-Redraw-clause-ok
 returns-in-Redraw-clause-ok c =
-    rw c.of_redraw.ensures
-    (redraw_asked (texts_of c.args.words.now) c.in_ok-options.field-0 _ c.in_ok-options.ensures.ok c.in-Redraw.is)
+    rw c.plain-in-Redraw.ensures
+    (redraw_asked (texts_of c.args.words.now) c.in_ok-options.field-0 _ _ c.in_ok-options.ensures.ok c.in-Redraw.is)
+
+pub returns-in-Mistaken-clause-ok : goal.returns-in-Mistaken-clause-ok
+returns-in-Mistaken-clause-ok c =
+    rw c.plain-in-Mistaken.ensures
+    (mistaken_asked (texts_of c.args.words.now) c.in_ok-options.field-0 _ _ c.in_ok-options.ensures.ok
+    c.in-Mistaken.is)
 
 pub unreachable-requires : goal.unreachable-requires
 unreachable-requires c =

@@ -16,7 +16,7 @@ plain_command Check = refl
 plain_command (Show form) = refl
 plain_command Sauce = refl
 plain_command Tokens = refl
-plain_command (Table form) = refl
+plain_command (Table choice) = refl
 plain_command (Mend choice) = refl
 plain_command Redraw = refl
 

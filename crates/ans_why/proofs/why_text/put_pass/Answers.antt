@@ -3,13 +3,12 @@ use Rattle.ans_sauce.specs.Parts.{content_of}
 use Rattle.ans_write.proofs.PutsLemmas.{Puts-same, Puts-then}
 use Rattle.ans_why.specs.HintsText.{pass_hints_text}
 use Rattle.ans_why.specs.OtherFiles.{known_file}
-use Rattle.ans_why.specs.WhyText.{font_of, is_fixed, known_line, verdict_words}
+use Rattle.ans_why.specs.WhyText.{font_of, known_line, verdict_words}
 use Rattle.ans_why.proofs.why_text.put_pass.Goals as goal
 
 pub returns : goal.returns
 returns g c =
     let verdict : c.verdict_words.result.now ≡ verdict_words c.args.pass.now.needs = search rules in
-    let fixed : c.is_fixed.result ≡ is_fixed c.args.pass.now.reliance = search rules in
     let font : c.font.result.now ≡ font_of c.args.parts.now = search rules in
     let known : c.known_file.result ≡ known_file (content_of c.args.parts.now) =
     c.known_file.ensures ∙ ap known_file c.content.ensures in
@@ -19,7 +18,6 @@ returns g c =
     (Puts-then c.put_reliance.ensures
     (Puts-then c.put_players.ensures
     (Puts-then c.put_taller_line.ensures
-    (Puts-then (rw fixed at c.put_fix_line.ensures)
     (Puts-then c.put_damage.ensures
     (Puts-then (Puts-same (ap₂ pass_hints_text c.hints_beside.ensures font) c.put_pass_hints.ensures)
-    (Puts-then (rw c.size.ensures at c.put_widths.ensures) c.put_remedy_line.ensures)))))))))
+    (rw c.size.ensures at c.put_widths.ensures))))))))

@@ -1,0 +1,2 @@
+pub mod NamedLines
+pub mod Outcomes
