@@ -280,8 +280,8 @@ static inline enum ans_answer ans_row(const uint8_t *file, size_t file_len, void
     return ans_row_on(file, file_len, split.rows, split.rows_len, split.bytes, split.bytes_len, row);
 }
 
-/* The text of `anscheck why`: where and why a file is refused, or what it relies on and how to fix it. The lines `fix:`
- * and `more:` of a refused file are not in it, since trying what fixes the file takes memory.
+/* The text of `anscheck why`: where and why a file is refused, or what it relies on. The commands are not in it, in the
+ * lines `fix:`, `everywhere:` and `more:`: ans_row says whether mending helps, and ans_mend and ans_redraw do it.
  * ANS_PASS, ANS_REFUSED: whether the file passes from the cleared start; `text` begins with the text, and `length`
  * says how many bytes it has. ANS_TOO_LONG, and `length` is 0. ANS_NO_ROOM: there is less scratch than ans_size says,
  * and `length` is 0; or `text` has fewer bytes than `length` then says. */

@@ -45,7 +45,7 @@ QUOTED = {0: "<00>", 9: "<TAB>", 10: "<LF>", 13: "<CR>", 27: "<ESC>", 32: "<SP>"
 # If a piece has no bytes, its start says nothing.
 NO_BYTES = re.compile(rb"^(bytes|comments|font|date|title|author|group) \d+ 0 $", re.MULTILINE)
 # The last lines of a refused file in a text of why, and the flags to try in what mending says, with its length.
-FIX = re.compile(rb"^(?:fix|more): .*\n", re.MULTILINE)
+FIX = re.compile(rb"^(?:fix|everywhere|more): .*\n", re.MULTILINE)
 FLAGS_TO_TRY = re.compile(rb"^(mended 1) \d+\n(.*\n)(?:try:|see anscheck why for the place,) .*\n", re.MULTILINE)
 TOO_LONG, LONGEST_FILE, LONGEST_QUOTE = 3, 16_777_216, 32
 STRICT = ["-O2", "-Wall", "-Wextra", "-Werror", "-pedantic", f"-I{HERE}"]
@@ -153,7 +153,7 @@ def blame_lines(data, row, why, told_length):
                            or place(low) != f"{row.get('row', 0)} {row.get('column', 0)}"):
         return f"why and the table differ: {fault}, {low}, {row}\n"
     return (f"fault {fault_of(fault)}\n{blamed(data, at, bytes_quoted, told_length)}low {place(low)}\n"
-            f"high {place(high)}\nknown {known_of(lines)}\nlines {least}\nmends {int('fix' in lines)}\n")
+            f"high {place(high)}\nknown {known_of(lines)}\nlines {least}\nmends {int('because' in lines and 'fix' in lines)}\n")
 
 
 def parts_lines(data, row):
@@ -180,14 +180,14 @@ def fields_lines(data, row):
 
 
 def without_fix(why):
-    """A text of why without the lines of a refused file that only the program has."""
-    return FIX.sub(b"", why) if b"verdict: refused\n" in why else why
+    """A text of why without the commands, which only the program has."""
+    return FIX.sub(b"", why)
 
 
 def row_lines(program, file, told_length):
     """What a caller has to say of a file's row, by what `table --json` and `why` say."""
     data, ran = Path(file).read_bytes(), run([program, "table", "--json", file])
-    row, why = json.loads(ran.stdout), without_fix(run([program, "why", file]).stdout).decode()
+    row, why = json.loads(ran.stdout), run([program, "why", file]).stdout.decode()
     head = f"row {int(row['verdict'] == 'refused')}\n"
     return "".join([head, passing_line(row), blame_lines(data, row, why, told_length), parts_lines(data, row),
                     fields_lines(data, row)]).encode()

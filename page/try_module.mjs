@@ -106,7 +106,7 @@ function saidByProgram(program, path) {
     const report = printed("check", ...flags, "--cells");
     said[nameOf("check", flags)] = report.split("\ncells:\n")[1] ?? report.split("verdict: refused\n")[1];
   }
-  const { file: _, ...members } = JSON.parse(printed("table", "--json"));
+  const { file: _, fix: __, ...members } = JSON.parse(printed("table", "--json"));
   said.row = rowText(members, toldLines(said.why));
   said.needs = /(?:needs: |at \d+: F).*\n$/.exec(printed("needs"))[0];
   for (const words of [...MENDS.map(([, flags]) => ["mend", ...flags]), ["redraw"]]) {

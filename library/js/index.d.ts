@@ -123,7 +123,7 @@ export interface Row {
   known: string | null;
   /** For F5 and F19 to F21 the smallest number of lines with which the file passes from the cleared start. */
   lines: number | null;
-  /** Whether it passes, relies on something, and `why` has the line `fix: anscheck mend`. */
+  /** Whether it passes, relies on something, and `mend` without flags makes it pass from every start. */
   mends: boolean;
   /** How many bytes the content has, if the record and the layout are accepted. */
   content: number | null;

@@ -89,8 +89,8 @@ class Checker {
   }
 
   /**
-   * What `anscheck why` prints about a file: where and why it is refused, or what it relies on and how to fix it. The
-   * lines `fix:` and `more:` of a refused file are left out.
+   * What `anscheck why` prints about a file: where and why it is refused, or what it relies on. The commands, in its
+   * lines `fix:`, `everywhere:` and `more:`, are left out: `row` says whether mending helps, and `mend` and `redraw` do it.
    *
    * @param {Uint8Array | ArrayBuffer} file
    * @returns {object} `{ verdict, text }`: "pass" or "refused" from the cleared start, and lines that each end in a

@@ -9,7 +9,7 @@ import tempfile
 
 RECORD, LINES, COMMENT_COUNT = 128, 98, 104
 FLAGS = 105
-FIX = re.compile(r"^(?:fix|more): .*\n", re.MULTILINE)
+FIX = re.compile(r"^(?:fix|everywhere|more): .*\n", re.MULTILINE)
 TRY = re.compile(r"^(?:try:|see anscheck why for the place,) .*\n", re.MULTILINE)
 
 
@@ -59,9 +59,9 @@ def made(program, command, path):
 
 
 def lines_of_why(program, path):
-    """What why says, without the last lines of a refused file, which only the program has."""
+    """What why says, without the commands, which only the program has."""
     text = said(program, ["why"], path)[0]
-    return FIX.sub("", text) if "verdict: refused\n" in text else text
+    return FIX.sub("", text)
 
 
 def without_flags(changes):

@@ -269,7 +269,7 @@ test("rows say what the program's table and why say", without, () => {
   for (const { name } of drawings()) {
     const path = fileURLToPath(new URL(`files/${name}.ans`, CORPUS));
     const row = checker.row(readFileSync(path));
-    const { file, ...told } = JSON.parse(spawnSync(PROGRAM, ["table", "--json", path], { encoding: "utf8" }).stdout);
+    const { file, fix, ...told } = JSON.parse(spawnSync(PROGRAM, ["table", "--json", path], { encoding: "utf8" }).stdout);
     assert.deepEqual(jsonRow(row), told, name);
     const { stdout } = spawnSync(PROGRAM, ["why", path], { encoding: "utf8" });
     assert.deepEqual(whyLines(row).sort(), toldLines(stdout).sort(), name);

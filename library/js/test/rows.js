@@ -3,7 +3,7 @@
 /** The members that are there. */
 const present = (members) => Object.fromEntries(Object.entries(members).filter(([, value]) => value !== null));
 
-/** A row as `anscheck table --json` writes it, without the file's name. */
+/** A row as `anscheck table --json` writes it, without the name of the file and what fixes it. */
 function jsonRow({ verdict, needs, players, needsOnAllPlayers, tallerScreens, fault, low, content, comments, notes,
   record }) {
   const { width, lines, ice, spacing, aspect, font, date, title, author, group } = record ?? {};
@@ -46,14 +46,14 @@ function faultLines({ verdict, fault, low, high }) {
 
 /** The lines of `why` that a row has in numbers and words. */
 function whyLines(row) {
-  const { verdict, known, lines, mends } = row;
+  const { verdict, known, lines } = row;
   return [
     `verdict: ${VERDICTS[verdict]}`, ...passingLines(row), ...faultLines(row), ...(known ? [`is: ${known}`] : []),
-    ...(mends ? ["fix: anscheck mend"] : []), ...(lines ? [`lines: ${lines}`] : []),
+    ...(lines ? [`lines: ${lines}`] : []),
   ];
 }
 
-const NAMES = "verdict|needs|players|needs on all players|taller screens|fault|because|is|fix|lines";
+const NAMES = "verdict|needs|players|needs on all players|taller screens|fault|because|is|lines";
 const KEPT = new RegExp(`^(?:${NAMES}): |^(?:cursor|from the (?:top left|bottom right)): row `);
 
 /**
@@ -65,8 +65,8 @@ const withoutMore = (line) => line.replace(/^(lines: \d+), but the rows look bro
 
 const isRefused = (text) => text.includes("verdict: refused\n");
 
-/** A text of `why` without the last lines of a refused file: only the program has them, as it tries what mends it. */
-const withoutFix = (text) => (isRefused(text) ? text.replace(/^(?:fix|more): .*\n/gm, "") : text);
+/** A text of `why` without the commands: only the program has them, since they name the file. */
+const withoutFix = (text) => text.replace(/^(?:fix|everywhere|more): .*\n/gm, "");
 
 /** What mending says without the flags to try: only the program leaves out those that are no help. */
 const withoutFlags = (text) => text.replace(/^(?:try:|see anscheck why for the place,) .*\n/gm, "");
