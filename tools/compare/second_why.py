@@ -702,8 +702,7 @@ def pass_lines(chance, content, width, lines, needs, picture):
     known = [part for part in PARTS if part in needs.split()]
     said = ["verdict: pass on a cleared screen" if known else "verdict: pass"] + is_line(known_file(content)) + [needs]
     said += reliance_lines(chance, content, width, lines) if known else []
-    said += taller_lines(chance, content, width, lines, known, picture)
-    return said + ([fix_line(chance, content, width, lines, picture)] if known else [])
+    return said + taller_lines(chance, content, width, lines, known, picture)
 
 
 def refusal_lines(chance, content, width, lines, record):
@@ -760,6 +759,7 @@ def why(chance, file):
     hints = Hints(content, len(content), width, lines)
     said += hints.lines(record, True, passes=True)
     said += width_lines(content, width, lines, hints, pens.least_lines) if hints.empty > 0 or width < 40 else []
+    said += [fix_line(chance, content, width, lines, picture)] if needs != "needs: nothing" else []
     return heading + said, 0
 
 

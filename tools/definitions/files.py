@@ -44,7 +44,7 @@ GROUPS = [
         ans_model/Text/Characters ans_model/Text/Hexadecimal ans_model/Text/FaultText ans_model/Text/Words
         ans_model/Text/ReportText ans_report/Message ans_report/RecordReports ans_write/Tried ans_write/Writes
         ans_options/CommandLine ans_check/CommandText ans_check/Run ans_check/Served ans_check/Naming
-        ans_check/Ending ans_check/Answer""".split()),
+        ans_check/Ending ans_check/Said ans_check/Answer""".split()),
     Group("`needs`", """
         ans_model/Verdict/Needs ans_sauce/Split ans_sauce/Judged ans_verdict/StartParts ans_verdict/FileNeeds
         ans_model/Text/NeedsText""".split()),
@@ -61,10 +61,12 @@ GROUPS = [
         ans_forms/Pieces ans_sauce/Grown ans_sauce/Found ans_sauce/WithoutLines ans_why/Blamed ans_why/TerminalLetters
         ans_why/Known ans_why/OtherFiles ans_why/TextDamage ans_why/Explained ans_report/Counted ans_report/Quoted
         ans_report/FaultTold ans_why/Fonts ans_why/HintRows ans_why/HintsText ans_why/WidthsText ans_why/PlayersText
-        ans_why/WhyText ans_fix/FlagsText ans_fix/Suggested ans_check/WhyTold ans_check/WhyRows""".split()),
+        ans_why/WhyText ans_fix/FlagsText ans_fix/Suggested ans_save/Names ans_table/ShellWord ans_check/LastWords
+        ans_check/WhyTold ans_check/WhyRows""".split()),
     Group("`table`", """
         ans_table/Unopened ans_table/Findings ans_table/Labels ans_table/NameText ans_table/Columns ans_table/JsonRow
-        ans_table/RowText ans_table/Counting ans_check/Listing ans_check/FileRows ans_check/Table""".split()),
+        ans_table/RowText ans_table/Counting ans_sums/Summing ans_sums/Sums ans_check/Listing ans_check/FileRows
+        ans_check/Further ans_check/Table""".split()),
     Group("`mend`", """
         ans_model/MendFlags ans_mend/Drafts ans_sauce/Fields ans_mend/Tail ans_mend/Recounted ans_mend/EndMark
         ans_sauce/Contents ans_mend/OlderRecord ans_mend/LineEnds ans_mend/NewRecord ans_mend/Columns
@@ -74,6 +76,9 @@ GROUPS = [
     Group("`redraw`", """
         ans_redraw/Colours ans_redraw/Form ans_redraw/RedrawnFile ans_redraw/Redrawing
         ans_redraw/RedrawnText""".split()),
+    Group("files that are written", """
+        ans_options/Mistakes ans_save/Deeds ans_save/Reasons ans_save/Places ans_save/Replacing ans_save/Saving
+        ans_written/Outcomes ans_written/NamedLines ans_check/Fates""".split()),
     Group("the program on files and streams", ["ans_check/SystemInput"]),
     Group("the library", """
         ans_c/Numbers ans_c/Row ans_c/Told ans_screen/GridEdits ans_screen/LentRows ans_verdict/LentScreen
@@ -87,7 +92,7 @@ ONE_WORD = {
     ("ans_hints/Rows", "ans_pens/Pens"), ("ans_hints/FullRowEnds", "ans_pens/Pens"),
     ("ans_verdict/FileNeeds", "ans_report/NeedsBytes"), ("ans_table/Labels", "ans_report/Words"),
     ("ans_redraw/Form", "ans_players/Mends"), ("ans_screen/GridEdits", "ans_screen/HalfCells"),
-    ("ans_screen/GridEdits", "ans_screen/KnownBits"),
+    ("ans_screen/GridEdits", "ans_screen/KnownBits"), ("ans_check/Fates", "ans_write/Puts"),
 }
 # What is said in other words than those of the file's comment.
 TEXTS = {

@@ -12,6 +12,7 @@ are with what the gate is to print. Then it tries what only a system
 has: a folder as FILE, a full device, an output that is closed, and a word that is not text. It is outside the gate.
 """
 import os
+import pathlib
 import subprocess
 import sys
 import tempfile
@@ -50,6 +51,7 @@ def in_a_folder_with(files, run):
     with tempfile.TemporaryDirectory() as room:
         os.chdir(room)
         for name, file in files.items():
+            os.makedirs(os.path.dirname(name) or ".", exist_ok=True)
             with open(name, "wb") as f:
                 f.write(file_bytes(file))
         found = run()
@@ -57,9 +59,20 @@ def in_a_folder_with(files, run):
     return found
 
 
+def files_here():
+    """The files of this folder and those below it, each with its bytes."""
+    paths = [os.path.relpath(os.path.join(folder, name)) for folder, _, names in os.walk(".") for name in names]
+    return {path: pathlib.Path(path).read_bytes() for path in paths}
+
+
 def is_real(table, row):
-    """Whether no file of a row fails to be read."""
+    """Whether each file of a row can be read, and whether the system does what the rows' disk in memory does: it has no
+    terminal here, files that root may not write, or a folder that is full."""
     words = [word for one in words_of(table, row) for word in one]
+    if row.get("terminal") or any(word.startswith(("locked", "full")) for word in words):
+        return False
+    if any("-i" in one and len(set(one)) < len(one) for one in words_of(table, row)):
+        return False  # a file that is read again after it was written has its old bytes in memory
     named = [file for name, file in table.get("files", {}).items() if name in words or name in str(row.get("input"))]
     return not any(file.get("torn") for file in named + [input_of(row)])
 
@@ -80,17 +93,30 @@ def is_as_expected(row, came):
     return prints and says and printed.endswith(row.get("prints_last", "").encode()) and status == row.get("status", 0)
 
 
-def try_row(program, table, row):
-    """What comes of the words of a row that come out otherwise."""
-    file = file_bytes(input_of(row))
-    came = [(words, came_of(program, words, input=file)) for words in words_of(table, row)]
-    return [(words, what) for words, what in came if not is_as_expected(row, what)]
+def try_words(program, words, row):
+    """What comes of these words, if it is not what the row has: the status and the streams, or the files."""
+    left = files_here() | {name: file_bytes(file) for name, file in row.get("leaves", {}).items()}
+    came = came_of(program, words, input=file_bytes(input_of(row)))
+    if not is_as_expected(row, came):
+        return came
+    now = files_here()
+    return None if now == left else {name: now.get(name) for name in now.keys() | left if now.get(name) != left.get(name)}
+
+
+def try_rows(program, table, rows):
+    """The words of rows that come out otherwise, and what comes of them. Those that write files have a new folder each."""
+    files = table.get("files", {})
+    if not any("leaves" in row for row in rows):
+        tried = in_a_folder_with(files, lambda: [(w, try_words(program, w, row)) for row in rows for w in words_of(table, row)])
+    else:
+        tried = [(w, in_a_folder_with(files, lambda: try_words(program, w, row))) for row in rows for w in words_of(table, row)]
+    return [(words, came) for words, came in tried if came is not None]
 
 
 def try_table(program, name, table):
     """How many rows were tried, and how many came out otherwise."""
     rows = [row for row in table["row"] if is_real(table, row)]
-    wrong = in_a_folder_with(table.get("files", {}), lambda: [w for row in rows for w in try_row(program, table, row)])
+    wrong = try_rows(program, table, rows)
     for words, came in wrong:
         print(f"{name}: {words}\n  got {str(came)[:2000]}")
     return len(rows), len(wrong)
