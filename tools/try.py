@@ -74,7 +74,7 @@ ROWS = [
     Row("run_all", "the rows of anscheck_rows and what only a system has", "tools/runs/run_all.py {program}", 0.1, 0.1),
     Row("try_pages", "the examples and commands of README and docs", "tools/runs/try_pages.py {program}", 0.1, 0.1),
     Row("made_drawings", "why, on mistakes that artists make", "tools/runs/made_drawings.py {program}", 0.1, 0.1),
-    Row("spoiled_drawings", "why and mend, on drawings spoiled in seventy ways",
+    Row("spoiled_drawings", "why and mend, on drawings spoiled in 71 ways",
         "tools/runs/spoiled_drawings.py {program} 1 {count}", 4, 0.4, (210, 2000)),
     Row("definition_files", "whether DEFINITIONS.md lists the files and README counts them",
         "tools/definitions/files.py --check", 0.1, 0.1),
