@@ -158,7 +158,15 @@ fn errors_that_take_nothing_change_no_ending(rt: HostRuntime) -> Result<(), Allo
     let mut errors = Tried::new(FailingOnce::new(Narrow::new(100), 1, Failure::Nothing));
     let shelf = Shelf::new(&[], Stored::Bytes(b""));
     let words = ["anscheck", "tokens", "ho.ans"];
-    let ending = answer(rt.alloc(), &words, shelf, &mut NoDisk, false, &mut output, &mut errors);
+    let ending = answer(
+        rt.alloc(),
+        &words,
+        shelf,
+        &mut NoDisk,
+        false,
+        &mut output,
+        &mut errors,
+    );
     assert!(rt; errors.failed());
     if ending == Ending::UnreadableWords {
         return Err(AllocError);

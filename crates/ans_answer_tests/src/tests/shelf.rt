@@ -178,7 +178,15 @@ pub(super) fn answer_on<W: Write + Drop>(
         memory_ran_out: false,
     });
     let mut errors = Tried::new(Narrow::new(error_room));
-    let ending = answer(rt.alloc(), words, shelf, &mut NoDisk, false, &mut output, &mut errors);
+    let ending = answer(
+        rt.alloc(),
+        words,
+        shelf,
+        &mut NoDisk,
+        false,
+        &mut output,
+        &mut errors,
+    );
     if ending == Ending::UnreadableWords || ending == Ending::Run(Err(RunError::Memory)) {
         assert!(rt; output.calls() == 0 || words.contains(&"table"));
         return Err(AllocError);
