@@ -147,7 +147,8 @@ pub why_of_one : {R W : Type 0} (remaining : R → Option (List ℕ)) (contents 
     (is_file : Text → R → Type 0) (is_standard : R → Type 0) (fails : Text → ErrorKind → Type 0)
     (words names : List Text) (first : Option Text) (output after : Tried W) (ending : Ending)
     → length names ≤ 1 → first ≡ first_called names
-    → EndsServed remaining contents is_file is_standard fails (ReportsTold (file_called first)) Run first output after ending
+    → EndsServed remaining contents is_file is_standard fails (ReportsTold (file_called first)) Run first output after
+    ending
     → EndsWhy remaining contents is_file is_standard fails words names output after ending
 why_of_one remaining contents is_file is_standard fails words [] first output after ending few is h = rw is at h
 why_of_one remaining contents is_file is_standard fails words (name ∷ []) first output after ending few is h =

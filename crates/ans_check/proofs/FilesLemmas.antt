@@ -227,7 +227,8 @@ named_none (name ∷ names) none = absurd (omega arith)
 -- ---- the end of all files
 module _ {D E : Type 0} (sees : D → Name → Option Found → Type 0) (looks_fail : D → Name → ErrorKind → Type 0)
     (told : E → Option (List ℕ)) (became : Text → D → D → Saves → Saves → Fate → Type 0) (goal : Goal)
-    (names : List Text) (old new : D) (errors errors_after : Tried E) (a b c d : Outbox E) {T F G : Type 0} (finished : Result T F)
+    (names : List Text) (old new : D) (errors errors_after : Tried E) (a b c d : Outbox E) {T F G : Type 0}
+    (finished : Result T F)
     (ending : Ending) (device : device_of a ≡ errors) (empty : waiting_of a ≡ [])
     (puts : Puts told b c (all_said unnamed ending)) (handed : HandsOn told c d [])
     (failed : IsErr finished ↔ IsTrue (device_failed d)) (done : OnOk finished (waiting_of d ≡ []))
@@ -248,7 +249,8 @@ module _ {D E : Type 0} (sees : D → Name → Option Found → Type 0) (looks_f
     each = filed.each;
     ends = is ∙ ap ends.Filed filed.counted;
     says = subst
-        (λ (e : Tried E). Tells told errors e (flat_map (λ file. file.text) filed.files ++ all_said unnamed ending)) same
+        (λ (e : Tried E). Tells told errors e (flat_map (λ file. file.text) filed.files ++ all_said unnamed ending))
+        same
         (tells_handed errors finished device empty (HandsOn-then filed.handed (HandsOn-put puts handed)) failed done);
   })
   filed_named (Err e) is none (untouched, still) =

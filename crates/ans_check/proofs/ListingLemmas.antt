@@ -392,10 +392,12 @@ module _ {W : Type 0} (contents : W → Option (List ℕ)) (tells : Text → Out
         → WritesRows contents tells [] (names_in false (held_of listing ++ (more ++ next))) between after (Err e))
         → WritesRows contents tells [] (names_in false (bytes ++ more)) output after (Err e)
     ends_all more after e w =
-        subst (λ (v : List ℕ). WritesRows contents tells [] (names_in false (v ++ (bytes ++ more))) output after (Err e))
+        subst
+        (λ (v : List ℕ). WritesRows contents tells [] (names_in false (v ++ (bytes ++ more))) output after (Err e))
         h.held
         (ends_then h.start listing bytes output between h.takes more after e
-        (subst (λ (v : List ℕ). WritesRows contents tells [] (names_in false (held_of listing ++ v)) between after (Err e))
+        (subst
+        (λ (v : List ℕ). WritesRows contents tells [] (names_in false (held_of listing ++ v)) between after (Err e))
         (append-nil more) (w [])))
 
     -- the last name was not ended

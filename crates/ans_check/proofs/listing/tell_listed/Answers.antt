@@ -4,7 +4,8 @@ use Rattle.std.proofs.lemmas.Result.{err_from_is_err_and}
 use Rattle.ans_write.specs.Puts.{device_of}
 use Rattle.ans_write.specs.Tried.{has_failed}
 use Rattle.ans_check.specs.declared.errors.RunError.TheVariants as error
-use Rattle.ans_check.proofs.ListingLemmas.{all_last, all_taken, ends_all, ends_last, ends_nothing, none_more, none_taken}
+use Rattle.ans_check.proofs.ListingLemmas.{all_last, all_taken, ends_all, ends_last, ends_nothing, none_more}
+use Rattle.ans_check.proofs.ListingLemmas.{none_taken}
 use Rattle.ans_check.proofs.ListingLemmas.{still_works, taken_more}
 use Rattle.ans_check.proofs.listing.tell_listed.Goals as goal
 
@@ -35,7 +36,8 @@ returns-in_err-tell_last-in-Ok-eq0-clause-listed g c =
         c.in-Ok-eq0.ensures.bytes.1 c.in-Ok-eq0.field-0-test (omega (arith, c.read_some.auto.buf)),
       );
       rows = ends_last _ _ so_far.0 c.loop.listing c.loop.listing (device_of c.args.out.now) (device_of c.loop.out)
-          (device_of c.tell_last.new.out) so_far.2 c.in_err-tell_last-in-Ok-eq0.field-0.0 c.in_err-tell_last-in-Ok-eq0.ensures.takes;
+          (device_of c.tell_last.new.out) so_far.2 c.in_err-tell_last-in-Ok-eq0.field-0.0
+          c.in_err-tell_last-in-Ok-eq0.ensures.takes;
       told = tt;
     })
 

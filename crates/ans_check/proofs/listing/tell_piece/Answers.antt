@@ -1,7 +1,8 @@
 use Rattle.std.proofs.Common.{◌∙◌, ◌++◌, ◌∷◌, [], Err, refl}
 use Rattle.std.proofs.lemmas.Result.{err_from_is_err_and}
 use Rattle.ans_write.specs.Puts.{device_of}
-use Rattle.ans_check.proofs.ListingLemmas.{ends_before_bytes, ends_held, ends_of_memory, held_or_ends, held_sound, name_cut}
+use Rattle.ans_check.proofs.ListingLemmas.{ends_before_bytes, ends_held, ends_of_memory, held_or_ends, held_sound}
+use Rattle.ans_check.proofs.ListingLemmas.{name_cut}
 use Rattle.ans_check.proofs.ListingLemmas.{name_ends, name_shorter, name_taken, piece_or_ends, takes_nothing}
 use Rattle.ans_check.proofs.RowsLemmas.{ends_err}
 use Rattle.ans_check.proofs.listing.tell_piece.Goals as goal
